@@ -1,0 +1,4 @@
+pub mod CopyLemmas
+pub mod PartsLemmas
+pub mod RisingLemmas
+pub mod TypeSetLemmas

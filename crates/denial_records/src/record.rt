@@ -1,0 +1,26 @@
+ghost use Rattle.std.specs.Prelude.{◌≡◌, IfOk};
+
+use crate::{Nsec3Rec, NsecRec, SetRec};
+use dname::OutOfMemory;
+use std::alloc::Global;
+
+/// What a cache keeps of a validated answer: an RRset, or a record that denies names or types.
+#[derive(Debug, Drop)]
+pub enum Record {
+    Set(SetRec),
+    Nsec(NsecRec),
+    Nsec3(Nsec3Rec),
+}
+
+impl Record {
+    /// An equal record.
+    pub fn copy(&self, alloc: Global) -> Result<Record, OutOfMemory>
+        ensures { IfOk result (λ copy. copy ≡ self.now) }
+    {
+        match self {
+            Record::Set(set) => Ok(Record::Set(set.copy(alloc)?)),
+            Record::Nsec(nsec) => Ok(Record::Nsec(nsec.copy(alloc)?)),
+            Record::Nsec3(nsec3) => Ok(Record::Nsec3(nsec3.copy(alloc)?)),
+        }
+    }
+}

@@ -1,0 +1,4 @@
+pub mod CommonLemmas
+pub mod OrderLemmas
+pub mod ReadLemmas
+pub mod WireLemmas

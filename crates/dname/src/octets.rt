@@ -1,0 +1,36 @@
+ghost use Rattle.std.specs.Prelude.{◌≡◌, ℕ, List, IfOk};
+
+use std::alloc::{AllocError, Global};
+use std::marker::Model;
+
+/// The one fault of a call that takes memory: there is none left.
+pub type OutOfMemory = AllocError;
+
+/// Octets of a message, such as a record's data, seen as their list.
+#[derive(Debug, Drop)]
+pub struct Octets {
+    octets: Vec<u8>,
+}
+
+impl Model for Octets {
+    ghost Value = { List ℕ };
+
+    ghost view = { λ o. o.octets.items };
+}
+
+impl Octets {
+    /// A copy of the piece.
+    pub fn of(alloc: Global, piece: &[u8]) -> Result<Octets, OutOfMemory>
+        ensures { IfOk result (λ octets. octets ≡ piece.now) }
+    {
+        Ok(Octets {
+            octets: Vec::from_slice(alloc, piece)?,
+        })
+    }
+
+    pub fn as_slice(&self) -> &[u8]
+        ensures { result.now ≡ self.now }
+    {
+        self.octets.as_slice()
+    }
+}

@@ -1,0 +1,2 @@
+pub mod Base32Hex
+pub mod IteratedHash

@@ -1,0 +1,8 @@
+//! Hashed owner names (RFC 5155): the iterated hash of a name, and hashes as base32hex text.
+#![tactic(auto)]
+
+mod base32hex;
+mod iterated_hash;
+
+pub use base32hex::{from_base32hex, order_law, to_base32hex};
+pub use iterated_hash::hash_name;
