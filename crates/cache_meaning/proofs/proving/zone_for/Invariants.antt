@@ -1,0 +1,11 @@
+use Rattle.std.proofs.Common.{◌≡◌, length}
+use Rattle.std.specs.List.{find, list_any}
+use Rattle.cache_meaning.specs.Held.{same_name, zone_of}
+use Rattle.cache_meaning.specs.Proof.{self_and_above, zone_for}
+use Rattle.cache_meaning.proofs.proving.zone_for.Given as goal
+
+abbrev pub invariant-loop-zone : goal.invariant-loop-zone
+invariant-loop-zone l = zone_for l.held l.name l.qtype ≡ find (λ zone. list_any (λ item. same_name (zone_of item) zone) l.held) (self_and_above l.zone)
+
+abbrev pub decreases-loop-zone : goal.decreases-loop-zone
+decreases-loop-zone l = length l.zone

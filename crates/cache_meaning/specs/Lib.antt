@@ -1,0 +1,4 @@
+pub mod Arc
+pub mod Held
+pub mod Outcome
+pub mod Proof

@@ -1,0 +1,5 @@
+pub mod Outputs
+pub mod Replay
+pub mod Run
+pub mod Status
+pub mod Words

@@ -1,0 +1,47 @@
+ghost use Rattle.std.specs.Prelude.{◌≡◌};
+ghost use Rattle.dnsreplay.specs.Status.{status_number};
+
+/// How a run ended.
+#[derive(Clone, Copy, Debug, PartialEq, Eq)]
+pub enum Status {
+    Good,
+    /// The words aren't a command.
+    Usage,
+    /// The source failed.
+    ReadFault,
+    /// The sink failed.
+    WriteFault,
+    OutOfMemory,
+    /// The input asks for what isn't built yet.
+    NotBuilt,
+}
+
+impl Status {
+    /// The exit status of the program.
+    pub fn number(self) -> u8
+        ensures { result ≡ status_number self }
+    {
+        match self {
+            Status::Good => 0,
+            Status::Usage => 2,
+            Status::ReadFault => 3,
+            Status::WriteFault => 5,
+            Status::OutOfMemory => 6,
+            Status::NotBuilt => 9,
+        }
+    }
+
+    /// What the program says of it, without its name before.
+    pub fn line(self) -> Option<&'static str> {
+        match self {
+            Status::Good => None,
+            Status::Usage => Some(
+                "usage: replay --workers N; selfrun --seed S --names M --queries Q; serve --listen P --upstream U --workers N --datagrams D",
+            ),
+            Status::ReadFault => Some("read fault"),
+            Status::WriteFault => Some("write fault"),
+            Status::OutOfMemory => Some("out of memory"),
+            Status::NotBuilt => Some("not built"),
+        }
+    }
+}

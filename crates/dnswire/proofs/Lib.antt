@@ -1,0 +1,4 @@
+pub mod QuestionLemmas
+pub mod LayoutLemmas
+pub mod RecordLemmas
+pub mod AnswerLemmas

@@ -1,0 +1,5 @@
+pub mod Question
+pub mod PlainQuery
+pub mod Layout
+pub mod Record
+pub mod PlainAnswer

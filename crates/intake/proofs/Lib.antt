@@ -1,0 +1,5 @@
+pub mod ResultLemmas
+pub mod SignatureLemmas
+pub mod SoaLemmas
+pub mod NsecLemmas
+pub mod PlainLemmas

@@ -1,0 +1,3 @@
+pub mod Group
+pub mod Plain
+pub mod Signature

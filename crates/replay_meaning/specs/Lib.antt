@@ -1,0 +1,4 @@
+pub mod Fits
+pub mod Frame
+pub mod OutFrame
+pub mod Outcome

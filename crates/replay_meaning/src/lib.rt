@@ -1,0 +1,8 @@
+//! What a replay means: the frames of its input and output, and which outputs fit an input.
+#![tactic(auto)]
+
+mod frame;
+mod out_frame;
+
+pub use frame::{Frame, FrameKind, MAX_MESSAGE, one_spelling, read_frame};
+pub use out_frame::{OutFrame, OutKind};

@@ -1,0 +1,4 @@
+pub mod CountLemmas
+pub mod PageLemmas
+pub mod RecordLemmas
+pub mod ReplyLemmas

@@ -1,0 +1,61 @@
+-- A reply is whole within the limit, and else cut.
+use Rattle.std.proofs.Common.{◌≡◌, ℕ, ◌≤◌, Bool, true, false, List, ◌++◌, length, Some, None, is_none, inl, inr, refl, ◌∙◌, ap}
+use Rattle.std.specs.Prelude.{nat_le, if◌then◌else◌}
+use Rattle.std.specs.List.{flat_map}
+use Rattle.std.proofs.lemmas.Bool.Decides.{leb_tells}
+use Rattle.byteorder.specs.Endian.{big_bytes}
+use Rattle.denial_records.specs.declared.verdict.Kind.{Kind}
+use Rattle.dnswire.specs.declared.question.Question.{Question}
+use Rattle.reply_core.specs.Count.{count16}
+use Rattle.reply_core.specs.Page.{Sheet, within, put, blank}
+use Rattle.reply_core.specs.Reply.{ReplyRecord, record_octets, header_octets, flags_of, opt_count}
+use Rattle.reply_core.proofs.PageLemmas.{put-put, put-blank, fits}
+use Rattle.reply_core.proofs.RecordLemmas.{put-records}
+use Rattle.reply_core.proofs.CountLemmas.{big_bytes-low16}
+
+pub written-whole : (limit : ℕ) (whole cut : List ℕ) (sheet : Sheet) → sheet ≡ put (blank limit) whole → is_none sheet.written ≡ false → sheet.written ≡ Some (if nat_le (length whole) limit then whole else cut)
+written-whole limit whole cut sheet is some =
+    let held : sheet.written ≡ within limit whole = ap (λ s. s.written) (is ∙ put-blank limit whole) in
+    elim (leb_tells (length whole) limit) [
+      | inl whole_fits ↦ held ∙ (rw whole_fits.0 refl)
+      | inr too_long ↦ let lost : sheet.written ≡ None = held ∙ (rw too_long.0 refl) in let bad = rw lost at some in cc
+    ]
+
+pub written-cut : (limit : ℕ) (whole cut : List ℕ) (tried sheet : Sheet) → tried ≡ put (blank limit) whole → is_none tried.written ≡ true → sheet ≡ put (blank limit) cut → length cut ≤ limit → sheet.written ≡ Some (if nat_le (length whole) limit then whole else cut)
+written-cut limit whole cut tried sheet was none is small =
+    let held : sheet.written ≡ within limit cut = ap (λ s. s.written) (is ∙ put-blank limit cut) in
+    let lost : tried.written ≡ within limit whole = ap (λ s. s.written) (was ∙ put-blank limit whole) in
+    elim (leb_tells (length whole) limit) [
+      | inl whole_fits ↦ let kept : tried.written ≡ Some whole = lost ∙ (rw whole_fits.0 refl) in let bad = rw kept at none in cc
+      | inr too_long ↦ held ∙ fits limit cut small ∙ (rw too_long.0 refl)
+    ]
+
+-- what was not beyond the limit is within it
+pub whole-within : (limit : ℕ) (whole cut : List ℕ) (sheet : Sheet) → sheet ≡ put (blank limit) whole → is_none sheet.written ≡ false → length (if nat_le (length whole) limit then whole else cut) ≤ limit
+whole-within limit whole cut sheet is some =
+    let held : sheet.written ≡ within limit whole = ap (λ s. s.written) (is ∙ put-blank limit whole) in
+    elim (leb_tells (length whole) limit) [
+      | inl whole_fits ↦ rw whole_fits.0 whole_fits.1
+      | inr too_long ↦ let lost : sheet.written ≡ None = held ∙ (rw too_long.0 refl) in let bad = rw lost at some in cc
+    ]
+
+pub either-within : (limit : ℕ) (whole cut : List ℕ) → length cut ≤ limit → length (if nat_le (length whole) limit then whole else cut) ≤ limit
+either-within limit whole cut small =
+    elim (leb_tells (length whole) limit) [ inl whole_fits ↦ rw whole_fits.0 whole_fits.1 | inr too_long ↦ rw too_long.0 small ]
+
+-- a header with these octets as numbers of records
+abbrev header_with : Question → Kind → Bool → List ℕ → List ℕ → List ℕ
+header_with question kind cut answers authorities =
+    big_bytes 2 question.id ++ big_bytes 2 (flags_of question kind cut) ++ big_bytes 2 1 ++ answers ++ authorities ++ big_bytes 2 (opt_count question.edns)
+
+-- a header has the numbers of records by their low 16 bits
+pub header-counts : {T : Type 0} (question : Question) (kind : Kind) (cut : Bool) (answers authorities : List T) → header_octets question kind cut (count16 answers) (count16 authorities) ≡ header_octets question kind cut (length answers) (length authorities)
+header-counts question kind cut answers authorities =
+    ap (λ n. header_with question kind cut n (big_bytes 2 (count16 authorities))) (big_bytes-low16 (length answers))
+    ∙ ap (header_with question kind cut (big_bytes 2 (length answers))) (big_bytes-low16 (length authorities))
+
+pub put-parts : (ttl : ℕ) (sheet : Sheet) (head asked opt : List ℕ) (answers authorities : List ReplyRecord)
+    → put (put (put (put (put sheet head) asked) (flat_map (record_octets ttl) answers)) (flat_map (record_octets ttl) authorities)) opt
+    ≡ put sheet (head ++ asked ++ flat_map (record_octets ttl) (answers ++ authorities) ++ opt)
+put-parts ttl sheet head asked opt answers authorities =
+    rw (put-records ttl (put (put sheet head) asked) answers authorities) (simp put-put)

@@ -1,0 +1,18 @@
+use Rattle.std.proofs.Common.{false, ◌++◌, ◌∙◌, ap}
+use Rattle.std.specs.List.{flat_map}
+use Rattle.reply_core.specs.Count.{count16}
+use Rattle.reply_core.specs.Page.{put}
+use Rattle.reply_core.specs.Reply.{record_octets, header_octets, answer_records, authority_records, opt_octets}
+use Rattle.reply_core.specs.View.{view_of}
+use Rattle.reply_core.proofs.ReplyLemmas.{header-counts, put-parts}
+use Rattle.reply_core.proofs.reply.put_whole.Goals as goal
+
+pub returns : goal.returns
+returns c =
+    let question = c.args.question.now in
+    let finding = view_of c.args.verdict.now in
+    let answers = answer_records question finding in
+    let authorities = authority_records question finding in
+    rw (c.put_opt.ensures, c.put_authorities.ensures, c.put_answers.ensures, c.put_question.ensures.value, c.put_header.ensures, c.count_answers-answers.ensures, c.count_authorities-authorities.ensures)
+    (put-parts finding.ttl c.args.page.now (header_octets question finding.kind false (count16 answers) (count16 authorities)) question.asked.items (opt_octets question.edns) answers authorities
+    ∙ ap (λ head. put c.args.page.now (head ++ question.asked.items ++ flat_map (record_octets finding.ttl) (answers ++ authorities) ++ opt_octets question.edns)) (header-counts question finding.kind false answers authorities))

@@ -1,0 +1,5 @@
+pub mod Count
+pub mod Owner
+pub mod Page
+pub mod Reply
+pub mod View

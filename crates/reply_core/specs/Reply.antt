@@ -1,0 +1,118 @@
+-- The octets of a reply, in the order of RFC 1035, section 4.1. Numbers are big-endian.
+use Rattle.std.specs.Prelude.{ℕ, ◌+◌, Bool, true, false, ◌||◌, if◌then◌else◌, nat_le, min, max, List, [], ◌++◌, length, map, Option, Some, None}
+use Rattle.std.specs.List.{flat_map}
+use Rattle.byteorder.specs.Endian.{big_bytes}
+use Rattle.dname.specs.Name.{Label, wire_of}
+use Rattle.dnswire.specs.declared.edns.Edns.{Edns}
+use Rattle.dnswire.specs.declared.question.Question.{Question}
+use Rattle.denial_records.specs.declared.verdict.Kind.{Kind}
+use Rattle.denial_records.specs.declared.verdict.Kind.TheVariants.{Answer, NoData, NxDomain}
+use Rattle.reply_core.specs.View.{SignedSet, Finding, rrsig_type}
+
+-- DO, which the query's OPT record has (RFC 3225, section 3)
+abbrev pub dnssec_in : Option Edns → Bool
+dnssec_in None = false
+dnssec_in (Some edns) = edns.dnssec
+
+-- the client wants the DNSSEC records
+abbrev pub wants_dnssec : Question → Bool
+wants_dnssec question = dnssec_in question.edns
+
+-- a flag's bit where it is set
+abbrev pub flag : Bool → ℕ → ℕ
+flag set bit = if set then bit else 0
+
+-- RCODE: 3 where the name doesn't exist, else 0 (RFC 1035, section 4.1.1)
+abbrev pub rcode_of : Kind → ℕ
+rcode_of NxDomain = 3
+rcode_of NoData = 0
+rcode_of Answer = 0
+
+-- QR and RA are set, opcode, AA and Z zero; TC where the reply is cut; RD and CD are the query's; AD where the query
+-- had AD or DO (RFC 1035, section 4.1.1; RFC 4035, sections 3.1.6 and 3.2.3; RFC 6840, section 5.8)
+abbrev pub flags_of : Question → Kind → Bool → ℕ
+flags_of question kind cut =
+    0x8080 + flag cut 0x200 + flag question.rd 0x100 + flag (question.ad || wants_dnssec question) 0x20 + flag question.cd 0x10
+    + rcode_of kind
+
+-- the number of OPT records, which is that of the query (RFC 6891, section 6.1.1)
+abbrev pub opt_count : Option Edns → ℕ
+opt_count None = 0
+opt_count (Some edns) = 1
+
+-- ID, flags, and the numbers of questions and of the records of the three sections (RFC 1035, section 4.1.1)
+abbrev pub header_octets : Question → Kind → Bool → ℕ → ℕ → List ℕ
+header_octets question kind cut answers authorities =
+    big_bytes 2 question.id ++ big_bytes 2 (flags_of question kind cut)
+    ++ big_bytes 2 1 ++ big_bytes 2 answers ++ big_bytes 2 authorities ++ big_bytes 2 (opt_count question.edns)
+
+-- a record but for its class and TTL
+pub record ReplyRecord : Type 0 where
+  pub owner : List Label
+  pub rtype : ℕ
+  pub rdata : List ℕ
+
+-- owner uncompressed, type, class IN, TTL, the data's length, data (RFC 1035, section 4.1.3)
+abbrev pub record_octets : ℕ → ReplyRecord → List ℕ
+record_octets ttl r =
+    wire_of r.owner ++ big_bytes 2 r.rtype ++ big_bytes 2 1 ++ big_bytes 4 ttl ++ big_bytes 2 (length r.rdata) ++ r.rdata
+
+-- a record for each item
+abbrev pub records_of : List Label → ℕ → List (List ℕ) → List ReplyRecord
+records_of owner rtype items = map (λ rdata. record { owner = owner; rtype = rtype; rdata = rdata }) items
+
+-- the set's signatures, for a client that wants them (RFC 4035, section 3.1.1)
+abbrev pub signature_records : Bool → List Label → List (List ℕ) → List ReplyRecord
+signature_records dnssec owner signatures = if dnssec then records_of owner rrsig_type signatures else []
+
+-- the set's records with this owner, and its signatures behind them
+abbrev pub set_records : Bool → List Label → SignedSet → List ReplyRecord
+set_records dnssec owner set = records_of owner set.rtype set.items ++ signature_records dnssec owner set.signatures
+
+-- a record of a proof of denial and its signatures, for a client that wants them (RFC 4035, section 3.1.3; RFC 5155,
+-- section 7.2)
+abbrev pub proof_records : Bool → SignedSet → List ReplyRecord
+proof_records dnssec denial = if dnssec then set_records true denial.owner denial else []
+
+-- the set that answers, with the query's name as owner
+abbrev pub answer_records : Question → Finding → List ReplyRecord
+answer_records question finding = flat_map (set_records (wants_dnssec question) question.name) finding.answer
+
+-- the SOA set, and the proof of denial
+abbrev pub authority_records : Question → Finding → List ReplyRecord
+authority_records question finding =
+    flat_map (λ set. set_records (wants_dnssec question) set.owner set) finding.soa
+    ++ flat_map (proof_records (wants_dnssec question)) finding.denials
+
+-- root owner, type OPT, 1232 octets of payload; extended RCODE 0, version 0, DO as the query had it; no data
+-- (RFC 6891, section 6.1)
+abbrev pub opt_octets : Option Edns → List ℕ
+opt_octets None = []
+opt_octets (Some edns) =
+    wire_of [] ++ big_bytes 2 41 ++ big_bytes 2 1232 ++ big_bytes 2 0 ++ big_bytes 2 (flag edns.dnssec 0x8000) ++ big_bytes 2 0
+
+-- the reply with all its records
+abbrev pub whole_octets : Question → Finding → List ℕ
+whole_octets question finding =
+    header_octets question finding.kind false (length (answer_records question finding)) (length (authority_records question finding))
+    ++ question.asked.items
+    ++ flat_map (record_octets finding.ttl) (answer_records question finding ++ authority_records question finding)
+    ++ opt_octets question.edns
+
+-- the reply without records but OPT, and with TC (RFC 2181, section 9)
+abbrev pub cut_octets : Question → Finding → List ℕ
+cut_octets question finding =
+    header_octets question finding.kind true 0 0 ++ question.asked.items ++ opt_octets question.edns
+
+-- the octets that a reply has at most: 512 without OPT (RFC 1035, section 4.2.1); else what the client takes, of which
+-- less than 512 counts as 512 (RFC 6891, section 6.2.3), and no more than 1232
+abbrev pub limit_of : Option Edns → ℕ
+limit_of None = 512
+limit_of (Some edns) = min 1232 (max 512 edns.size)
+
+-- a reply is whole where that is within the limit, and else cut
+abbrev pub reply_octets : Question → Finding → List ℕ
+reply_octets question finding =
+    if nat_le (length (whole_octets question finding)) (limit_of question.edns)
+    then whole_octets question finding
+    else cut_octets question finding

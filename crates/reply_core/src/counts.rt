@@ -1,0 +1,44 @@
+ghost use Rattle.std.specs.Prelude.{◌≡◌, ℕ, List, [], if◌then◌else◌};
+ghost use Rattle.std.specs.List.{flat_map};
+ghost use Rattle.reply_core.specs.Count.{count16};
+ghost use Rattle.reply_core.specs.Reply.{set_records, proof_records};
+ghost use Rattle.reply_core.specs.View.{SignedSet, listed, set_of, denial_of};
+
+use crate::numbers::low16;
+use denial_records::{Denial, SetRec};
+use dname::OctetsList;
+
+// Numbers of records are taken modulo 2^16, which leaves a number alone that a header can say.
+
+/// The number of records of a set, with its signatures where they are sent.
+pub(crate) fn count_set(set: Option<&SetRec>, dnssec: bool) -> u16
+    ensures { (owner_of : SignedSet → List (List ℕ)) → result ≡ count16 (flat_map (λ s. set_records dnssec (owner_of s) s) (listed (λ s. set_of s.now) set.entry)) }
+{
+    match set {
+        Some(set) => count_list(&set.items).wrapping_add(count_signatures(&set.signatures, dnssec)),
+        None => 0,
+    }
+}
+
+/// The number of records that a denial sends.
+pub(crate) fn count_denial(denial: &Option<Denial<'_>>, dnssec: bool) -> u16
+    ensures { result ≡ count16 (flat_map (proof_records dnssec) (listed denial_of denial.now)) }
+{
+    match denial {
+        Some(Denial::Nsec(kept)) if dnssec => count_list(&kept.signatures).wrapping_add(1),
+        Some(Denial::Nsec3(kept)) if dnssec => count_list(&kept.signatures).wrapping_add(1),
+        _ => 0,
+    }
+}
+
+fn count_signatures(list: &OctetsList, dnssec: bool) -> u16
+    ensures { result ≡ count16 (if dnssec then list.now else []) }
+{
+    if dnssec { count_list(list) } else { 0 }
+}
+
+fn count_list(list: &OctetsList) -> u16
+    ensures { result ≡ count16 list.now }
+{
+    low16(list.len())
+}

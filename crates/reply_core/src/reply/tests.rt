@@ -1,0 +1,269 @@
+use super::write_reply;
+use crate::ReplyBuffer;
+use arrayvec::ArrayVec;
+use denial_records::{Denial, Kind, Nsec3Rec, NsecRec, SetRec, TypeSet, Verdict};
+use dname::{Name, Octets, OctetsList, OutOfMemory};
+use dnswire::{Edns, Question};
+use std::alloc::Global;
+use std::test::Fail;
+
+const EXAMPLE: &[u8] = b"\x07example\0";
+
+const A_EXAMPLE: &[u8] = b"\x01a\x07example\0";
+
+const B_EXAMPLE: &[u8] = b"\x01b\x07example\0";
+
+const ASKED: &[u8] = b"\x01A\x07Example\0\0\x10\0\x01";
+
+const ASKED_AT_APEX: &[u8] = b"\x07example\0\0\x10\0\x01";
+
+// Root names, and 1, 3600, 600, 86400, 300.
+const SOA: &[u8] = b"\0\0\0\0\0\x01\0\0\x0e\x10\0\0\x02\x58\0\x01\x51\x80\0\0\x01\x2c";
+
+const SOA_SIGNATURE: &[u8] =
+    b"\0\x06\x0d\x01\0\0\x0e\x10\x77\x35\x94\0\x35\xa4\xe9\0\0\x01\x07example\0ZZZZ";
+// b.example A RRSIG NSEC
+const NSEC: &[u8] = b"\x01b\x07example\0\0\x06\x40\0\0\0\0\x03";
+
+const NSEC_SIGNATURE: &[u8] =
+    b"\0\x2f\x0d\x02\0\0\x0e\x10\x77\x35\x94\0\x35\xa4\xe9\0\0\x01\x07example\0ZZZZ";
+
+const TYPES: &[u8] = b"\0\x06\x40\0\0\0\0\x03";
+
+// What the sets and the records of a denial are written as, all with a TTL of 300.
+const SOA_RECORD: &[u8] =
+    b"\x07example\0\0\x06\0\x01\0\0\x01\x2c\0\x16\0\0\0\0\0\x01\0\0\x0e\x10\0\0\x02\x58\0\x01\x51\x80\0\0\x01\x2c";
+
+const SOA_RRSIG: &[u8] =
+    b"\x07example\0\0\x2e\0\x01\0\0\x01\x2c\0\x1f\0\x06\x0d\x01\0\0\x0e\x10\x77\x35\x94\0\x35\xa4\xe9\0\0\x01\x07example\0ZZZZ";
+
+const NSEC_RECORD: &[u8] =
+    b"\x01a\x07example\0\0\x2f\0\x01\0\0\x01\x2c\0\x13\x01b\x07example\0\0\x06\x40\0\0\0\0\x03";
+
+const NSEC_RRSIG: &[u8] =
+    b"\x01a\x07example\0\0\x2e\0\x01\0\0\x01\x2c\0\x1f\0\x2f\x0d\x02\0\0\x0e\x10\x77\x35\x94\0\x35\xa4\xe9\0\0\x01\x07example\0ZZZZ";
+
+const OPT_WITH_DO: &[u8] = b"\0\0\x29\x04\xd0\0\0\x80\0\0\0";
+
+fn name(octets: &[u8]) -> Name {
+    match Name::read(octets) {
+        Ok((name, _)) => name,
+        Err(_) => Name::root(),
+    }
+}
+
+fn question(asked_octets: &[u8], edns: Option<Edns>) -> Question {
+    let mut asked = ArrayVec::new();
+    let _ = asked.try_extend_from_slice(asked_octets);
+    Question {
+        id: 0x1234,
+        rd: true,
+        ad: false,
+        cd: false,
+        name: name(asked_octets),
+        asked,
+        qtype: 16,
+        qclass: 1,
+        edns,
+    }
+}
+
+fn list(alloc: Global, item: &[u8]) -> Result<OctetsList, OutOfMemory> {
+    let mut list = OctetsList::empty(alloc);
+    list.push(Octets::of(alloc, item)?)?;
+    Ok(list)
+}
+
+fn set(alloc: Global, rtype: u16, item: &[u8], signature: &[u8]) -> Result<SetRec, OutOfMemory> {
+    Ok(SetRec {
+        zone: name(EXAMPLE),
+        owner: name(EXAMPLE),
+        rtype,
+        life: 3600,
+        expiry: 5000,
+        items: list(alloc, item)?,
+        signatures: list(alloc, signature)?,
+    })
+}
+
+fn verdict<'a>(kind: Kind, soa: Option<&'a SetRec>, first: Option<Denial<'a>>) -> Verdict<'a> {
+    Verdict {
+        kind,
+        answer_set: None,
+        soa,
+        first,
+        second: None,
+        third: None,
+        ttl: 300,
+    }
+}
+
+fn joined(alloc: Global, parts: &[&[u8]]) -> Result<Vec<u8>, OutOfMemory> {
+    let mut octets = Vec::new(alloc);
+    for part in parts {
+        octets.extend_from_slice(part)?;
+    }
+    Ok(octets)
+}
+
+#[test]
+fn the_soa_alone(rt: HostRuntime) -> Result<(), Fail> {
+    let soa = set(rt.alloc(), 6, SOA, SOA_SIGNATURE)?;
+    let mut out = ReplyBuffer::new();
+    write_reply(
+        &question(ASKED, None),
+        &verdict(Kind::NoData, Some(&soa), None),
+        &mut out,
+    );
+    let head = b"\x12\x34\x81\x80\0\x01\0\0\0\x01\0\0".as_slice();
+    let wanted = joined(rt.alloc(), &[head, ASKED, SOA_RECORD])?;
+    assert_eq!(rt; wanted.len(), 68);
+    assert_eq!(rt; out.as_slice(), wanted.as_slice());
+    Ok(())
+}
+
+#[test]
+fn the_flags(rt: HostRuntime) {
+    // the query's RD, AD, CD and DO, the verdict, the flags
+    let cases: [(bool, bool, bool, bool, Kind, &[u8]); 8] = [
+        (false, false, false, false, Kind::NoData, b"\x80\x80"),
+        (true, false, false, false, Kind::NoData, b"\x81\x80"),
+        (false, true, false, false, Kind::NoData, b"\x80\xa0"),
+        (false, false, true, false, Kind::NoData, b"\x80\x90"),
+        (false, false, false, true, Kind::NoData, b"\x80\xa0"),
+        (false, true, false, true, Kind::Answer, b"\x80\xa0"),
+        (false, false, false, false, Kind::NxDomain, b"\x80\x83"),
+        (true, true, true, true, Kind::NxDomain, b"\x81\xb3"),
+    ];
+    let mut out = ReplyBuffer::new();
+    for (rd, ad, cd, dnssec, kind, flags) in cases {
+        let mut question = question(ASKED, Some(Edns { size: 512, dnssec }));
+        question.rd = rd;
+        question.ad = ad;
+        question.cd = cd;
+        write_reply(&question, &verdict(kind, None, None), &mut out);
+        assert_eq!(rt; &out.as_slice()[2..4], flags);
+    }
+}
+
+#[test]
+fn the_proof_of_no_data(rt: HostRuntime) -> Result<(), Fail> {
+    let soa = set(rt.alloc(), 6, SOA, SOA_SIGNATURE)?;
+    let nsec = NsecRec {
+        zone: name(EXAMPLE),
+        owner: name(A_EXAMPLE),
+        next: name(B_EXAMPLE),
+        types: TypeSet::read(rt.alloc(), TYPES)?,
+        life: 3600,
+        expiry: 5000,
+        image: Octets::of(rt.alloc(), NSEC)?,
+        signatures: list(rt.alloc(), NSEC_SIGNATURE)?,
+    };
+    let edns = Edns {
+        size: 1232,
+        dnssec: true,
+    };
+    let mut out = ReplyBuffer::new();
+    write_reply(
+        &question(ASKED, Some(edns)),
+        &verdict(Kind::NoData, Some(&soa), Some(Denial::Nsec(&nsec))),
+        &mut out,
+    );
+    let head = b"\x12\x34\x81\xa0\0\x01\0\0\0\x04\0\x01".as_slice();
+    let wanted = joined(
+        rt.alloc(),
+        &[
+            head,
+            ASKED,
+            SOA_RECORD,
+            SOA_RRSIG,
+            NSEC_RECORD,
+            NSEC_RRSIG,
+            OPT_WITH_DO,
+        ],
+    )?;
+    assert_eq!(rt; wanted.len(), 221);
+    assert_eq!(rt; out.as_slice(), wanted.as_slice());
+    Ok(())
+}
+
+// The hash and its text are of RFC 5155, appendix B.
+#[test]
+fn the_owner_of_an_nsec3_record(rt: HostRuntime) -> Result<(), Fail> {
+    let hash = *b"\x17\x4e\xb2\x40\x9f\xe2\x8b\xcb\x48\x87\xa1\x83\x6f\x95\x7f\x0a\x84\x25\xe2\x7b";
+    let nsec3 = Nsec3Rec {
+        zone: name(EXAMPLE),
+        hash,
+        next: hash,
+        salt: Octets::of(rt.alloc(), b"")?,
+        iterations: 0,
+        opt_out: false,
+        types: TypeSet::read(rt.alloc(), TYPES)?,
+        life: 3600,
+        expiry: 5000,
+        image: Octets::of(rt.alloc(), b"image")?,
+        signatures: list(rt.alloc(), b"signature")?,
+    };
+    let edns = Edns {
+        size: 0,
+        dnssec: true,
+    };
+    let mut out = ReplyBuffer::new();
+    write_reply(
+        &question(ASKED, Some(edns)),
+        &verdict(Kind::NxDomain, None, Some(Denial::Nsec3(&nsec3))),
+        &mut out,
+    );
+    let head = b"\x12\x34\x81\xa3\0\x01\0\0\0\x02\0\x01".as_slice();
+    let record =
+        b"\x202t7b4g4vsa5smi47k61mv5bv1a22bojr\x07example\0\0\x32\0\x01\0\0\x01\x2c\0\x05image".as_slice();
+    let rrsig =
+        b"\x202t7b4g4vsa5smi47k61mv5bv1a22bojr\x07example\0\0\x2e\0\x01\0\0\x01\x2c\0\x09signature".as_slice();
+    let wanted = joined(rt.alloc(), &[head, ASKED, record, rrsig, OPT_WITH_DO])?;
+    assert_eq!(rt; out.as_slice(), wanted.as_slice());
+    Ok(())
+}
+
+#[test]
+fn a_reply_over_the_limit_is_cut(rt: HostRuntime) -> Result<(), Fail> {
+    let cut_alone = b"\x12\x34\x83\x80\0\x01\0\0\0\0\0\0\x07example\0\0\x10\0\x01".as_slice();
+    let cut_with_opt =
+        b"\x12\x34\x83\x80\0\x01\0\0\0\0\0\x01\x07example\0\0\x10\0\x01\0\0\x29\x04\xd0\0\0\0\0\0\0".as_slice();
+    // the client's OPT size, the octets of the TXT record's data, those of the reply
+    let cases: [(Option<u16>, usize, usize); 10] = [
+        (None, 468, 512),
+        (None, 469, 25),
+        (Some(4096), 1177, 1232),
+        (Some(4096), 1178, 36),
+        (Some(1232), 1177, 1232),
+        (Some(1231), 1177, 36),
+        (Some(1000), 945, 1000),
+        (Some(1000), 946, 36),
+        // less than 512 counts as 512
+        (Some(0), 457, 512),
+        (Some(0), 458, 36),
+    ];
+    let mut out = ReplyBuffer::new();
+    for (size, data, length) in cases {
+        let mut item = Vec::new(rt.alloc());
+        item.resize(data, 120)?;
+        let answer = set(rt.alloc(), 16, &item, b"")?;
+        let edns = match size {
+            Some(size) => Some(Edns {
+                size,
+                dnssec: false,
+            }),
+            None => None,
+        };
+        let mut verdict = verdict(Kind::Answer, None, None);
+        verdict.answer_set = Some(&answer);
+        write_reply(&question(ASKED_AT_APEX, edns), &verdict, &mut out);
+        assert_eq!(rt; out.as_slice().len(), length, "{size:?} {data}");
+        match (length, size) {
+            (25, _) => assert_eq!(rt; out.as_slice(), cut_alone),
+            (36, _) => assert_eq!(rt; out.as_slice(), cut_with_opt),
+            _ => assert!(rt; out.as_slice().starts_with(b"\x12\x34\x81\x80")),
+        }
+    }
+    Ok(())
+}

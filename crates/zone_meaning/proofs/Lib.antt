@@ -1,0 +1,9 @@
+pub mod ArcLemmas
+pub mod ConsistentTests
+pub mod DenialLemmas
+pub mod LookupLemmas
+pub mod LookupTests
+pub mod SameRecords
+pub mod SomeAnswer
+pub mod ZoneLemmas
+pub mod ZoneTests

@@ -1,0 +1,54 @@
+use Rattle.std.proofs.Common.{◌≤◌, ◌≡◌, [], ◌∷◌, length, refl, ap, arith, inl, inr, ⊎_elim}
+use Rattle.std.specs.Prelude.{codes}
+use Rattle.std.proofs.lemmas.Bool.Decides.{not_from_Decides}
+use Rattle.std.specs.List.{All, Contains}
+use Rattle.std.proofs.lemmas.List.Elements.{All-head}
+use Rattle.dname.specs.Name.{IsUnder}
+use Rattle.dname.proofs.CommonLemmas.{under_is_longer}
+use Rattle.std.specs.Cmp.Lexicographic.{bytes_decides}
+use Rattle.dname.specs.Name.{wire_of}
+use Rattle.zone_meaning.specs.Zone.{ZoneRecord, IsProofType, IsCut, ns_type, ds_type, rrsig_type, nsec_type, nsec3_type}
+use Rattle.zone_meaning.specs.Examples.{address, record_of, a_type, soa_type, mx_type, example, a_example, b_example, sub_example, two_hosts, one_cut, wildcards, soa_data}
+use Rattle.zone_meaning.proofs.ZoneTests.{here, later, nowhere, first_or_later, is_cut, cut_decides, has_type, has_type_decides, has_data, has_data_decides, is_live, live_decides}
+use Rattle.zone_meaning.proofs.ConsistentTests.{is_proof_type, proof_type_decides, inside_decides, lacks, lists}
+use Rattle.zone_meaning.proofs.examples.what_is_not_true_of_a_zone.Goals as goal
+
+pub returns : goal.returns
+returns c = record {
+  owner_outside = λ is. too_short (under_is_longer [] example (only (λ (r : ZoneRecord). IsUnder r.owner example) (record_of [] a_type (address 1)) is.owners));
+  rrsig_kept = λ is. only (λ (r : ZoneRecord). IsProofType r.rtype → ⊥) (record_of example rrsig_type []) is.types (inl refl);
+  nsec_kept = λ is. only (λ (r : ZoneRecord). IsProofType r.rtype → ⊥) (record_of example nsec_type []) is.types (inr (inl refl));
+  nsec3_kept = λ is. only (λ (r : ZoneRecord). IsProofType r.rtype → ⊥) (record_of example nsec3_type []) is.types (inr (inr refl));
+  next_skipped = λ is. is.none_between b_example ((live_decides two_hosts b_example).0 refl) ((inside_decides a_example example b_example).0 refl);
+  type_missing = λ is. lacks (rrsig_type ∷ nsec_type ∷ []) a_type refl
+      ((is.types_agree a_type (not_from_Decides (is_proof_type a_type) (proof_type_decides a_type) refl) (λ cut. absurd (whole cut))).0 ((has_type_decides two_hosts a_example a_type).0 refl));
+  type_added = λ is. not_from_Decides (has_type two_hosts a_example mx_type) (has_type_decides two_hosts a_example mx_type) refl
+      ((is.types_agree mx_type (not_from_Decides (is_proof_type mx_type) (proof_type_decides mx_type) refl) (λ cut. absurd (whole cut))).1 (lists (a_type ∷ mx_type ∷ rrsig_type ∷ nsec_type ∷ []) mx_type refl));
+  ds_added = λ is. not_from_Decides (has_type one_cut sub_example ds_type) (has_type_decides one_cut sub_example ds_type) refl
+      ((is.types_agree ds_type (not_from_Decides (is_proof_type ds_type) (proof_type_decides ds_type) refl) (λ cut. inr (inl refl))).1 (lists (ns_type ∷ ds_type ∷ rrsig_type ∷ nsec_type ∷ []) ds_type refl));
+  next_is_glue = λ is. not_from_Decides (is_live one_cut (codes "ns" ∷ sub_example)) (live_decides one_cut (codes "ns" ∷ sub_example)) refl is.next_live;
+  item_missing = λ is. lacks_item ((is.data_there (wire_of (codes "ns" ∷ codes "example" ∷ codes "net" ∷ []))).1 ((has_data_decides wildcards example ns_type (wire_of (codes "ns" ∷ codes "example" ∷ codes "net" ∷ []))).0 refl));
+  item_added = λ is. not_from_Decides (has_data two_hosts example soa_type []) (has_data_decides two_hosts example soa_type []) refl ((is.data_there []).0 (later soa_data ([] ∷ []) [] (here [] [])));
+  no_items = λ is. is.not_empty refl;
+  of_another_zone = λ is. omega (arith, ap length is.apex);
+  glue_at_the_cut = λ is. not_ds (is.authority ((cut_decides one_cut sub_example).0 refl));
+  glue_below_the_cut = λ is. not_from_Decides (is_live one_cut (codes "ns" ∷ sub_example)) (live_decides one_cut (codes "ns" ∷ sub_example)) refl is.live;
+}
+  where
+    only : (P : ZoneRecord → Type 0) (r : ZoneRecord) → All P (r ∷ []) → P r
+    only P r all = All-head P r [] all
+
+    too_short : 1 ≤ 0 → ⊥
+    too_short le = omega arith
+
+    whole : IsCut two_hosts a_example → ⊥
+    whole = not_from_Decides (is_cut two_hosts a_example) (cut_decides two_hosts a_example) refl
+
+    not_ds : a_type ≡ ds_type → ⊥
+    not_ds e = omega arith
+
+    lacks_item : Contains (wire_of (codes "ns" ∷ codes "example" ∷ codes "com" ∷ []) ∷ []) (wire_of (codes "ns" ∷ codes "example" ∷ codes "net" ∷ [])) → ⊥
+    lacks_item in' = ⊎_elim (λ e. apart e) (λ none. nowhere _ none) (first_or_later (wire_of (codes "ns" ∷ codes "example" ∷ codes "com" ∷ [])) [] (wire_of (codes "ns" ∷ codes "example" ∷ codes "net" ∷ [])) in')
+      where
+        apart : wire_of (codes "ns" ∷ codes "example" ∷ codes "com" ∷ []) ≡ wire_of (codes "ns" ∷ codes "example" ∷ codes "net" ∷ []) → ⊥
+        apart = not_from_Decides _ (bytes_decides (wire_of (codes "ns" ∷ codes "example" ∷ codes "com" ∷ [])) (wire_of (codes "ns" ∷ codes "example" ∷ codes "net" ∷ []))) refl
