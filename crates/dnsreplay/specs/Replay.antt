@@ -9,13 +9,12 @@ use Rattle.intake.specs.Plain.{BringsPlain}
 use Rattle.replay_meaning.specs.Frame.{Input, IsInput, inputs_spelling}
 use Rattle.replay_meaning.specs.OutFrame.{outputs_spelling}
 use Rattle.replay_meaning.specs.Fits.{Fits}
+use Rattle.replay_meaning.specs.Sound.{IsSound}
 use Rattle.replay_meaning.specs.declared.frame.FrameKind.TheVariants.{Query, Upstream}
 use Rattle.replay_meaning.specs.declared.out_frame.OutFrame.{OutFrame}
 use Rattle.dnsreplay.specs.declared.call.Asked.{Asked}
 use Rattle.dnsreplay.specs.declared.call.Call.{Call}
 use Rattle.dnsreplay.specs.declared.call.Call.TheVariants.{Ask, Place}
-use Rattle.dnsreplay.specs.declared.call.TheConstants.{MAX_FRAMES}
-use Rattle.dnsreplay.specs.declared.reading.TheConstants.{MAX_INPUT}
 
 -- the frame is a plain query, which asks this
 pub record Asks (input : Input) (asked : Asked) : Type 0 where
@@ -41,14 +40,21 @@ pub record IsPlain (input : Input) : Type 0 where
   pub call : Call
   pub does : Does input call
 
+-- how many frames and octets an input has at most
+abbrev pub most_frames : ℕ
+most_frames = 1000
+
+abbrev pub most_octets : ℕ
+most_octets = 67108864
+
 -- the octets spell frames that are plain, and not too many
 pub record IsPlainInput (octets : List ℕ) : Type 0 where
   pub inputs : List Input
   pub spelled : octets ≡ inputs_spelling inputs
   pub valid : All IsInput inputs
   pub plain : All IsPlain inputs
-  pub few : length inputs ≤ MAX_FRAMES
-  pub short : length octets ≤ MAX_INPUT
+  pub few : length inputs ≤ most_frames
+  pub short : length octets ≤ most_octets
 
 -- so it is for this call, of a frame that fits its length
 pub record Makes (input : Input) (call : Call) : Type 0 where
@@ -62,7 +68,8 @@ pub record AreCallsOf (octets : List ℕ) (calls : List Call) : Type 0 where
   pub spelled : octets ≡ inputs_spelling inputs
   pub each : AllZip Makes inputs calls
 
--- the output is the spelling of frames that fit the frames of the input, for one worker
+-- the output is the spelling of frames that fit the frames of the input, for one worker, and each reply says what every
+-- zone says of which the records that it used are true
 pub record IsReplay (octets output : List ℕ) : Type 0 where
   pub inputs : List Input
   pub outputs : List OutFrame
@@ -70,6 +77,7 @@ pub record IsReplay (octets output : List ℕ) : Type 0 where
   pub valid : All IsInput inputs
   pub written : output ≡ outputs_spelling outputs
   pub fits : Fits inputs 1 outputs
+  pub sound : AllZip IsSound inputs outputs
 
 -- so it is for the calls, whatever frames make them
 abbrev pub IsOutputOf : List Call → List ℕ → Type 0

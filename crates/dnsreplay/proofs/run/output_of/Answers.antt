@@ -2,6 +2,7 @@ use Rattle.std.proofs.Common.{subst, sym}
 use Rattle.std.specs.List.{AllZip}
 use Rattle.dnsreplay.specs.Replay.{Makes, AreCallsOf}
 use Rattle.dnsreplay.proofs.CallLemmas.{valid_of}
+use Rattle.replay_meaning.proofs.SoundLemmas.{replies_are_sound}
 use Rattle.dnsreplay.proofs.run.output_of.Goals as goal
 
 pub returns-in_ok-replay-in-Some-clause-replay : goal.returns-in_ok-replay-in-Some-clause-replay
@@ -15,4 +16,5 @@ returns-in_ok-replay-in-Some-clause-replay c =
       valid = valid_of calls.inputs c.in-Some.calls.items calls.each;
       written = made.1;
       fits = made.2;
+      sound = replies_are_sound 1 made.2.placed calls.inputs made.0 made.2.each;
     }
