@@ -2,3 +2,4 @@ pub mod QuestionLemmas
 pub mod LayoutLemmas
 pub mod RecordLemmas
 pub mod AnswerLemmas
+pub mod MessageNameLemmas

@@ -3,3 +3,5 @@ pub mod PlainQuery
 pub mod Layout
 pub mod Record
 pub mod PlainAnswer
+pub mod MessageName
+pub mod NamePiece

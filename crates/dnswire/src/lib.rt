@@ -7,6 +7,7 @@ mod edns;
 mod header;
 mod layout;
 mod message;
+mod message_name;
 mod numbers;
 mod plain;
 mod plain_fault;

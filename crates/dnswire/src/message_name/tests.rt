@@ -1,0 +1,88 @@
+use super::*;
+use std::test::Fail;
+
+// The name of RFC 1035, section 4.1.4, at its offset 20, with zeros before it.
+const AT_20: &[u8] =
+    b"\x00\x00\x00\x00\x00\x00\x00\x00\x00\x00\x00\x00\x00\x00\x00\x00\x00\x00\x00\x00\x01F\x03ISI\x04ARPA\x00";
+
+// What follows up to offset 64, from 40 on FOO.F.ISI.ARPA.
+const AT_40: &[u8] =
+    b"\x00\x00\x00\x00\x00\x00\x00\x00\x03FOO\xc0\x14\x00\x00\x00\x00\x00\x00\x00\x00\x00\x00\x00\x00\x00\x00\x00\x00\x00\x00";
+
+// What follows, at 64 ARPA and at 92 the root.
+const AT_64: &[u8] =
+    b"\xc0\x1a\x00\x00\x00\x00\x00\x00\x00\x00\x00\x00\x00\x00\x00\x00\x00\x00\x00\x00\x00\x00\x00\x00\x00\x00\x00\x00\x00";
+
+// Each offset, the name there as a wire form, and the offset behind it.
+const NAMES: [(usize, &[u8], usize); 4] = [
+    (20, b"\x01f\x03isi\x04arpa\x00", 32),
+    (40, b"\x03foo\x01f\x03isi\x04arpa\x00", 46),
+    (64, b"\x04arpa\x00", 66),
+    (92, b"\x00", 93),
+];
+
+#[test]
+fn the_names_of_the_rfc_are_read(rt: HostRuntime) -> Result<(), Fail> {
+    let mut message = Vec::new(rt.alloc());
+    for piece in [AT_20, AT_40, AT_64] {
+        message.extend_from_slice(piece)?;
+    }
+    for (at, wire, end) in NAMES {
+        match read_name(message.as_slice(), at) {
+            Some((name, behind)) => {
+                assert_eq!(rt; name.wire(), wire, "{at}");
+                assert_eq!(rt; behind, end, "{at}");
+            }
+            None => assert_eq!(rt; at, 0),
+        }
+    }
+    Ok(())
+}
+
+// Where no name stands at the place: octets that are missing, other length octets, and pointers not before their run.
+const NO_NAME: [(&[u8], usize); 11] = [
+    (b"", 0),
+    (b"\x00", 1),
+    (b"\x00", 2),
+    (b"\x01a", 0),
+    (b"\x02a", 0),
+    (b"\x00\xc0", 1),
+    (b"\x40\x00", 0),
+    (b"\x80\x00", 0),
+    (b"\x01a\xc0\x00", 0),
+    (b"\xc0\x02\xc0\x00", 2),
+    (b"\xc0\x02\x00", 0),
+];
+
+#[test]
+fn where_no_name_stands_none_is_read(rt: HostRuntime) -> Result<(), Fail> {
+    for (i, (message, at)) in NO_NAME.iter().enumerate() {
+        assert_eq!(rt; read_name(message, *at).is_none(), true, "{i}");
+    }
+    Ok(())
+}
+
+// A label of 63 octets.
+const LONG: &[u8] = b"\x3fabcdefgabcdefgabcdefgabcdefgabcdefgabcdefgabcdefgabcdefgabcdefg";
+
+#[test]
+fn a_name_has_at_most_255_octets(rt: HostRuntime) -> Result<(), Fail> {
+    for (size, is_read) in [(61usize, true), (62, false)] {
+        let mut message = Vec::new(rt.alloc());
+        for _ in 0..3 {
+            message.extend_from_slice(LONG)?;
+        }
+        message.push(0)?;
+        message.push(size as u8)?;
+        for _ in 0..size {
+            message.push(b'a')?;
+        }
+        message.extend_from_slice(b"\xc0\x00")?;
+        assert_eq!(rt;
+            read_name(message.as_slice(), 193).is_some(),
+            is_read,
+            "{size}"
+        );
+    }
+    Ok(())
+}
