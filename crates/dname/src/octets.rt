@@ -1,4 +1,4 @@
-ghost use Rattle.std.specs.Prelude.{◌≡◌, ℕ, List, IfOk};
+ghost use Rattle.std.specs.Prelude.{◌≡◌, ℕ, List, [], ◌++◌, IfOk, OnOk, OnErr};
 
 use std::alloc::{AllocError, Global};
 use std::marker::Model;
@@ -19,6 +19,15 @@ impl Model for Octets {
 }
 
 impl Octets {
+    /// No octets. The allocator is kept for `append`, and no memory is taken.
+    pub fn empty(alloc: Global) -> Octets
+        ensures { result ≡ [] }
+    {
+        Octets {
+            octets: Vec::new(alloc),
+        }
+    }
+
     /// A copy of the piece.
     pub fn of(alloc: Global, piece: &[u8]) -> Result<Octets, OutOfMemory>
         ensures { IfOk result (λ octets. octets ≡ piece.now) }
@@ -26,6 +35,14 @@ impl Octets {
         Ok(Octets {
             octets: Vec::from_slice(alloc, piece)?,
         })
+    }
+
+    /// Puts the piece behind the octets that there are.
+    pub fn append(&mut self, piece: &[u8]) -> Result<(), OutOfMemory>
+        ensures ok { OnOk result (self.new ≡ self.old ++ piece.now) }
+        ensures refused { OnErr result (self.new ≡ self.old) }
+    {
+        self.octets.extend_from_slice(piece)
     }
 
     pub fn as_slice(&self) -> &[u8]

@@ -3,3 +3,10 @@ pub mod LayoutLemmas
 pub mod RecordLemmas
 pub mod AnswerLemmas
 pub mod MessageNameLemmas
+pub mod HeaderLemmas
+pub mod RrHeadLemmas
+pub mod HeadsLemmas
+pub mod QueryLemmas
+pub mod DataLemmas
+pub mod MessageLemmas
+pub mod RcodeLemmas

@@ -74,7 +74,7 @@ after_pointer message start at offset labels end p (pointed _ _ _ offset' stop _
     record { stop = stop; before = subst (λ o. o < start) same before; reads = subst (λ o. Reads message o o labels stop) same more; end_is = is }
 
 -- at one place one row of labels is read
-one_reading : (message : List ℕ) (start at : ℕ) (labels labels' : List Label) (end end' : ℕ) → Reads message start at labels end → Reads message start at labels' end' → (labels ≡ labels') × (end ≡ end')
+pub one_reading : (message : List ℕ) (start at : ℕ) (labels labels' : List Label) (end end' : ℕ) → Reads message start at labels end → Reads message start at labels' end' → (labels ≡ labels') × (end ≡ end')
 one_reading message start at _ labels' end end' (closed _ _ _ e is) r =
     let a = after_end message start at labels' end' e r in
     (sym a.0, is ∙ sym a.1)
@@ -87,11 +87,20 @@ one_reading message start at labels labels' end end' (pointed _ _ _ offset stop 
     let same = one_reading message offset offset labels labels' stop a.stop more a.reads in
     (same.0, is ∙ sym a.end_is)
 
+-- what is read ends within the message
+pub reads_within : (message : List ℕ) (start at : ℕ) (labels : List Label) (end : ℕ) → Reads message start at labels end → end ≤ length message
+reads_within message start at _ end (closed _ _ _ e is) = omega (arith, is, ap length e.stands, length-drop at message)
+reads_within message start at _ end (labelled _ _ _ label labels l more) = reads_within message start (at + 1 + length label) labels end more
+reads_within message start at labels end (pointed _ _ _ offset stop _ p before more is) = omega (arith, is, ap length p.stands, length-drop at message)
+
 -- at one place there is at most one name and one end
 pub one_name_at : (message : List ℕ) (at : ℕ) (name name' : List Label) (end end' : ℕ) → NameAt message at name end → NameAt message at name' end' → (name ≡ name') × (end ≡ end')
 one_name_at message at name name' end end' n n' =
     let same = one_reading message at at n.labels n'.labels end end' n.reads n'.reads in
     (n.lower ∙ ap (map lowered) same.0 ∙ sym n'.lower, same.1)
+
+pub name_within : (message : List ℕ) (at : ℕ) (name : List Label) (end : ℕ) → NameAt message at name end → end ≤ length message
+name_within message at name end n = reads_within message at at n.labels end n.reads
 
 -- ---- the reader's way
 

@@ -5,3 +5,9 @@ pub mod Record
 pub mod PlainAnswer
 pub mod MessageName
 pub mod NamePiece
+pub mod Header
+pub mod RrHead
+pub mod Data
+pub mod DataField
+pub mod Message
+pub mod Query

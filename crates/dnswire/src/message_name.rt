@@ -23,6 +23,7 @@ pub(crate) enum Piece {
 /// there.
 pub(crate) fn read_name(message: &[u8], at: usize) -> Option<(Name, usize)>
     ensures read { IfSome result (λ read. NameAt message.now at read.0 read.1) }
+    ensures within { IfSome result (λ read. read.1 ≤ length message.now) }
     ensures every { (name : List (List ℕ)) (end : ℕ) → NameAt message.now at name end → result ≡ Some (name, end) }
 {
     let mut wire = ArrayVec::new();
@@ -36,9 +37,10 @@ pub(crate) fn read_name(message: &[u8], at: usize) -> Option<(Name, usize)>
 }
 
 // Puts the wire form of the name at the place together, and gives the place behind the name.
-fn expand(message: &[u8], at: usize, wire: &mut ArrayVec<u8, MAX_WIRE>) -> Option<usize>
+pub(crate) fn expand(message: &[u8], at: usize, wire: &mut ArrayVec<u8, MAX_WIRE>) -> Option<usize>
     requires { wire.old.items ≡ [] }
     ensures read { IfSome result (Expands message.now at wire.new.items) }
+    ensures within { IfSome result (λ end. end ≤ length message.now) }
     ensures every { (labels : List (List ℕ)) (end : ℕ) → Reads message.now at at labels end → length (wire_of labels) ≤ 255 → IsSome result }
 {
     let mut start = at;

@@ -41,7 +41,7 @@ pub fn plain_query(octets: &[u8]) -> Option<Question>
     })
 }
 
-fn copy_of(asked: &[u8]) -> ArrayVec<u8, MAX_ASKED>
+pub(crate) fn copy_of(asked: &[u8]) -> ArrayVec<u8, MAX_ASKED>
     requires { length asked.now ≤ 259 }
     ensures { result.items ≡ asked.now }
 {

@@ -1,6 +1,6 @@
 use Rattle.std.proofs.Common.{◌≡◌, ◌∙◌, ◌∷◌, ◌++◌, Some, length, drop, sym, ap, subst, arith, length-append}
 use Rattle.dnswire.specs.NamePiece.{BeginsWithPiece, Expands}
-use Rattle.dnswire.proofs.MessageNameLemmas.{HasCome, come_label, come_pointer, come_end, no_piece, too_long, not_before, label_octets_are, label_within}
+use Rattle.dnswire.proofs.MessageNameLemmas.{HasCome, come_label, come_pointer, come_end, no_piece, too_long, not_before, reads_within, label_octets_are, label_within}
 use Rattle.dnswire.proofs.message_name.expand.Goals as goal
 
 pub returns-in_default-clause-every : goal.returns-in_default-clause-every
@@ -40,3 +40,8 @@ loop-piece-preserved c =
     let at = subst (BeginsWithPiece (drop c.loop-piece.here c.args.message.now)) c.in-Pointer.is c.in-Some.ensures.read in
     subst (λ end. HasCome c.args.message.now c.args.at c.in-Pointer.offset c.in-Pointer.offset c.loop-piece.wire.items (Some end)) (sym c.unwrap_or-in-Pointer.ensures)
     (come_pointer _ _ _ _ _ _ _ c.loop-piece.invariant at c.if-offset-start.false)
+
+pub returns-in-End-clause-within : goal.returns-in-End-clause-within
+returns-in-End-clause-within c =
+    let e = come_end _ _ _ _ _ _ _ c.loop-piece.invariant (subst (BeginsWithPiece (drop c.loop-piece.here c.args.message.now)) c.in-End.is c.in-Some.ensures.read) c.push.ensures.items in
+    rw c.unwrap_or.ensures (reads_within _ _ _ _ _ e.reads)

@@ -1,7 +1,7 @@
 use Rattle.std.proofs.Common.{◌≡◌, Some, Ok, Err, sym, ap, subst}
 use Rattle.dnswire.specs.MessageName.{NameAt}
 use Rattle.dnswire.specs.NamePiece.{Expands}
-use Rattle.dnswire.proofs.MessageNameLemmas.{expanded_spells, one_name_at}
+use Rattle.dnswire.proofs.MessageNameLemmas.{expanded_spells, name_within, one_name_at}
 use Rattle.dnswire.proofs.message_name.read_name.Goals as goal
 
 there : (c : goal.In-Ok) → NameAt c.args.message.now c.args.at c.in-Ok.name c.in-Some.end
@@ -24,3 +24,6 @@ returns-in-Err-clause-every c name end at =
     let made = expanded_spells _ _ _ _ (subst (λ wire. Expands c.args.message.now c.args.at wire c.in-Some.end) (sym c.as_slice.ensures.value) c.in-Some.ensures.read) c.as_slice.ensures.fits in
     let given = c.in-Err.ensures.every_name made.0 _ made.1 in
     absurd cc
+
+pub returns-in-Ok-clause-within : goal.returns-in-Ok-clause-within
+returns-in-Ok-clause-within c = name_within _ _ _ _ (there c)
