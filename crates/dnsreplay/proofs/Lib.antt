@@ -1,3 +1,6 @@
-pub mod CallLemmas
+pub mod FramesLemmas
+pub mod StepOfLemmas
+pub mod StepLemmas
 pub mod ReplayLemmas
 pub mod WordLemmas
+pub mod RunLemmas

@@ -1,8 +1,9 @@
-ghost use Rattle.std.specs.Prelude.{◌≡◌, ◌+◌, ◌<◌, ◌^◌, [], length, OnOk, IfOk};
+ghost use Rattle.std.specs.Prelude.{◌≡◌, ◌+◌, ◌<◌, ◌^◌, [], ◌++◌, length, OnOk, IfOk};
+ghost use Rattle.replay_meaning.specs.OutFrame.{output_spelling};
 ghost use Rattle.replay_meaning.specs.Outcome.{reply_in};
-ghost use Rattle.dnsreplay.specs.Outputs.{cache_of, query_output, batch_output, output_of as the_output, with_batch, cache_after};
+ghost use Rattle.dnsreplay.specs.Outputs.{cache_of, IsShort, query_output, batch_output, output_of as the_output, with_batch, cache_after};
 
-use crate::call::{Asked, Call};
+use crate::step::{Asked, Step};
 use cache_meaning::HeldRecords;
 use denial_records::Batch;
 use dname::{Octets, OutOfMemory};
@@ -28,16 +29,21 @@ impl Cache {
         }
     }
 
-    /// Makes the call, and gives its frame of the output, for worker 0.
-    pub fn output_of(&mut self, alloc: Global, call: &Call) -> Result<OutFrame, OutOfMemory>
-        requires { self.now.version + 1 < 2 ^ 32 }
-        ensures output { IfOk result (λ frame. frame ≡ the_output self.old call.now) }
-        ensures then { OnOk result (self.new ≡ cache_after self.old call.now) }
-        ensures short { IfOk result (λ frame. length frame.body < 2 ^ 16) }
+    /// Takes the step, and puts its frame of the output, for worker 0, at the end of `out`.
+    pub fn take_step(
+        &mut self,
+        alloc: Global,
+        step: &Step,
+        out: &mut Vec<u8>,
+    ) -> Result<(), OutOfMemory>
+        requires { (self.now.version + 1 < 2 ^ 32) × IsShort step.now }
+        ensures output { OnOk result (out.new.items ≡ out.old.items ++ output_spelling (the_output self.old step.now)) }
+        ensures then { OnOk result (self.new ≡ cache_after self.old step.now) }
     {
-        match call {
-            Call::Ask(asked) => self.answer(alloc, asked),
-            Call::Place(batch) => self.place(alloc, batch),
+        match step {
+            Step::Ask(asked) => self.answer(alloc, asked)?.write(out),
+            Step::Place(batch) => self.place(alloc, batch)?.write(out),
+            Step::Tell(output) => output.write(out),
         }
     }
 

@@ -2,11 +2,13 @@
 #![tactic(auto)]
 
 mod cache;
-mod call;
+mod frames;
 mod reading;
 mod replay;
 mod run;
 mod status;
+mod step;
+mod tell;
 mod words;
 mod writing;
 

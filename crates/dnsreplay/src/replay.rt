@@ -1,22 +1,24 @@
-ghost use Rattle.std.specs.Prelude.{◌≤◌, length, IfOk};
-ghost use Rattle.dnsreplay.specs.Replay.{IsOutputOf};
-ghost use Rattle.dnsreplay.specs.declared.call.TheConstants.{MAX_FRAMES};
+ghost use Rattle.std.specs.Prelude.{◌≤◌, length, IfOk, List};
+ghost use Rattle.std.specs.List.{AllZip};
+ghost use Rattle.replay_meaning.specs.Frame.{Input};
+ghost use Rattle.dnsreplay.specs.Replay.{Makes, IsOutputOf};
+ghost use Rattle.dnsreplay.specs.declared.step.TheConstants.{MAX_FRAMES};
 
 use crate::cache::Cache;
-use crate::call::Call;
+use crate::step::Step;
 use dname::OutOfMemory;
 use std::alloc::Global;
 
-/// The output of the calls, made one after the other for worker 0.
-pub fn replay(alloc: Global, calls: &[Call]) -> Result<Vec<u8>, OutOfMemory>
-    requires { length calls.now ≤ MAX_FRAMES }
-    ensures { IfOk result (λ output. IsOutputOf calls.now output.items) }
+/// The output of the steps, taken one after the other for worker 0.
+pub fn replay(alloc: Global, steps: &[Step]) -> Result<Vec<u8>, OutOfMemory>
+    requires few { length steps.now ≤ MAX_FRAMES }
+    requires made { (inputs : List Input) × AllZip Makes inputs steps.now }
+    ensures { IfOk result (λ output. IsOutputOf steps.now output.items) }
 {
     let mut output = Vec::new(alloc);
     let mut cache = Cache::empty(alloc);
-    for call in calls {
-        let frame = cache.output_of(alloc, call)?;
-        frame.write(&mut output)?;
+    for step in steps {
+        cache.take_step(alloc, step, &mut output)?;
     }
     Ok(output)
 }

@@ -1,18 +1,22 @@
 ghost use Rattle.std.specs.Prelude.{◌≡◌, ◌↔◌, ◌⊎◌, ℕ, ◌<◌, List, [], length, ◌≤◌, IfSome, IfOk, MatchOption, Some};
 ghost use Rattle.outside_core.specs.Fault.{Rose};
 ghost use Rattle.dnsreplay.specs.Words.{IsCommand};
-ghost use Rattle.dnsreplay.specs.Replay.{IsPlainInput, IsReplay};
-ghost use Rattle.dnsreplay.specs.Run.{IsReadOn, IsReplayed, IsCutShort};
+ghost use Rattle.dnsreplay.specs.Replay.{most_octets, AreFrames, IsTaken, IsReplay};
+ghost use Rattle.dnsreplay.specs.Run.{IsReadOn, IsReplayed, IsCutShort, IsRefused, IsStatusOf};
 
-use crate::call::read_calls;
+use crate::frames::are_frames;
 use crate::reading::{MAX_INPUT, ReadError, read_whole};
 use crate::replay::replay;
 use crate::status::Status;
+use crate::step::read_steps;
 use crate::words::is_command;
 use crate::writing::write_whole;
 use dname::OutOfMemory;
 use outside_core::{Sink, Source};
 use std::alloc::Global;
+
+/// The workers of a replay.
+const WORKERS: u8 = 1;
 
 /// Runs the words, those after the program's name, over the source and the sink.
 pub fn run<S: Source, K: Sink>(
@@ -32,15 +36,17 @@ pub fn run<S: Source, K: Sink>(
     ensures read_fault { result ≡ Status.ReadFault → Rose (S.faults source.old) (S.faults source.new) }
     ensures write_fault { result ≡ Status.WriteFault → Rose (K.faults sink.old) (K.faults sink.new) }
     ensures cut { result ≡ Status.WriteFault → IfSome (S.left source.old) (λ input. IsCutShort input (K.written sink.old) (K.written sink.new)) }
-    ensures unwritten { (result ≡ Status.ReadFault) ⊎ (result ≡ Status.NotBuilt) ⊎ (result ≡ Status.OutOfMemory) → sink.new ≡ sink.old }
-    ensures read { (result ≡ Status.Good) ⊎ (result ≡ Status.WriteFault) ⊎ (result ≡ Status.NotBuilt) → IsReadOn (S.left source.old) (S.left source.new) }
+    ensures unwritten { (result ≡ Status.ReadFault) ⊎ IsRefused result ⊎ (result ≡ Status.OutOfMemory) → sink.new ≡ sink.old }
+    ensures read { (result ≡ Status.Good) ⊎ (result ≡ Status.WriteFault) ⊎ IsRefused result → IsReadOn (S.left source.old) (S.left source.new) }
 
-    // What isn't built is all that isn't frames of plain queries for worker 0, within the limits.
-    ensures not_built { result ≡ Status.NotBuilt → IfSome (S.left source.old) (λ input. IsPlainInput input → ⊥) }
-    ensures built { (result ≡ Status.Good) ⊎ (result ≡ Status.WriteFault) → IfSome (S.left source.old) IsPlainInput }
-    ensures complete { IsCommand words.now → (input : List ℕ) → S.left source.old ≡ Some input → IsPlainInput input
+    // The input is looked at whole before anything is done: its length, then its frames, then what isn't built yet.
+    ensures too_long { result ≡ Status.InputTooLong → IfSome (S.left source.old) (λ input. most_octets < length input) }
+    ensures bad_frame { result ≡ Status.BadFrame → IfSome (S.left source.old) (λ input. (length input ≤ most_octets) × (AreFrames 1 input → ⊥)) }
+    ensures not_built { result ≡ Status.NotBuilt → IfSome (S.left source.old) (λ input. (length input ≤ most_octets) × AreFrames 1 input × (IsTaken input → ⊥)) }
+    ensures taken { (result ≡ Status.Good) ⊎ (result ≡ Status.WriteFault) → IfSome (S.left source.old) (λ input. (length input ≤ most_octets) × IsTaken input) }
+    ensures complete { IsCommand words.now → (input : List ℕ) → S.left source.old ≡ Some input
         → (Rose (S.faults source.old) (S.faults source.new) → ⊥) → (Rose (K.faults sink.old) (K.faults sink.new) → ⊥)
-        → (result ≡ Status.Good) ⊎ (result ≡ Status.OutOfMemory) }
+        → IsStatusOf input result ⊎ (result ≡ Status.OutOfMemory) }
 {
     if !is_command(words) {
         return Status::Usage;
@@ -51,7 +57,10 @@ pub fn run<S: Source, K: Sink>(
         Err(ReadError::OutOfMemory) => return Status::OutOfMemory,
     };
     if input.len() > MAX_INPUT {
-        return Status::NotBuilt;
+        return Status::InputTooLong;
+    }
+    if !are_frames(&input, WORKERS) {
+        return Status::BadFrame;
     }
     let output = match output_of(alloc, &input) {
         Ok(Some(output)) => output,
@@ -66,15 +75,16 @@ pub fn run<S: Source, K: Sink>(
 
 // The output of a replay of the input. None where the input asks for what isn't built.
 fn output_of(alloc: Global, input: &[u8]) -> Result<Option<Vec<u8>>, OutOfMemory>
-    requires { length input.now ≤ MAX_INPUT }
-    ensures replay { IfOk result (λ output. MatchOption output (IsPlainInput input.now → ⊥) (λ output. IsReplay input.now output.items)) }
-    ensures plain { IfOk result (λ output. MatchOption output (Unit {0}) (λ _. IsPlainInput input.now)) }
+    ensures replay { IfOk result (λ output. MatchOption output (IsTaken input.now → ⊥) (λ output. IsReplay input.now output.items)) }
+    ensures taken { IfOk result (λ output. MatchOption output (Unit {0}) (λ _. IsTaken input.now)) }
 {
-    match read_calls(alloc, input)? {
-        Some(calls) => Ok(Some(replay(alloc, &calls)?)),
+    match read_steps(alloc, input)? {
+        Some(steps) => Ok(Some(replay(alloc, &steps)?)),
         None => Ok(None),
     }
 }
 
+#[cfg(test)]
+mod message_tests;
 #[cfg(test)]
 mod tests;

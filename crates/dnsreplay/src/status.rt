@@ -9,9 +9,13 @@ pub enum Status {
     Usage,
     /// The source failed.
     ReadFault,
+    /// The input doesn't spell frames for the workers.
+    BadFrame,
     /// The sink failed.
     WriteFault,
     OutOfMemory,
+    /// The input is longer than the longest that is taken.
+    InputTooLong,
     /// The input asks for what isn't built yet.
     NotBuilt,
 }
@@ -25,8 +29,10 @@ impl Status {
             Status::Good => 0,
             Status::Usage => 2,
             Status::ReadFault => 3,
+            Status::BadFrame => 4,
             Status::WriteFault => 5,
             Status::OutOfMemory => 6,
+            Status::InputTooLong => 7,
             Status::NotBuilt => 9,
         }
     }
@@ -39,8 +45,10 @@ impl Status {
                 "usage: replay --workers N; selfrun --seed S --names M --queries Q; serve --listen P --upstream U --workers N --datagrams D",
             ),
             Status::ReadFault => Some("read fault"),
+            Status::BadFrame => Some("bad frame"),
             Status::WriteFault => Some("write fault"),
             Status::OutOfMemory => Some("out of memory"),
+            Status::InputTooLong => Some("input too long"),
             Status::NotBuilt => Some("not built"),
         }
     }

@@ -1,7 +1,4 @@
 pub mod QuestionLemmas
-pub mod LayoutLemmas
-pub mod RecordLemmas
-pub mod AnswerLemmas
 pub mod MessageNameLemmas
 pub mod HeaderLemmas
 pub mod RrHeadLemmas

@@ -7,8 +7,6 @@ use Rattle.dname.specs.Name.{Label, wire_of}
 use Rattle.dname.specs.Read.{Spells}
 use Rattle.dname.proofs.ReadLemmas.{one_name}
 use Rattle.dnswire.specs.Question.{IsAsked, BeginsWithQuestion}
-use Rattle.dnswire.specs.PlainQuery.{IsPlainQuery}
-use Rattle.dnswire.specs.declared.question.Question.{Question}
 
 pub record SameAsked (name name' : List Label) (qtype qtype' qclass qclass' : ℕ) : Type 0 where
   pub names : name ≡ name'
@@ -93,22 +91,4 @@ one_question octets name name' qtype qtype' qclass qclass' rest rest' a b =
     record {
       asks = one_asked b.asked name name' qtype qtype' qclass qclass' (subst (λ l. IsAsked l name qtype qclass) parts.fronts a.reads) b.reads;
       rests = parts.backs;
-    }
-
--- ---- plain queries
-
-pub one_plain_query : (octets : List ℕ) (p q : Question) → IsPlainQuery octets p → IsPlainQuery octets q → p ≡ q
-one_plain_query octets p q a b =
-    let asked = a.asked ∙ sym b.asked in
-    let same = one_asked q.asked.items p.name q.name p.qtype q.qtype p.qclass q.qclass (subst (λ l. IsAsked l p.name p.qtype p.qclass) asked a.reads) b.reads in
-    λ i. record {
-      id = (a.id ∙ sym b.id) i;
-      rd = (a.rd ∙ sym b.rd) i;
-      ad = (a.ad ∙ sym b.ad) i;
-      cd = (a.cd ∙ sym b.cd) i;
-      name = same.names i;
-      asked = record { items = asked i };
-      qtype = same.types i;
-      qclass = same.classes i;
-      edns = (a.edns ∙ sym b.edns) i;
     }

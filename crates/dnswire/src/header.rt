@@ -1,4 +1,4 @@
-ghost use Rattle.std.specs.Prelude.{◌≡◌, ◌≤◌, ◌<◌, ◌↔◌, length, take, drop, IsTrue, IfSome, IsNone, Some};
+ghost use Rattle.std.specs.Prelude.{◌≡◌, ◌≤◌, ◌<◌, length, drop, IfSome, IsNone, Some};
 ghost use Rattle.dnswire.specs.Header.{IsHeader, is_set, is_response, opcode_of, has_rd, has_ad, has_cd, low_rcode, head_of};
 ghost use Rattle.dnswire.specs.declared.header.Header.{Header};
 
@@ -7,17 +7,6 @@ use crate::numbers::number_at;
 
 /// The octets of a message's header (RFC 1035, section 4.1.1).
 pub(crate) const HEADER: usize = 12;
-
-/// Whether a whole header stands at the front with these flags and counts behind its ID.
-pub(crate) fn has_head(octets: &[u8], head: &[u8; 10]) -> bool
-    ensures head { IsTrue result ↔ (take 10 (drop 2 octets.now) ≡ head.now) }
-    ensures whole { IsTrue result → 12 ≤ length octets.now }
-{
-    match octets.get(2..HEADER) {
-        Some(piece) => piece == head.as_slice(),
-        None => false,
-    }
-}
 
 /// A message's header (RFC 1035, section 4.1.1).
 #[derive(Clone, Copy, Debug, PartialEq, Eq)]

@@ -9,9 +9,10 @@ ghost use Rattle.dnswire.specs.declared.rr_head.RrHead.{RrHead};
 use crate::asked::Asked;
 use crate::header::{HEADER, Header};
 use crate::numbers::octets_from;
-use crate::plain::copy_of;
-use crate::rr_head::RrHead;
+use crate::question::MAX_ASKED;
+use crate::rr_head::{OPT, RrHead};
 use crate::{Edns, QueryRead, Question};
+use arrayvec::ArrayVec;
 
 /// Reads a query: what it asks, or why it is refused. A fault comes before a version, an opcode before both. The data of
 /// records isn't read, but for what the OPT record says, and octets behind the last record are passed over. It takes no
@@ -40,9 +41,6 @@ pub fn read_query(octets: &[u8]) -> QueryRead
 
 /// The opcode of a standard query (RFC 1035, section 4.1.1).
 const STANDARD: u8 = 0;
-
-/// The type of an OPT record (RFC 6891, section 6.1.1).
-const OPT: u16 = 41;
 
 /// The octets of UDP payload that every client takes (RFC 6891, section 6.2.3).
 const LEAST_SIZE: u16 = 512;
@@ -89,6 +87,16 @@ fn octets_between(octets: &[u8], at: usize, end: usize) -> &[u8]
     ensures { result.now ≡ take (end - at) (drop at octets.now) }
 {
     octets_from(octets, at).split_at(end - at).0
+}
+
+fn copy_of(asked: &[u8]) -> ArrayVec<u8, MAX_ASKED>
+    requires { length asked.now ≤ 259 }
+    ensures { result.items ≡ asked.now }
+{
+    let mut copy = ArrayVec::new();
+    let fitted = copy.try_extend_from_slice(asked).is_ok();
+    prove!(fitted);
+    copy
 }
 
 // The place behind so many records; none where one of them can't be read.

@@ -6,6 +6,7 @@ ghost use Rattle.dnswire.specs.declared.wire_fault.WireFault.{WireFault};
 use crate::header::{HEADER, Header};
 use crate::message_name::read_name;
 use crate::numbers::number_at;
+use crate::rr_head::OPT;
 use crate::section::read_section;
 use crate::{Message, RrList, WireFault};
 use std::alloc::Global;
@@ -59,9 +60,6 @@ fn message_of(alloc: Global, octets: &[u8]) -> Result<Message, WireFault>
         additional,
     })
 }
-
-/// The type of an OPT record (RFC 6891, section 6.1.1).
-const OPT: u16 = 41;
 
 // The upper part of the RCODE, from the first OPT record of the root.
 fn upper_rcode(additional: &RrList) -> u16

@@ -8,6 +8,9 @@ use crate::message_name::read_name;
 use crate::numbers::{long_number_at, number_at};
 use dname::Name;
 
+/// The type of an OPT record (RFC 6891, section 6.1.1).
+pub(crate) const OPT: u16 = 41;
+
 /// The octets between a record's owner name and its data (RFC 1035, section 4.1.3).
 const FIXED: usize = 10;
 

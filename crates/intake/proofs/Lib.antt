@@ -2,4 +2,5 @@ pub mod ResultLemmas
 pub mod SignatureLemmas
 pub mod SoaLemmas
 pub mod NsecLemmas
+pub mod FormLemmas
 pub mod PlainLemmas

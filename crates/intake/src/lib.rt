@@ -1,6 +1,7 @@
 //! Intake: which records of an upstream answer are stored, and for how long.
 #![tactic(auto)]
 
+mod form;
 mod life;
 mod nsec;
 mod numbers;

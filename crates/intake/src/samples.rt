@@ -1,7 +1,5 @@
 //! Records for tests.
 
-ghost use Rattle.std.specs.Prelude.{◌≡◌, IfOk};
-
 use dname::{Name, NameFault, Octets, OutOfMemory};
 use dnswire::Rr;
 use std::alloc::Global;
@@ -41,9 +39,7 @@ pub fn rr(
     rtype: u16,
     ttl: u32,
     octets: &[u8],
-) -> Result<Rr, OutOfMemory>
-    ensures { IfOk result (λ rr. rr ≡ record { owner = owner.now; rtype = rtype; class = 1; ttl = ttl; octets = octets.now }) }
-{
+) -> Result<Rr, OutOfMemory> {
     Ok(Rr {
         owner: owner.copy(),
         rtype,

@@ -26,11 +26,12 @@ use Rattle.cache_meaning.specs.Proof.{Proof, ns_type, cname_type, ds_type, soa_t
 use Rattle.cache_meaning.specs.Outcome.{outcome_of, internet_class}
 use Rattle.reply_core.specs.Reply.{reply_octets}
 use Rattle.replay_meaning.specs.Frame.{Input}
-use Rattle.replay_meaning.specs.Fits.{IsFor, Answers}
+use Rattle.replay_meaning.specs.Fits.{IsFor, Answers, Tells}
 use Rattle.replay_meaning.specs.OutFrame.{out_number}
 use Rattle.replay_meaning.specs.Outcome.{finding_of}
 use Rattle.replay_meaning.specs.Sound.{IsTrueOf, used_in, nsec_part, IsSound}
 use Rattle.replay_meaning.specs.declared.out_frame.OutFrame.{OutFrame}
+use Rattle.replay_meaning.specs.declared.out_frame.OutKind.TheVariants.{Reply}
 
 -- ---- tests
 
@@ -140,6 +141,12 @@ outcome_is_true held now name qtype qclass proof is zone is_zone true_of =
 
 -- ---- the replies
 
+-- a frame that makes no call has no reply
+no_reply : (input : Input) (output : OutFrame) → Tells input output → output.kind ≡ Reply → ⊥
+no_reply input output (Tells.dropped kind reads apart) same = omega (arith, ap out_number (sym apart.kind_is ∙ same))
+no_reply input output (Tells.faulty read body kind reads is apart) same = omega (arith, ap out_number (sym apart.kind_is ∙ same))
+no_reply input output (Tells.malformed fault kind faulty apart) same = omega (arith, ap out_number (sym apart.kind_is ∙ same))
+
 says_true : (workers : ℕ) (placed : List Batch) (input : Input) (output : OutFrame) → IsFor workers placed input output → IsSound input output
 says_true workers placed input output for' = by for'.says
   where
@@ -149,6 +156,7 @@ says_true workers placed input output for' = by for'.says
         record { question = question; asks = asks; proof = told.0; written = sym told.2; true_of = outcome_is_true (held_of (take output.version placed)) input.now question.name question.qtype question.qclass told.0 told.1 }
     by (Answers.forwarded question kind asks within is forward body) = λ same. absurd (omega (arith, ap out_number (sym forward ∙ same)))
     by (Answers.stored message batch before kind answers brings version at stored body) = λ same. absurd (omega (arith, ap out_number (sym stored ∙ same)))
+    by (Answers.told tells) = λ same. absurd (no_reply input output tells same)
 
 pub replies_are_sound : (workers : ℕ) (placed : List Batch) (inputs : List Input) (outputs : List OutFrame) → AllZip (IsFor workers placed) inputs outputs → AllZip IsSound inputs outputs
 replies_are_sound workers placed [] [] each = tt

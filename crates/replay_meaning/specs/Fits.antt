@@ -1,13 +1,16 @@
 -- Which outputs fit an input, for any number of workers: those of one legal history of queries and inserts.
 use Rattle.std.specs.Prelude.{◌≡◌, ℕ, ◌<◌, ◌≤◌, ◌+◌, Bool, true, false, ◌&&◌, ◌==◌, List, [], length, take, count_by, slice_get, Some, None, AllPairs}
 use Rattle.std.specs.List.{AllZip}
-use Rattle.dnswire.specs.PlainQuery.{IsPlainQuery}
+use Rattle.dnswire.specs.Query.{IsReadAs}
+use Rattle.dnswire.specs.Message.{IsMessage, IsFaultOf}
 use Rattle.dnswire.specs.declared.question.Question.{Question}
-use Rattle.dnswire.specs.PlainAnswer.{IsPlainAnswer}
+use Rattle.dnswire.specs.declared.query_read.QueryRead.{QueryRead}
+use Rattle.dnswire.specs.declared.query_read.QueryRead.TheVariants.{Dropped as NoReply, Query as Asking}
 use Rattle.dnswire.specs.declared.message.Message.{Message}
+use Rattle.dnswire.specs.declared.wire_fault.WireFault.{WireFault}
 use Rattle.denial_records.specs.declared.batch.Batch.{Batch}
 use Rattle.intake.specs.Plain.{BringsPlain}
-use Rattle.replay_meaning.specs.Outcome.{reply_from, stored_octets}
+use Rattle.replay_meaning.specs.Outcome.{reply_from, stored_octets, malformed_octets, fault_octets}
 use Rattle.replay_meaning.specs.Frame.{Input}
 use Rattle.replay_meaning.specs.declared.frame.FrameKind.TheVariants.{Query, Upstream}
 use Rattle.replay_meaning.specs.declared.out_frame.OutFrame.{OutFrame}
@@ -32,12 +35,26 @@ is_placed Refused = false
 is_placed Dropped = false
 is_placed Error = false
 
+-- a frame that makes no call has version 0, whatever is placed
+pub record IsApart (kind : OutKind) (body : List ℕ) (output : OutFrame) : Type 0 where
+  pub kind_is : output.kind ≡ kind
+  pub version_is : output.version ≡ 0
+  pub body_is : output.body ≡ body
+
+-- what is said of a frame that makes no call, by its own octets: a query without a reply, one that has a fault, and an
+-- upstream answer that is no message
+pub data Tells (input : Input) (output : OutFrame) : Type 0 where
+  dropped : input.kind ≡ Query → IsReadAs input.message NoReply → IsApart Dropped [] output → Tells input output
+  faulty : (read : QueryRead) (body : List ℕ) → input.kind ≡ Query → IsReadAs input.message read → fault_octets read ≡ Some body → IsApart Error body output → Tells input output
+  malformed : (fault : WireFault) → input.kind ≡ Upstream → IsFaultOf input.message fault → IsApart Refused malformed_octets output → Tells input output
+
 -- What an output frame says of its input frame, where these batches are placed, in order of version: a query is
 -- answered from the first batches, as many as its version, and an upstream answer's batch is the one of its version.
 pub data Answers (placed : List Batch) (input : Input) (output : OutFrame) : Type 0 where
-  replied : (question : Question) → input.kind ≡ Query → IsPlainQuery input.message question → output.version ≤ length placed → reply_from (take output.version placed) question input.now ≡ Some output.body → output.kind ≡ Reply → Answers placed input output
-  forwarded : (question : Question) → input.kind ≡ Query → IsPlainQuery input.message question → output.version ≤ length placed → reply_from (take output.version placed) question input.now ≡ None → output.kind ≡ Forward → output.body ≡ [] → Answers placed input output
-  stored : (message : Message) (batch : Batch) (before : ℕ) → input.kind ≡ Upstream → IsPlainAnswer input.message message → BringsPlain message input.now batch → output.version ≡ before + 1 → slice_get placed before ≡ Some batch → output.kind ≡ Stored → output.body ≡ stored_octets batch → Answers placed input output
+  replied : (question : Question) → input.kind ≡ Query → IsReadAs input.message (Asking question) → output.version ≤ length placed → reply_from (take output.version placed) question input.now ≡ Some output.body → output.kind ≡ Reply → Answers placed input output
+  forwarded : (question : Question) → input.kind ≡ Query → IsReadAs input.message (Asking question) → output.version ≤ length placed → reply_from (take output.version placed) question input.now ≡ None → output.kind ≡ Forward → output.body ≡ [] → Answers placed input output
+  stored : (message : Message) (batch : Batch) (before : ℕ) → input.kind ≡ Upstream → IsMessage input.message message → BringsPlain message input.now batch → output.version ≡ before + 1 → slice_get placed before ≡ Some batch → output.kind ≡ Stored → output.body ≡ stored_octets batch → Answers placed input output
+  told : Tells input output → Answers placed input output
 
 -- the output frame is for the input frame, whose worker is one of so many
 pub record IsFor (workers : ℕ) (placed : List Batch) (input : Input) (output : OutFrame) : Type 0 where

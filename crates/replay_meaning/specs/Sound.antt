@@ -2,8 +2,9 @@
 use Rattle.std.specs.Prelude.{◌≡◌, List, ◌++◌}
 use Rattle.std.specs.List.{All}
 use Rattle.std.specs.Option.{option_map, option_to_list}
-use Rattle.dnswire.specs.PlainQuery.{IsPlainQuery}
+use Rattle.dnswire.specs.Query.{IsReadAs}
 use Rattle.dnswire.specs.declared.question.Question.{Question}
+use Rattle.dnswire.specs.declared.query_read.QueryRead.TheVariants.{Query}
 use Rattle.denial_records.specs.declared.set_rec.SetRec.{SetRec}
 use Rattle.denial_records.specs.declared.nsec_rec.NsecRec.{NsecRec}
 use Rattle.denial_records.specs.declared.record.Record.{Record}
@@ -40,7 +41,7 @@ used_in proof = option_to_list (option_map Set proof.answer) ++ (option_to_list 
 -- name (RFC 1034, section 4.3.2).
 pub record SaysTrue (input : Input) (output : OutFrame) : Type 0 where
   pub question : Question
-  pub asks : IsPlainQuery input.message question
+  pub asks : IsReadAs input.message (Query question)
   pub proof : Proof
   pub written : output.body ≡ reply_octets question (finding_of input.now proof)
   pub true_of : (zone : Zone) → IsZone zone → All (IsTrueOf zone) (used_in proof) → LooksUp zone question.name question.qtype NoData

@@ -8,8 +8,8 @@ ghost use Rattle.cache_meaning.specs.Proof.{ttl_of};
 ghost use Rattle.replay_meaning.specs.Sound.{IsTrueOf, used_in};
 ghost use Rattle.replay_meaning.specs.StoredRun.{stored_batch, stored_proof};
 
-/// The records of the program's stored run prove that a.example has no TXT record, and there is a zone of which they are
-/// true.
+/// Records with the values of the program's stored run, written out by hand, prove that a.example has no TXT record, and
+/// there is a zone of which they are true.
 pub fn the_stored_run_has_a_zone()
     ensures proof { outcome_of (held_of (stored_batch ∷ [])) 1000000010 a_example txt_type internet_class ≡ Some stored_proof }
     ensures ttl { ttl_of 1000000010 stored_proof ≡ 300 }

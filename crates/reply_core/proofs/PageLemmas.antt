@@ -3,7 +3,7 @@ use Rattle.std.proofs.Common.{◌≡◌, ℕ, ◌+◌, ◌<◌, ◌≤◌, true,
 use Rattle.std.specs.List.{fold}
 use Rattle.std.proofs.lemmas.List.Sums.{fold-append}
 use Rattle.std.proofs.lemmas.Bool.Decides.{nat_tests, leb_tells}
-use Rattle.reply_core.specs.Page.{Sheet, within, put_octet, put, blank}
+use Rattle.reply_core.specs.Page.{Sheet, within, put_octet, put, blank, octets_on}
 
 pub put-put : (sheet : Sheet) (first second : List ℕ) → put (put sheet first) second ≡ put sheet (first ++ second)
 unfolding put
@@ -59,6 +59,10 @@ put-beyond limit written octets h beyond = rw (some-put limit written octets h, 
 pub put-blank : (limit : ℕ) (octets : List ℕ) → put (blank limit) octets ≡ record { limit = limit; written = within limit octets }
 unfolding put
 put-blank limit octets = rw (some-put limit [] octets (omega arith)) refl
+
+-- what a blank sheet took stands on it
+pub blank-has : (limit : ℕ) (octets : List ℕ) (sheet : Sheet) → sheet ≡ put (blank limit) octets → length octets ≤ limit → octets_on sheet.written ≡ octets
+blank-has limit octets sheet is small = ap (λ s. octets_on s.written) (is ∙ put-blank limit octets) ∙ ap octets_on (fits limit octets small)
 
 put-lost-at : (limit : ℕ) (written : Option (List ℕ)) (octets : List ℕ) → is_none written ≡ true → put (record { limit = limit; written = written }) octets ≡ record { limit = limit; written = written }
 put-lost-at limit None octets none = put-over limit octets

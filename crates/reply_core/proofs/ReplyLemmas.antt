@@ -1,14 +1,12 @@
 -- A reply is whole within the limit, and else cut.
-use Rattle.std.proofs.Common.{◌≡◌, ℕ, ◌≤◌, Bool, true, false, List, ◌++◌, length, Some, None, is_none, inl, inr, refl, ◌∙◌, ap}
+use Rattle.std.proofs.Common.{◌≡◌, ℕ, ◌≤◌, true, false, List, ◌++◌, length, Some, None, is_none, inl, inr, refl, ◌∙◌, ap}
 use Rattle.std.specs.Prelude.{nat_le, if◌then◌else◌}
 use Rattle.std.specs.List.{flat_map}
 use Rattle.std.proofs.lemmas.Bool.Decides.{leb_tells}
 use Rattle.byteorder.specs.Endian.{big_bytes}
-use Rattle.denial_records.specs.declared.verdict.Kind.{Kind}
-use Rattle.dnswire.specs.declared.question.Question.{Question}
 use Rattle.reply_core.specs.Count.{count16}
 use Rattle.reply_core.specs.Page.{Sheet, within, put, blank}
-use Rattle.reply_core.specs.Reply.{ReplyRecord, record_octets, header_octets, flags_of, opt_count}
+use Rattle.reply_core.specs.Reply.{ReplyRecord, record_octets, header_octets}
 use Rattle.reply_core.proofs.PageLemmas.{put-put, put-blank, fits}
 use Rattle.reply_core.proofs.RecordLemmas.{put-records}
 use Rattle.reply_core.proofs.CountLemmas.{big_bytes-low16}
@@ -44,15 +42,15 @@ either-within limit whole cut small =
     elim (leb_tells (length whole) limit) [ inl whole_fits ↦ rw whole_fits.0 whole_fits.1 | inr too_long ↦ rw too_long.0 small ]
 
 -- a header with these octets as numbers of records
-abbrev header_with : Question → Kind → Bool → List ℕ → List ℕ → List ℕ
-header_with question kind cut answers authorities =
-    big_bytes 2 question.id ++ big_bytes 2 (flags_of question kind cut) ++ big_bytes 2 1 ++ answers ++ authorities ++ big_bytes 2 (opt_count question.edns)
+abbrev header_with : ℕ → ℕ → ℕ → ℕ → List ℕ → List ℕ → List ℕ
+header_with id flags questions additionals answers authorities =
+    big_bytes 2 id ++ big_bytes 2 flags ++ big_bytes 2 questions ++ answers ++ authorities ++ big_bytes 2 additionals
 
 -- a header has the numbers of records by their low 16 bits
-pub header-counts : {T : Type 0} (question : Question) (kind : Kind) (cut : Bool) (answers authorities : List T) → header_octets question kind cut (count16 answers) (count16 authorities) ≡ header_octets question kind cut (length answers) (length authorities)
-header-counts question kind cut answers authorities =
-    ap (λ n. header_with question kind cut n (big_bytes 2 (count16 authorities))) (big_bytes-low16 (length answers))
-    ∙ ap (header_with question kind cut (big_bytes 2 (length answers))) (big_bytes-low16 (length authorities))
+pub header-counts : {T : Type 0} (id flags questions additionals : ℕ) (answers authorities : List T) → header_octets id flags questions (count16 answers) (count16 authorities) additionals ≡ header_octets id flags questions (length answers) (length authorities) additionals
+header-counts id flags questions additionals answers authorities =
+    ap (λ n. header_with id flags questions additionals n (big_bytes 2 (count16 authorities))) (big_bytes-low16 (length answers))
+    ∙ ap (header_with id flags questions additionals (big_bytes 2 (length answers))) (big_bytes-low16 (length authorities))
 
 pub put-parts : (ttl : ℕ) (sheet : Sheet) (head asked opt : List ℕ) (answers authorities : List ReplyRecord)
     → put (put (put (put (put sheet head) asked) (flat_map (record_octets ttl) answers)) (flat_map (record_octets ttl) authorities)) opt

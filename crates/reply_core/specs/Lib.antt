@@ -1,4 +1,5 @@
 pub mod Count
+pub mod Error
 pub mod Owner
 pub mod Page
 pub mod Reply

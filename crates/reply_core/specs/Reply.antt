@@ -1,9 +1,10 @@
 -- The octets of a reply, in the order of RFC 1035, section 4.1. Numbers are big-endian.
-use Rattle.std.specs.Prelude.{ℕ, ◌+◌, Bool, true, false, ◌||◌, if◌then◌else◌, nat_le, min, max, List, [], ◌++◌, length, map, Option, Some, None}
+use Rattle.std.specs.Prelude.{ℕ, ◌+◌, ◌*◌, Bool, true, false, ◌||◌, if◌then◌else◌, nat_le, min, max, List, [], ◌++◌, length, map, Option, Some, None}
 use Rattle.std.specs.List.{flat_map}
 use Rattle.byteorder.specs.Endian.{big_bytes}
 use Rattle.dname.specs.Name.{Label, wire_of}
 use Rattle.dnswire.specs.declared.edns.Edns.{Edns}
+use Rattle.dnswire.specs.declared.head.Head.{Head}
 use Rattle.dnswire.specs.declared.question.Question.{Question}
 use Rattle.denial_records.specs.declared.verdict.Kind.{Kind}
 use Rattle.denial_records.specs.declared.verdict.Kind.TheVariants.{Answer, NoData, NxDomain}
@@ -28,12 +29,20 @@ rcode_of NxDomain = 3
 rcode_of NoData = 0
 rcode_of Answer = 0
 
--- QR and RA are set, opcode, AA and Z zero; TC where the reply is cut; RD and CD are the query's; AD where the query
--- had AD or DO (RFC 1035, section 4.1.1; RFC 4035, sections 3.1.6 and 3.2.3; RFC 6840, section 5.8)
-abbrev pub flags_of : Question → Kind → Bool → ℕ
-flags_of question kind cut =
-    0x8080 + flag cut 0x200 + flag question.rd 0x100 + flag (question.ad || wants_dnssec question) 0x20 + flag question.cd 0x10
-    + rcode_of kind
+-- what a reply takes over from the header of a question's query, whose opcode is 0
+abbrev pub head_of : Question → Head
+head_of question = record { id = question.id; opcode = 0; rd = question.rd; cd = question.cd }
+
+-- QR and RA are set; AA, TC, Z and AD zero; opcode, RD and CD are the query's (RFC 1035, section 4.1.1; RFC 4035,
+-- section 3.2.2)
+abbrev pub flags_of : Head → ℕ → ℕ
+flags_of head rcode = 0x8080 + head.opcode * 0x800 + flag head.rd 0x100 + flag head.cd 0x10 + rcode
+
+-- those flags, with TC where the reply is cut, and AD where the query had AD or DO (RFC 4035, sections 3.1.6 and 3.2.3;
+-- RFC 6840, section 5.8)
+abbrev pub reply_flags : Question → Kind → Bool → ℕ
+reply_flags question kind cut =
+    flags_of (head_of question) (rcode_of kind) + flag cut 0x200 + flag (question.ad || wants_dnssec question) 0x20
 
 -- the number of OPT records, which is that of the query (RFC 6891, section 6.1.1)
 abbrev pub opt_count : Option Edns → ℕ
@@ -41,10 +50,10 @@ opt_count None = 0
 opt_count (Some edns) = 1
 
 -- ID, flags, and the numbers of questions and of the records of the three sections (RFC 1035, section 4.1.1)
-abbrev pub header_octets : Question → Kind → Bool → ℕ → ℕ → List ℕ
-header_octets question kind cut answers authorities =
-    big_bytes 2 question.id ++ big_bytes 2 (flags_of question kind cut)
-    ++ big_bytes 2 1 ++ big_bytes 2 answers ++ big_bytes 2 authorities ++ big_bytes 2 (opt_count question.edns)
+abbrev pub header_octets : ℕ → ℕ → ℕ → ℕ → ℕ → ℕ → List ℕ
+header_octets id flags questions answers authorities additionals =
+    big_bytes 2 id ++ big_bytes 2 flags
+    ++ big_bytes 2 questions ++ big_bytes 2 answers ++ big_bytes 2 authorities ++ big_bytes 2 additionals
 
 -- a record but for its class and TTL
 pub record ReplyRecord : Type 0 where
@@ -84,25 +93,31 @@ authority_records question finding =
     flat_map (λ set. set_records (wants_dnssec question) set.owner set) finding.soa
     ++ flat_map (proof_records (wants_dnssec question)) finding.denials
 
--- root owner, type OPT, 1232 octets of payload; extended RCODE 0, version 0, DO as the query had it; no data
--- (RFC 6891, section 6.1)
-abbrev pub opt_octets : Option Edns → List ℕ
-opt_octets None = []
-opt_octets (Some edns) =
-    wire_of [] ++ big_bytes 2 41 ++ big_bytes 2 1232 ++ big_bytes 2 0 ++ big_bytes 2 (flag edns.dnssec 0x8000) ++ big_bytes 2 0
+-- root owner, type OPT, 1232 octets of payload; the upper bits of the RCODE, version 0, DO as the query had it; no data
+-- (RFC 6891, sections 6.1.2 to 6.1.4)
+abbrev pub opt_octets : ℕ → Option Edns → List ℕ
+opt_octets upper None = []
+opt_octets upper (Some edns) =
+    wire_of [] ++ big_bytes 2 41 ++ big_bytes 2 1232
+    ++ big_bytes 1 upper ++ big_bytes 1 0 ++ big_bytes 2 (flag edns.dnssec 0x8000) ++ big_bytes 2 0
 
 -- the reply with all its records
 abbrev pub whole_octets : Question → Finding → List ℕ
 whole_octets question finding =
-    header_octets question finding.kind false (length (answer_records question finding)) (length (authority_records question finding))
+    header_octets question.id (reply_flags question finding.kind false) 1 (length (answer_records question finding))
+    (length (authority_records question finding)) (opt_count question.edns)
     ++ question.asked.items
     ++ flat_map (record_octets finding.ttl) (answer_records question finding ++ authority_records question finding)
-    ++ opt_octets question.edns
+    ++ opt_octets 0 question.edns
+
+-- a reply without records but OPT, with these flags and upper bits of the RCODE
+abbrev pub bare_octets : Question → ℕ → ℕ → List ℕ
+bare_octets question flags upper =
+    header_octets question.id flags 1 0 0 (opt_count question.edns) ++ question.asked.items ++ opt_octets upper question.edns
 
 -- the reply without records but OPT, and with TC (RFC 2181, section 9)
 abbrev pub cut_octets : Question → Finding → List ℕ
-cut_octets question finding =
-    header_octets question finding.kind true 0 0 ++ question.asked.items ++ opt_octets question.edns
+cut_octets question finding = bare_octets question (reply_flags question finding.kind true) 0
 
 -- the octets that a reply has at most: 512 without OPT (RFC 1035, section 4.2.1); else what the client takes, of which
 -- less than 512 counts as 512 (RFC 6891, section 6.2.3), and no more than 1232

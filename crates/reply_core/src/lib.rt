@@ -2,6 +2,7 @@
 #![tactic(auto)]
 
 mod counts;
+mod error;
 mod header;
 mod numbers;
 mod owner;
@@ -10,5 +11,6 @@ mod records;
 mod reply;
 mod reply_buffer;
 
+pub use error::{write_error, write_plain};
 pub use reply::write_reply;
 pub use reply_buffer::ReplyBuffer;

@@ -67,6 +67,12 @@ impl Page {
         prove!(fitted);
     }
 
+    pub(crate) fn put_u8(&mut self, number: u8)
+        ensures { self.new ≡ put self.old (big_bytes 1 number) }
+    {
+        self.put(&number.to_be_bytes());
+    }
+
     pub(crate) fn put_u16(&mut self, number: u16)
         ensures { self.new ≡ put self.old (big_bytes 2 number) }
     {

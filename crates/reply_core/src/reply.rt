@@ -2,12 +2,14 @@ ghost use Rattle.std.specs.Prelude.{◌≡◌, ◌≤◌, ◌++◌, length, true
 ghost use Rattle.std.specs.List.{flat_map};
 ghost use Rattle.reply_core.specs.Count.{count16};
 ghost use Rattle.reply_core.specs.Page.{put};
-ghost use Rattle.reply_core.specs.Reply.{record_octets, header_octets, answer_records, authority_records, opt_octets, whole_octets, cut_octets, reply_octets, limit_of};
+ghost use Rattle.reply_core.specs.Reply.{record_octets, reply_flags, answer_records, authority_records, whole_octets, cut_octets, reply_octets, limit_of};
 ghost use Rattle.reply_core.specs.View.{view_of};
 
 use crate::ReplyBuffer;
 use crate::counts::{count_denial, count_set};
-use crate::header::{put_header, put_opt, put_question, wants_dnssec};
+use crate::header::{
+    opt_count, put_bare, put_header, put_opt, put_question, reply_flags, wants_dnssec,
+};
 use crate::page::Page;
 use crate::records::{put_answer, put_denial, put_soa};
 use denial_records::Verdict;
@@ -40,20 +42,21 @@ fn put_whole(page: &mut Page, question: &Question, verdict: &Verdict<'_>)
 {
     let answers = count_answers(question, verdict);
     let authorities = count_authorities(question, verdict);
-    put_header(page, question, verdict.kind, false, answers, authorities);
+    let flags = reply_flags(question, verdict.kind, false);
+    let opts = opt_count(question.edns);
+    put_header(page, question.id, flags, 1, answers, authorities, opts);
     put_question(page, question);
     put_answers(page, question, verdict);
     put_authorities(page, question, verdict);
-    put_opt(page, question.edns);
+    put_opt(page, 0, question.edns);
 }
 
 fn put_cut(page: &mut Page, question: &Question, verdict: &Verdict<'_>)
     ensures value { page.new ≡ put page.old (cut_octets question.now (view_of verdict.now)) }
     ensures small { length (cut_octets question.now (view_of verdict.now)) ≤ 512 }
 {
-    put_header(page, question, verdict.kind, true, 0, 0);
-    put_question(page, question);
-    put_opt(page, question.edns);
+    let flags = reply_flags(question, verdict.kind, true);
+    put_bare(page, question, flags, 0);
 }
 
 fn put_answers(page: &mut Page, question: &Question, verdict: &Verdict<'_>)

@@ -1,4 +1,4 @@
-ghost use Rattle.std.specs.Prelude.{Some};
+ghost use Rattle.std.specs.Prelude.{Some, None};
 
 use super::*;
 use outside_core::{Failed, MemorySink, MemorySource};
@@ -22,7 +22,7 @@ fn words_of(alloc: Global, text: &str) -> Result<Vec<String>, Fail> {
 }
 
 // How a replay of the input ends, and what it writes, where the calls with these numbers fail.
-fn replayed(
+pub(super) fn replayed(
     alloc: Global,
     input: &[u8],
     failing_reads: &[u32],
@@ -49,6 +49,8 @@ fn queries_are_forwarded(rt: HostRuntime) -> Result<(), Fail> {
     upstream[0] = 2;
     let mut other_worker = Vec::from_slice(alloc, &QUERY)?;
     other_worker[1] = 1;
+    let mut other_kind = Vec::from_slice(alloc, &QUERY)?;
+    other_kind[0] = 3;
 
     for (name, input, failing_reads, failing_writes, status, frames) in [
         (
@@ -104,7 +106,7 @@ fn queries_are_forwarded(rt: HostRuntime) -> Result<(), Fail> {
             cut.as_slice(),
             [].as_slice(),
             [].as_slice(),
-            Status::NotBuilt,
+            Status::BadFrame,
             0,
         ),
         (
@@ -116,11 +118,19 @@ fn queries_are_forwarded(rt: HostRuntime) -> Result<(), Fail> {
             0,
         ),
         (
+            "a frame of another kind",
+            other_kind.as_slice(),
+            [].as_slice(),
+            [].as_slice(),
+            Status::BadFrame,
+            0,
+        ),
+        (
             "another worker",
             other_worker.as_slice(),
             [].as_slice(),
             [].as_slice(),
-            Status::NotBuilt,
+            Status::BadFrame,
             0,
         ),
     ] {
@@ -153,6 +163,47 @@ fn other_words_are_refused(rt: HostRuntime) -> Result<(), Fail> {
             run(alloc, &words, &mut source, &mut sink),
             Status::Usage,
             "{text}"
+        );
+        assert!(rt; sink.written().is_empty());
+    }
+    Ok(())
+}
+
+// Gives so many zeros, and tells nothing.
+#[derive(Debug, Drop)]
+struct Zeros {
+    left: usize,
+}
+
+impl Source for Zeros {
+    ghost taken = { λ _. None };
+
+    ghost left = { λ _. None };
+
+    ghost faults = { λ _. 0 };
+
+    fn read(&mut self, into: &mut [u8]) -> Result<usize, Failed> {
+        let count = self.left.min(into.len());
+        self.left -= count;
+        Ok(count)
+    }
+}
+
+#[test]
+fn an_input_may_be_too_long(rt: HostRuntime) -> Result<(), Fail> {
+    let alloc = rt.alloc();
+    let words = words_of(alloc, "replay --workers 1")?;
+    for (left, status) in [
+        (67_108_864, Status::BadFrame),
+        (67_108_865, Status::InputTooLong),
+        (67_108_866, Status::InputTooLong),
+    ] {
+        let mut source = Zeros { left };
+        let mut sink = MemorySink::with_room(alloc, 8, Vec::new(alloc))?;
+        assert_eq!(rt;
+            run(alloc, &words, &mut source, &mut sink),
+            status,
+            "{left}"
         );
         assert!(rt; sink.written().is_empty());
     }
@@ -228,7 +279,7 @@ const DENIED: &[u8] = b"\
 const BEHIND_REPLY_TTL: &[u8] = b"\
     \x00\x16\x00\x00\x00\x00\x00\x01\x00\x00\x0e\x10\x00\x00\x02X\x00\x01Q\x80\x00\x00\x01,";
 
-fn joined(alloc: Global, parts: &[&[u8]]) -> Result<Vec<u8>, Fail> {
+pub(super) fn joined(alloc: Global, parts: &[&[u8]]) -> Result<Vec<u8>, Fail> {
     let mut octets = Vec::new(alloc);
     for part in parts {
         octets.extend_from_slice(part)?;

@@ -43,6 +43,8 @@ const NSEC_RECORD: &[u8] =
 const NSEC_RRSIG: &[u8] =
     b"\x01a\x07example\0\0\x2e\0\x01\0\0\x01\x2c\0\x1f\0\x2f\x0d\x02\0\0\x0e\x10\x77\x35\x94\0\x35\xa4\xe9\0\0\x01\x07example\0ZZZZ";
 
+const OPT: &[u8] = b"\0\0\x29\x04\xd0\0\0\0\0\0\0";
+
 const OPT_WITH_DO: &[u8] = b"\0\0\x29\x04\xd0\0\0\x80\0\0\0";
 
 fn name(octets: &[u8]) -> Name {
@@ -106,6 +108,22 @@ fn joined(alloc: Global, parts: &[&[u8]]) -> Result<Vec<u8>, OutOfMemory> {
     Ok(octets)
 }
 
+// The reply of one TXT record at the apex, with this data.
+fn whole_reply(alloc: Global, data: &[u8], with_opt: bool) -> Result<Vec<u8>, OutOfMemory> {
+    let size = [(data.len() / 256 % 256) as u8, (data.len() % 256) as u8];
+    let mut octets = Vec::new(alloc);
+    octets.extend_from_slice(b"\x12\x34\x81\x80\0\x01\0\x01\0\0\0")?;
+    octets.push(u8::from(with_opt))?;
+    octets.extend_from_slice(ASKED_AT_APEX)?;
+    octets.extend_from_slice(b"\x07example\0\0\x10\0\x01\0\0\x01\x2c")?;
+    octets.extend_from_slice(&size)?;
+    octets.extend_from_slice(data)?;
+    if with_opt {
+        octets.extend_from_slice(OPT)?;
+    }
+    Ok(octets)
+}
+
 #[test]
 fn the_soa_alone(rt: HostRuntime) -> Result<(), Fail> {
     let soa = set(rt.alloc(), 6, SOA, SOA_SIGNATURE)?;
@@ -159,16 +177,14 @@ fn the_proof_of_no_data(rt: HostRuntime) -> Result<(), Fail> {
         image: Octets::of(rt.alloc(), NSEC)?,
         signatures: list(rt.alloc(), NSEC_SIGNATURE)?,
     };
-    let edns = Edns {
+    let verdict = verdict(Kind::NoData, Some(&soa), Some(Denial::Nsec(&nsec)));
+    let mut out = ReplyBuffer::new();
+
+    let with_do = Edns {
         size: 1232,
         dnssec: true,
     };
-    let mut out = ReplyBuffer::new();
-    write_reply(
-        &question(ASKED, Some(edns)),
-        &verdict(Kind::NoData, Some(&soa), Some(Denial::Nsec(&nsec))),
-        &mut out,
-    );
+    write_reply(&question(ASKED, Some(with_do)), &verdict, &mut out);
     let head = b"\x12\x34\x81\xa0\0\x01\0\0\0\x04\0\x01".as_slice();
     let wanted = joined(
         rt.alloc(),
@@ -183,6 +199,16 @@ fn the_proof_of_no_data(rt: HostRuntime) -> Result<(), Fail> {
         ],
     )?;
     assert_eq!(rt; wanted.len(), 221);
+    assert_eq!(rt; out.as_slice(), wanted.as_slice());
+
+    // without DO the SOA record alone
+    let without_do = Edns {
+        size: 1232,
+        dnssec: false,
+    };
+    write_reply(&question(ASKED, Some(without_do)), &verdict, &mut out);
+    let head = b"\x12\x34\x81\x80\0\x01\0\0\0\x01\0\x01".as_slice();
+    let wanted = joined(rt.alloc(), &[head, ASKED, SOA_RECORD, OPT])?;
     assert_eq!(rt; out.as_slice(), wanted.as_slice());
     Ok(())
 }
@@ -224,6 +250,32 @@ fn the_owner_of_an_nsec3_record(rt: HostRuntime) -> Result<(), Fail> {
     Ok(())
 }
 
+// An answer's owner is the question's name in lower case; the question keeps its capitals.
+#[test]
+fn the_owner_of_an_answer(rt: HostRuntime) -> Result<(), Fail> {
+    let answer = set(rt.alloc(), 16, b"\x02hi", b"signature")?;
+    let mut verdict = verdict(Kind::Answer, None, None);
+    verdict.answer_set = Some(&answer);
+    let record = b"\x01a\x07example\0\0\x10\0\x01\0\0\x01\x2c\0\x03\x02hi".as_slice();
+    let rrsig = b"\x01a\x07example\0\0\x2e\0\x01\0\0\x01\x2c\0\x09signature".as_slice();
+    let mut out = ReplyBuffer::new();
+
+    let with_do = Edns {
+        size: 1232,
+        dnssec: true,
+    };
+    write_reply(&question(ASKED, Some(with_do)), &verdict, &mut out);
+    let head = b"\x12\x34\x81\xa0\0\x01\0\x02\0\0\0\x01".as_slice();
+    let wanted = joined(rt.alloc(), &[head, ASKED, record, rrsig, OPT_WITH_DO])?;
+    assert_eq!(rt; out.as_slice(), wanted.as_slice());
+
+    write_reply(&question(ASKED, None), &verdict, &mut out);
+    let head = b"\x12\x34\x81\x80\0\x01\0\x01\0\0\0\0".as_slice();
+    let wanted = joined(rt.alloc(), &[head, ASKED, record])?;
+    assert_eq!(rt; out.as_slice(), wanted.as_slice());
+    Ok(())
+}
+
 #[test]
 fn a_reply_over_the_limit_is_cut(rt: HostRuntime) -> Result<(), Fail> {
     let cut_alone = b"\x12\x34\x83\x80\0\x01\0\0\0\0\0\0\x07example\0\0\x10\0\x01".as_slice();
@@ -259,11 +311,28 @@ fn a_reply_over_the_limit_is_cut(rt: HostRuntime) -> Result<(), Fail> {
         verdict.answer_set = Some(&answer);
         write_reply(&question(ASKED_AT_APEX, edns), &verdict, &mut out);
         assert_eq!(rt; out.as_slice().len(), length, "{size:?} {data}");
-        match (length, size) {
-            (25, _) => assert_eq!(rt; out.as_slice(), cut_alone),
-            (36, _) => assert_eq!(rt; out.as_slice(), cut_with_opt),
-            _ => assert!(rt; out.as_slice().starts_with(b"\x12\x34\x81\x80")),
+        let whole = whole_reply(rt.alloc(), &item, size.is_some())?;
+        match length {
+            25 => assert_eq!(rt; out.as_slice(), cut_alone),
+            36 => assert_eq!(rt; out.as_slice(), cut_with_opt),
+            _ => assert_eq!(rt; out.as_slice(), whole.as_slice()),
         }
     }
+    Ok(())
+}
+
+#[test]
+fn a_cut_reply_keeps_its_rcode(rt: HostRuntime) -> Result<(), Fail> {
+    let mut item = Vec::new(rt.alloc());
+    item.resize(1300, 0)?;
+    let soa = set(rt.alloc(), 6, &item, b"")?;
+    let mut out = ReplyBuffer::new();
+    write_reply(
+        &question(ASKED_AT_APEX, None),
+        &verdict(Kind::NxDomain, Some(&soa), None),
+        &mut out,
+    );
+    let wanted = b"\x12\x34\x83\x83\0\x01\0\0\0\0\0\0\x07example\0\0\x10\0\x01".as_slice();
+    assert_eq!(rt; out.as_slice(), wanted);
     Ok(())
 }

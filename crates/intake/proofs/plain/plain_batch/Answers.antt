@@ -23,7 +23,7 @@ held c =
     c.in_ok-push-2.ensures.ok ∙ ap (λ (rs : List Record). rs ++ Nsec c.in-Some-2.nsec ∷ []) one
 
 made : (c : goal.In_ok-push-2) → BringsPlain c.args.message.now c.args.now record { now = c.args.now; records = c.push-2.new.self }
-made c = rw (held c) (brings_plain c.args.message.now c.args.now c.requires c.get.result.now c.get-2.result.now c.get-3.result.now c.get-4.result.now c.in-Some.soa c.in-Some-2.nsec
+made c = rw (held c) (brings_plain c.args.message.now c.args.now (c.is_plain.ensures.0 c.if-not-is_plain.false) c.get.result.now c.get-2.result.now c.get-3.result.now c.get-4.result.now c.in-Some.soa c.in-Some-2.nsec
     record { first = c.get.ensures; second = c.get-2.ensures; third = c.get-3.ensures; fourth = c.get-4.ensures }
     (rw c.in-Some.is at c.in_ok-soa.ensures.stored)
     (rw c.in-Some-2.is at c.in_ok-nsec.ensures.stored))

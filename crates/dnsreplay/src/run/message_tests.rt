@@ -1,0 +1,232 @@
+use super::tests::{joined, replayed};
+use crate::status::Status;
+use std::alloc::Global;
+use std::test::Fail;
+
+// A query for a.example TXT with DO, at 1,000,000,010 seconds.
+const DNSSEC_QUERY: &[u8] = b"\
+    \x01\x00;\x9a\xca\x0a\x00\x26\
+    \x124\x01\x00\x00\x01\x00\x00\x00\x00\x00\x01\
+    \x01a\x07example\x00\x00\x10\x00\x01\
+    \x00\x00)\x04\xd0\x00\x00\x80\x00\x00\x00";
+
+// The SOA and the NSEC of the stored answer, each with its RRSIG, up to and from their TTLs.
+const RECORDS: [(&[u8], &[u8]); 4] = [
+    (
+        b"\x07example\x00\x00\x06\x00\x01",
+        b"\x00\x16\x00\x00\x00\x00\x00\x01\x00\x00\x0e\x10\x00\x00\x02X\x00\x01Q\x80\x00\x00\x01,",
+    ),
+    (
+        b"\x07example\x00\x00.\x00\x01",
+        b"\x00\x1f\x00\x06\x0d\x01\x00\x00\x0e\x10w5\x94\x005\xa4\xe9\x00\x00\x01\x07example\x00ZZZZ",
+    ),
+    (
+        b"\x01a\x07example\x00\x00/\x00\x01",
+        b"\x00\x13\x01b\x07example\x00\x00\x06@\x00\x00\x00\x00\x03",
+    ),
+    (
+        b"\x01a\x07example\x00\x00.\x00\x01",
+        b"\x00\x1f\x00/\x0d\x02\x00\x00\x0e\x10w5\x94\x005\xa4\xe9\x00\x00\x01\x07example\x00ZZZZ",
+    ),
+];
+
+// The records with this TTL.
+fn records(alloc: Global, ttl: u32) -> Result<Vec<u8>, Fail> {
+    let mut octets = Vec::new(alloc);
+    for (front, back) in RECORDS {
+        octets.extend_from_slice(front)?;
+        octets.extend_from_slice(&ttl.to_be_bytes())?;
+        octets.extend_from_slice(back)?;
+    }
+    Ok(octets)
+}
+
+// That answer as it is sent without compression, at 1,000,000,000 seconds.
+fn stored_answer(alloc: Global) -> Result<Vec<u8>, Fail> {
+    let records = records(alloc, 3600)?;
+    joined(
+        alloc,
+        &[
+            b"\x02\x00;\x9a\xca\x00\x00\xd2",
+            b"\x00\x01\x81\xa0\x00\x01\x00\x00\x00\x04\x00\x00",
+            b"\x01a\x07example\x00\x00\x10\x00\x01",
+            &records,
+        ],
+    )
+}
+
+// The reply to the query with DO, of 221 octets, for version 1.
+fn dnssec_reply(alloc: Global) -> Result<Vec<u8>, Fail> {
+    let records = records(alloc, 300)?;
+    joined(
+        alloc,
+        &[
+            b"\x01\x00\x00\x00\x00\x01\x00\xdd",
+            b"\x124\x81\xa0\x00\x01\x00\x00\x00\x04\x00\x01",
+            b"\x01a\x07example\x00\x00\x10\x00\x01",
+            &records,
+            b"\x00\x00)\x04\xd0\x00\x00\x80\x00\x00\x00",
+        ],
+    )
+}
+
+const STORED: &[u8] = b"\x03\x00\x00\x00\x00\x01\x00\x04\x00\x02\x00\x00";
+
+#[test]
+fn a_client_with_do_gets_the_proof(rt: HostRuntime) -> Result<(), Fail> {
+    let alloc = rt.alloc();
+    let answer = stored_answer(alloc)?;
+    let reply = dnssec_reply(alloc)?;
+    let input = joined(alloc, &[&answer, DNSSEC_QUERY])?;
+    let expected = joined(alloc, &[STORED, &reply])?;
+    let (ended, written) = replayed(alloc, &input, &[], &[])?;
+    assert_eq!(rt; ended, Status::Good);
+    assert_eq!(rt; written.as_slice(), expected.as_slice());
+    Ok(())
+}
+
+// The stored answer with its owner names and the RRSIGs' signers as pointers, and an octet behind it.
+const COMPRESSED_ANSWER: &[u8] = b"\
+    \x02\x00;\x9a\xca\x00\x00\x9e\
+    \x00\x01\x81\xa0\x00\x01\x00\x00\x00\x04\x00\x00\
+    \x01a\x07example\x00\x00\x10\x00\x01\
+    \xc0\x0e\x00\x06\x00\x01\x00\x00\x0e\x10\x00\x16\x00\x00\x00\x00\x00\x01\x00\x00\x0e\x10\x00\x00\x02X\x00\x01Q\x80\x00\x00\x01,\
+    \xc0\x0e\x00.\x00\x01\x00\x00\x0e\x10\x00\x18\x00\x06\x0d\x01\x00\x00\x0e\x10w5\x94\x005\xa4\xe9\x00\x00\x01\xc0\x0eZZZZ\
+    \xc0\x0c\x00/\x00\x01\x00\x00\x0e\x10\x00\x0c\x01b\xc0\x0e\x00\x06@\x00\x00\x00\x00\x03\
+    \xc0\x0c\x00.\x00\x01\x00\x00\x0e\x10\x00\x18\x00/\x0d\x02\x00\x00\x0e\x10w5\x94\x005\xa4\xe9\x00\x00\x01\xc0\x0eZZZZ\
+    \xff";
+
+#[test]
+fn a_compressed_answer_is_stored_written_out(rt: HostRuntime) -> Result<(), Fail> {
+    let alloc = rt.alloc();
+    let input = joined(alloc, &[COMPRESSED_ANSWER, DNSSEC_QUERY])?;
+    let reply = dnssec_reply(alloc)?;
+    let expected = joined(alloc, &[STORED, &reply])?;
+    let (ended, written) = replayed(alloc, &input, &[], &[])?;
+    assert_eq!(rt; ended, Status::Good);
+    assert_eq!(rt; written.as_slice(), expected.as_slice());
+    Ok(())
+}
+
+// A frame, and the frame that its own octets give: refused upstream answers, faulty queries, and such as get no reply.
+const TOLD: [(&[u8], &[u8]); 9] = [
+    // An upstream answer of no octets; a pointer to itself in the question's name; the end within the question.
+    (
+        b"\x02\x00;\x9a\xca\x00\x00\x00",
+        b"\x04\x00\x00\x00\x00\x00\x00\x01\x01",
+    ),
+    (
+        b"\x02\x00;\x9a\xca\x00\x00\x14\x00\x01\x81\xa0\x00\x01\x00\x00\x00\x00\x00\x00\x01a\xc0\x0c\x00\x10\x00\x01",
+        b"\x04\x00\x00\x00\x00\x00\x00\x01\x01",
+    ),
+    (
+        b"\x02\x00;\x9a\xca\x00\x00\x0f\x00\x01\x81\xa0\x00\x01\x00\x00\x00\x00\x00\x00\x00\x00\x10",
+        b"\x04\x00\x00\x00\x00\x00\x00\x01\x01",
+    ),
+    // No question; another opcode; a response; eleven octets.
+    (
+        b"\x01\x00\x00\x00\x00\x00\x00\x0c\xab\xcd\x01\x00\x00\x00\x00\x00\x00\x00\x00\x00",
+        b"\x06\x00\x00\x00\x00\x00\x00\x0c\xab\xcd\x81\x81\x00\x00\x00\x00\x00\x00\x00\x00",
+    ),
+    (
+        b"\x01\x00\x00\x00\x00\x00\x00\x0c\xab\xcd\x21\x00\x00\x00\x00\x00\x00\x00\x00\x00",
+        b"\x06\x00\x00\x00\x00\x00\x00\x0c\xab\xcd\xa1\x84\x00\x00\x00\x00\x00\x00\x00\x00",
+    ),
+    (
+        b"\x01\x00\x00\x00\x00\x00\x00\x0c\xab\xcd\x81\x00\x00\x00\x00\x00\x00\x00\x00\x00",
+        b"\x05\x00\x00\x00\x00\x00\x00\x00",
+    ),
+    (
+        b"\x01\x00\x00\x00\x00\x00\x00\x0b\xab\xcd\x01\x00\x00\x00\x00\x00\x00\x00\x00",
+        b"\x05\x00\x00\x00\x00\x00\x00\x00",
+    ),
+    // An OPT record of version 1.
+    (
+        b"\x01\x00\x00\x00\x00\x00\x00\x24\x124\x01\x00\x00\x01\x00\x00\x00\x00\x00\x01\x07example\x00\x00\x01\x00\x01\x00\x00)\x04\xd0\x00\x01\x00\x00\x00\x00",
+        b"\x06\x00\x00\x00\x00\x00\x00\x24\x124\x81\x80\x00\x01\x00\x00\x00\x00\x00\x01\x07example\x00\x00\x01\x00\x01\x00\x00)\x04\xd0\x01\x00\x00\x00\x00\x00",
+    ),
+    // A question with an OPT record of version 0 is forwarded.
+    (
+        b"\x01\x00\x00\x00\x00\x00\x00\x24\x124\x01\x00\x00\x01\x00\x00\x00\x00\x00\x01\x07example\x00\x00\x01\x00\x01\x00\x00)\x04\xd0\x00\x00\x00\x00\x00\x00",
+        b"\x02\x00\x00\x00\x00\x00\x00\x00",
+    ),
+];
+
+#[test]
+fn a_frame_without_a_call_is_told_by_its_octets(rt: HostRuntime) -> Result<(), Fail> {
+    let alloc = rt.alloc();
+    let mut input = Vec::new(alloc);
+    let mut expected = Vec::new(alloc);
+    for (i, (frame, told)) in TOLD.iter().enumerate() {
+        let (ended, written) = replayed(alloc, frame, &[], &[])?;
+        assert_eq!(rt; ended, Status::Good, "{i}");
+        assert_eq!(rt; written.as_slice(), *told, "{i}");
+        input.extend_from_slice(frame)?;
+        expected.extend_from_slice(told)?;
+    }
+    // All of them behind one another give all that they give.
+    let (ended, written) = replayed(alloc, &input, &[], &[])?;
+    assert_eq!(rt; ended, Status::Good);
+    assert_eq!(rt; written.as_slice(), expected.as_slice());
+    Ok(())
+}
+
+// A query for A whose name has three labels of 63 octets and one of this size, in a frame whose length ends in this octet.
+fn long_query(alloc: Global, size: u8, length: u8) -> Result<Vec<u8>, Fail> {
+    let mut octets = Vec::from_slice(alloc, b"\x01\x00\x00\x00\x00\x00\x01")?;
+    octets.push(length)?;
+    octets.extend_from_slice(b"\x124\x01\x00\x00\x01\x00\x00\x00\x00\x00\x00")?;
+    for size in [63, 63, 63, size] {
+        octets.push(size)?;
+        for _ in 0..size {
+            octets.push(b'a')?;
+        }
+    }
+    octets.extend_from_slice(b"\x00\x00\x01\x00\x01")?;
+    Ok(octets)
+}
+
+#[test]
+fn a_questions_name_has_at_most_255_octets(rt: HostRuntime) -> Result<(), Fail> {
+    let alloc = rt.alloc();
+    for (size, length, expected) in [
+        (61, 15, b"\x02\x00\x00\x00\x00\x00\x00\x00".as_slice()),
+        (
+            62,
+            16,
+            b"\x06\x00\x00\x00\x00\x00\x00\x0c\x124\x81\x81\x00\x00\x00\x00\x00\x00\x00\x00".as_slice(),
+        ),
+    ] {
+        let query = long_query(alloc, size, length)?;
+        let (ended, written) = replayed(alloc, &query, &[], &[])?;
+        assert_eq!(rt; ended, Status::Good, "{size}");
+        assert_eq!(rt; written.as_slice(), expected, "{size}");
+    }
+    Ok(())
+}
+
+// Messages that can be read and aren't plain, as AD or a record is missing, are for later; a bad frame comes before them.
+#[test]
+fn what_is_not_built_comes_after_bad_frames(rt: HostRuntime) -> Result<(), Fail> {
+    let alloc = rt.alloc();
+    let unsigned =
+        b"\x02\x00;\x9a\xca\x00\x00\x11\x00\x01\x81\x80\x00\x01\x00\x00\x00\x00\x00\x00\x00\x00\x10\x00\x01".as_slice();
+    for (behind, status) in [
+        (b"".as_slice(), Status::NotBuilt),
+        (b"\x01".as_slice(), Status::BadFrame),
+        (
+            b"\x01\x01\x00\x00\x00\x00\x00\x00".as_slice(),
+            Status::BadFrame,
+        ),
+        (
+            b"\x01\x00\x00\x00\x00\x00\x00\x00".as_slice(),
+            Status::NotBuilt,
+        ),
+    ] {
+        let input = joined(alloc, &[unsigned, behind])?;
+        let (ended, written) = replayed(alloc, &input, &[], &[])?;
+        assert_eq!(rt; ended, status);
+        assert!(rt; written.is_empty());
+    }
+    Ok(())
+}

@@ -1,0 +1,5 @@
+use Rattle.reply_core.proofs.PageLemmas.{put-put}
+use Rattle.reply_core.proofs.header.put_bare.Goals as goal
+
+pub returns-clause-value : goal.returns-clause-value
+returns-clause-value c = rw (c.put_opt.ensures, c.put_question.ensures.value, c.put_header.ensures, c.opt_count-opts.ensures) (simp put-put)

@@ -1,0 +1,153 @@
+use super::{write_error, write_plain};
+use crate::ReplyBuffer;
+use arrayvec::ArrayVec;
+use dname::Name;
+use dnswire::{Edns, Head, Question};
+use std::test::Fail;
+
+// example A IN
+const EXAMPLE: &[u8] = b"\x07example\0\0\x01\0\x01";
+
+// The same in other letters.
+const CAPITALS: &[u8] = b"\x07eXamPLE\0\0\x01\0\x01";
+
+// 63 octets after their length.
+const LABEL: &[u8] = b"\x3fabcdefghijklmnopqrstuvwxyzabcdefghijklmnopqrstuvwxyzabcdefghijk";
+
+// A label of 61 octets, the root, TXT and IN.
+const LONGEST_END: &[u8] =
+    b"\x3dabcdefghijklmnopqrstuvwxyzabcdefghijklmnopqrstuvwxyzabcdefghi\0\0\x10\0\x01";
+
+const OPT: &[u8] = b"\0\0\x29\x04\xd0\0\0\0\0\0\0";
+
+const OPT_WITH_DO: &[u8] = b"\0\0\x29\x04\xd0\0\0\x80\0\0\0";
+
+const BADVERS: &[u8] = b"\0\0\x29\x04\xd0\x01\0\0\0\0\0";
+
+const BADVERS_WITH_DO: &[u8] = b"\0\0\x29\x04\xd0\x01\0\x80\0\0\0";
+
+fn question(parts: &[&[u8]], edns: Option<Edns>) -> Question {
+    let mut asked = ArrayVec::new();
+    for part in parts {
+        let _ = asked.try_extend_from_slice(part);
+    }
+    let name = match Name::read(asked.as_slice()) {
+        Ok((name, _)) => name,
+        Err(_) => Name::root(),
+    };
+    Question {
+        id: 0x1234,
+        rd: true,
+        ad: false,
+        cd: false,
+        name,
+        asked,
+        qtype: 1,
+        qclass: 1,
+        edns,
+    }
+}
+
+// Fills the buffer with more octets than any reply below has: a name of 255 octets, and OPT.
+fn fill(out: &mut ReplyBuffer) {
+    let edns = Edns {
+        size: 512,
+        dnssec: true,
+    };
+    let longest = question(&[LABEL, LABEL, LABEL, LONGEST_END], Some(edns));
+    write_plain(&longest, 2, out);
+}
+
+#[test]
+fn the_reply_that_is_a_header_alone(rt: HostRuntime) {
+    // ID, opcode, RD and CD of the query, RCODE, the ID and the flags of the reply
+    let cases: [(u16, u8, bool, bool, u8, &[u8]); 6] = [
+        (0xabcd, 0, true, false, 1, b"\xab\xcd\x81\x81"),
+        (0xabcd, 4, true, false, 4, b"\xab\xcd\xa1\x84"),
+        (0, 0, false, false, 0, b"\0\0\x80\x80"),
+        (0xffff, 2, true, true, 4, b"\xff\xff\x91\x94"),
+        (0x0102, 5, false, true, 5, b"\x01\x02\xa8\x95"),
+        (0x1234, 15, false, false, 15, b"\x12\x34\xf8\x8f"),
+    ];
+    let mut out = ReplyBuffer::new();
+    for (id, opcode, rd, cd, rcode, front) in cases {
+        let head = Head { id, opcode, rd, cd };
+        fill(&mut out);
+        assert_eq!(rt; out.as_slice().len(), 282);
+        assert!(rt; opcode <= 15 && rcode <= 15);
+        write_error(&head, rcode, &mut out);
+        assert!(rt; out.as_slice().starts_with(front), "{front:?}");
+        assert!(rt; out.as_slice().ends_with(b"\0\0\0\0\0\0\0\0"));
+        assert_eq!(rt; out.as_slice().len(), 12);
+    }
+}
+
+#[test]
+fn the_reply_without_records(rt: HostRuntime) {
+    let edns = Edns {
+        size: 1232,
+        dnssec: false,
+    };
+    let mut out = ReplyBuffer::new();
+
+    let with_opt = question(&[EXAMPLE], Some(edns));
+    assert!(rt; with_opt.edns.is_some());
+    fill(&mut out);
+    write_plain(&with_opt, 16, &mut out);
+    let bad_version =
+        b"\x12\x34\x81\x80\0\x01\0\0\0\0\0\x01\x07example\0\0\x01\0\x01\0\0\x29\x04\xd0\x01\0\0\0\0\0".as_slice();
+    assert_eq!(rt; out.as_slice(), bad_version);
+
+    fill(&mut out);
+    write_plain(&question(&[EXAMPLE], None), 2, &mut out);
+    let server_failure = b"\x12\x34\x81\x82\0\x01\0\0\0\0\0\0\x07example\0\0\x01\0\x01".as_slice();
+    assert_eq!(rt; out.as_slice(), server_failure);
+}
+
+#[test]
+fn the_flags_and_the_opt_record(rt: HostRuntime) -> Result<(), Fail> {
+    // RD, AD and CD of the query, its DO where it has OPT, RCODE, the flags and the OPT record of the reply
+    let cases: [(bool, bool, bool, Option<bool>, u16, &[u8], &[u8]); 10] = [
+        (false, false, false, None, 5, b"\x80\x85", b""),
+        (true, false, false, None, 15, b"\x81\x8f", b""),
+        (true, false, true, None, 2, b"\x81\x92", b""),
+        // AD stays zero
+        (true, true, false, None, 2, b"\x81\x82", b""),
+        (true, false, false, Some(true), 2, b"\x81\x82", OPT_WITH_DO),
+        (true, true, true, Some(true), 2, b"\x81\x92", OPT_WITH_DO),
+        (false, false, false, Some(false), 0, b"\x80\x80", OPT),
+        (false, false, false, Some(false), 15, b"\x80\x8f", OPT),
+        (true, false, false, Some(false), 16, b"\x81\x80", BADVERS),
+        (
+            false,
+            false,
+            true,
+            Some(true),
+            16,
+            b"\x80\x90",
+            BADVERS_WITH_DO,
+        ),
+    ];
+    let mut out = ReplyBuffer::new();
+    for (rd, ad, cd, dnssec, rcode, flags, opt) in cases {
+        let (edns, counts) = match dnssec {
+            Some(dnssec) => (Some(Edns { size: 1232, dnssec }), b"\0\x01\0\0\0\0\0\x01"),
+            None => (None, b"\0\x01\0\0\0\0\0\0"),
+        };
+        let mut question = question(&[CAPITALS], edns);
+        question.rd = rd;
+        question.ad = ad;
+        question.cd = cd;
+        fill(&mut out);
+        assert!(rt; rcode <= 15 || (rcode == 16 && question.edns.is_some()));
+        write_plain(&question, rcode, &mut out);
+        let mut wanted = Vec::new(rt.alloc());
+        wanted.extend_from_slice(b"\x12\x34")?;
+        wanted.extend_from_slice(flags)?;
+        wanted.extend_from_slice(counts)?;
+        wanted.extend_from_slice(CAPITALS)?;
+        wanted.extend_from_slice(opt)?;
+        assert_eq!(rt; out.as_slice(), wanted.as_slice());
+    }
+    Ok(())
+}
