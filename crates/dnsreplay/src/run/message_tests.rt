@@ -109,7 +109,7 @@ fn a_compressed_answer_is_stored_written_out(rt: HostRuntime) -> Result<(), Fail
 }
 
 // A frame, and the frame that its own octets give: refused upstream answers, faulty queries, and such as get no reply.
-const TOLD: [(&[u8], &[u8]); 9] = [
+const TOLD: [(&[u8], &[u8]); 10] = [
     // An upstream answer of no octets; a pointer to itself in the question's name; the end within the question.
     (
         b"\x02\x00;\x9a\xca\x00\x00\x00",
@@ -148,6 +148,11 @@ const TOLD: [(&[u8], &[u8]); 9] = [
     // A question with an OPT record of version 0 is forwarded.
     (
         b"\x01\x00\x00\x00\x00\x00\x00\x24\x124\x01\x00\x00\x01\x00\x00\x00\x00\x00\x01\x07example\x00\x00\x01\x00\x01\x00\x00)\x04\xd0\x00\x00\x00\x00\x00\x00",
+        b"\x02\x00\x00\x00\x00\x00\x00\x00",
+    ),
+    // So is what glibc 2.36 writes by `res_mkquery` for WWW.Example.com AAAA.
+    (
+        b"\x01\x00\x00\x00\x00\x00\x00\x21\x5f\xf0\x01\x00\x00\x01\x00\x00\x00\x00\x00\x00\x03WWW\x07Example\x03com\x00\x00\x1c\x00\x01",
         b"\x02\x00\x00\x00\x00\x00\x00\x00",
     ),
 ];
