@@ -21,9 +21,7 @@ QUERY, UPSTREAM = 1, 2
 REPLY, STORED, REFUSED, ERROR = 1, 3, 4, 6
 INPUT_KINDS = {QUERY: "query", UPSTREAM: "upstream answer"}
 OUTPUT_KINDS = {REPLY: "reply", 2: "forward", STORED: "stored", REFUSED: "refused", 5: "dropped", ERROR: "error"}
-FULL = 6
-REFUSALS = {1: "malformed", 2: "not a response", 3: "truncated", 4: "not authentic", 5: "nothing to store",
-            FULL: "full", 7: "RCODE", 8: "numbers spent"}
+REFUSALS = {1: "malformed", 2: "not a response", 3: "truncated", 4: "not authentic", 5: "nothing to store", 7: "RCODE"}
 
 LOOPBACK, ETHERNET, RAW, COOKED = 0, 1, 101, 113
 LINK_OCTETS = {LOOPBACK: 4, ETHERNET: 14, RAW: 0, COOKED: 16}  # how many stand before the IP packet
@@ -183,8 +181,6 @@ def show_message(octets):
 def show_numbers(kind, body):
     if kind == STORED and len(body) == 4:
         print("  {} records stored, {} groups skipped".format(*struct.unpack(">HH", body)))
-    elif kind == REFUSED and len(body) == 9 and body[0] == FULL:
-        print("  code 6: full; held {}, adding {}".format(*struct.unpack_from(">II", body, 1)))
     elif kind == REFUSED and body:
         print(f"  code {body[0]}: {REFUSALS.get(body[0], 'unknown')}")
         show_octets(body[1:])

@@ -1,1 +1,6 @@
+pub mod CoveredLemmas
+pub mod EvidenceLemmas
+pub mod ExampleHashes
 pub mod HeldLemmas
+pub mod StepLemmas
+pub mod TwoChainsLemmas

@@ -1,4 +1,11 @@
-pub mod Arc
+pub mod Evidence
+pub mod Examples
 pub mod Held
-pub mod Outcome
-pub mod Proof
+pub mod Nsec3Steps
+pub mod NsecSteps
+pub mod Prove
+pub mod Ttl
+pub mod Verdict
+pub mod Zones
+pub mod Lent
+pub mod Views

@@ -1,10 +1,36 @@
 //! What a cache holds and proves: the definitions, and beside them the plain program over one list.
 #![tactic(auto)]
 
-mod arc;
+mod answers;
+mod chain;
+mod claim;
+mod denials;
 mod displaced;
-mod forwarded;
-mod held;
+mod evidence;
+mod examples;
+mod hashed_name;
+mod held_chain;
+mod held_records;
+mod key_order;
+mod nsec3_steps;
+mod nsec_steps;
+mod place;
+mod plain_proof;
+mod plain_store;
+mod plain_zone;
 mod proving;
+mod records;
+mod wildcard;
 
-pub use held::HeldRecords;
+pub use chain::Chain;
+pub use examples::{
+    a_cut_and_a_dname, a_held_set, a_wildcard, an_arc_over_the_end, an_empty_name,
+    an_empty_wildcard, name_errors, opt_out, two_chains,
+};
+pub use place::Place;
+pub use plain_store::PlainStore;
+pub use plain_zone::PlainZone;
+pub use proving::{answer, is_forwarded, prove};
+
+#[cfg(test)]
+mod tests;

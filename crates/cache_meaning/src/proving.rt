@@ -1,167 +1,127 @@
-ghost use Rattle.std.specs.Prelude.{◌≡◌, not, ◌&&◌, ◌||◌, ◌==◌, ◌-◌, ◌≤◌, nat_lt, if◌then◌else◌, List, [], ◌∷◌, length, drop, Option, Some, None, IsTrue, IfSome, IsNone, MatchOption};
-ghost use Rattle.std.specs.List.{list_any};
-ghost use Rattle.std.specs.Option.{option_copied, is_some};
-ghost use Rattle.byteorder.specs.Endian.{big_number};
-ghost use Rattle.dname.specs.Name.{canonical_cmp};
-ghost use Rattle.cache_meaning.specs.Arc.{arc_has};
-ghost use Rattle.cache_meaning.specs.Held.{same_name, zone_of as zone_in};
-ghost use Rattle.cache_meaning.specs.Proof.{zone_for as the_zone, set_at as the_set, evidence_at as the_evidence, denies_type as is_denied, minimum_of as the_minimum, has_type, proof_of, IsVerdict};
+ghost use Rattle.cache_meaning.specs.Verdict.{IsVerdictOf};
+ghost use Rattle.std.specs.Prelude.{◌≡◌, ◌↔◌, IfSome, IsSome};
+ghost use Rattle.std.specs.Option.{option_and_then};
+ghost use Rattle.cache_meaning.specs.Prove.{exact_proof, chain_proof, zone_proof, proof_of, is_forwarded, outcome_of};
+ghost use Rattle.cache_meaning.specs.Zones.{chains_of, first_of};
+ghost use Rattle.cache_meaning.specs.Lent.{lent_chain};
+ghost use Rattle.cache_meaning.specs.Verdict.{IsVerdict};
 
-use crate::arc::name_arc_has;
-use crate::displaced::zone_of;
-use byteorder::{BigEndian, ByteOrder};
-use denial_records::{Denial, Kind, NsecRec, Record, SetRec, TypeSet, Verdict, remaining};
-use dname::{Name, OctetsList};
+use crate::claim::Claim;
+use crate::denials::Denials;
+use crate::evidence::usable_set;
+use crate::hashed_name::HashedName;
+use crate::nsec_steps::nsec_proof;
+use crate::nsec3_steps::nsec3_proof;
+use crate::plain_proof::PlainProof;
+use crate::{Chain, PlainStore, PlainZone};
+use denial_records::Verdict;
+use dname::Name;
+use dname::types::{IN_CLASS, NSEC_TYPE, NSEC3_TYPE, OPT_TYPE, RRSIG_TYPE};
 
-const NS: u16 = 2;
+/// What the held records prove of a name and a type at a moment, in seconds, with the TTL (RFC 8198, section 5): first by the
+/// set at the name and type, then by each chain of the zone alone, the newest first. None exactly where they prove nothing. It
+/// takes no memory.
+pub fn prove<'a>(store: &'a PlainStore, name: &Name, qtype: u16, now: u32) -> Option<Verdict<'a>>
+    ensures proved { IfSome result (IsVerdictOf now (proof_of store.now now name.now qtype)) }
+    ensures exact { IsSome result ↔ IsSome (proof_of store.now now name.now qtype) }
+{
+    let proof = proof_of(store, name, qtype, now)?;
+    Some(proof.verdict(now))
+}
 
-const CNAME: u16 = 5;
-
-const SOA: u16 = 6;
-
-const DS: u16 = 43;
-
-/// What the held records prove of the name and type at a moment, in seconds. None where they prove nothing.
-pub(crate) fn prove<'a>(
-    held: &'a [Record],
+/// The answer to a query at a moment, in seconds. None exactly where it is forwarded: where its class isn't IN, where queries
+/// of its type always are, and where the held records prove nothing. It takes no memory.
+pub fn answer<'a>(
+    store: &'a PlainStore,
     name: &Name,
     qtype: u16,
+    qclass: u16,
     now: u32,
 ) -> Option<Verdict<'a>>
-    ensures proved { IfSome result (λ verdict. IfSome (proof_of held.now now name.now qtype) (λ proof. IsVerdict now proof verdict)) }
-    ensures exact { MatchOption result (proof_of held.now now name.now qtype ≡ None) (λ _. IsTrue (is_some (proof_of held.now now name.now qtype))) }
+    ensures proved { IfSome result
+        (IsVerdictOf now (outcome_of store.now now name.now qtype qclass)) }
+    ensures exact { IsSome result ↔ IsSome (outcome_of store.now now name.now qtype qclass) }
 {
-    let zone = zone_for(held, name, qtype)?;
-    let nsec = evidence_at(held, &zone, name, now)?;
-    if !denies_type(nsec, &zone, name, qtype) {
+    if qclass != IN_CLASS || is_forwarded(qtype) {
         return None;
     }
-    let soa = set_at(held, &zone, &zone, SOA, now)?;
-    Some(no_data(soa, nsec, now))
+    prove(store, name, qtype, now)
 }
 
-// The verdict of these two records.
-fn no_data<'a>(soa: &'a SetRec, nsec: &'a NsecRec, now: u32) -> Verdict<'a>
-    ensures { IsVerdict now (record { kind = Kind.NoData; answer = None; soa = Some soa.now; denials = Record.Nsec nsec.now ∷ [] }) result }
+/// Whether queries of the type are forwarded, whatever is held: those of 0, OPT, RRSIG, NSEC, NSEC3, and of 128 to 255, which
+/// ask of a server and not of a zone (RFC 6895, section 3.1).
+pub fn is_forwarded(qtype: u16) -> bool
+    ensures { result ≡ is_forwarded qtype }
 {
-    let soa_left = remaining(soa.life, soa.expiry, now);
-    let nsec_left = remaining(nsec.life, nsec.expiry, now);
-    Verdict {
-        kind: Kind::NoData,
-        answer_set: None,
-        soa: Some(soa),
-        first: Some(Denial::Nsec(nsec)),
-        second: None,
-        third: None,
-        ttl: soa_left.min(minimum_of(&soa.items)).min(nsec_left),
-    }
+    matches!(
+        qtype,
+        0 | OPT_TYPE | RRSIG_TYPE | NSEC_TYPE | NSEC3_TYPE | 128..=255
+    )
 }
 
-// The longest zone of a held record that may answer.
-fn zone_for(held: &[Record], name: &Name, qtype: u16) -> Option<Name>
-    ensures { result ≡ the_zone held.now name.now qtype }
+fn proof_of<'a>(store: &'a PlainStore, name: &Name, qtype: u16, now: u32) -> Option<PlainProof<'a>>
+    ensures { result ≡ proof_of store.now now name.now qtype }
 {
-    let mut zone = name.copy();
-    if qtype == DS {
-        zone = zone.parent()?;
-    }
-    loop {
-        if is_zone(held, &zone) {
-            return Some(zone);
-        }
-        zone = zone.parent()?;
-    }
+    let zone = store.zone_for(name, qtype)?;
+    zone_proof(&zone, now, name, qtype)
 }
 
-fn is_zone(held: &[Record], zone: &Name) -> bool
-    ensures { result ≡ list_any (λ item. same_name (zone_in item) zone.now) held.now }
+fn zone_proof<'a>(zone: &PlainZone<'a>, now: u32, name: &Name, qtype: u16) -> Option<PlainProof<'a>>
+    ensures { result ≡ zone_proof zone.now.held now zone.now.apex name.now qtype }
 {
-    held.iter().any(|item| zone_of(item) == zone)
+    if let Some(proof) = exact_proof(zone, now, name, qtype) {
+        return Some(proof);
+    }
+    by_chains(zone, now, name, qtype)
 }
 
-fn set_at<'a>(
-    held: &'a [Record],
-    zone: &Name,
-    owner: &Name,
-    rtype: u16,
+// By the first of the zone's chains that proves something, the newest first.
+fn by_chains<'a>(zone: &PlainZone<'a>, now: u32, name: &Name, qtype: u16) -> Option<PlainProof<'a>>
+    ensures { result
+        ≡ first_of (chain_proof zone.now.held now zone.now.apex name.now qtype) (chains_of
+        zone.now.held zone.now.apex) }
+{
+    let [newer, older] = zone.chains();
+    if let Some(proof) = chain_proof(zone, now, name, qtype, newer) {
+        return Some(proof);
+    }
+    chain_proof(zone, now, name, qtype, older)
+}
+
+fn exact_proof<'a>(
+    zone: &PlainZone<'a>,
     now: u32,
-) -> Option<&'a SetRec>
-    ensures { option_copied result ≡ the_set now zone.now owner.now rtype held.now }
+    name: &Name,
+    qtype: u16,
+) -> Option<PlainProof<'a>>
+    ensures { result ≡ exact_proof zone.now.held now zone.now.apex name.now qtype }
 {
-    for item in held {
-        if let Record::Set(set) = item {
-            if is_set_at(set, zone, owner, rtype, now) {
-                return Some(set);
-            }
+    let set = usable_set(zone, now, name, qtype)?;
+    Some(PlainProof::of(Claim::Answer(set), Denials::Zero))
+}
+
+// By one chain's records alone; nothing where there is no chain.
+fn chain_proof<'a>(
+    zone: &PlainZone<'a>,
+    now: u32,
+    name: &Name,
+    qtype: u16,
+    chain: Chain<'_>,
+) -> Option<PlainProof<'a>>
+    ensures { result
+        ≡ option_and_then (chain_proof zone.now.held now zone.now.apex name.now qtype)
+        (lent_chain chain.entry) }
+{
+    match chain {
+        Chain::Bare => None,
+        Chain::Nsec => nsec_proof(zone, now, name, qtype),
+        Chain::Nsec3 { salt, iterations } => {
+            nsec3_proof(
+                zone,
+                now,
+                HashedName::of(name.copy(), salt, iterations),
+                qtype,
+            )
         }
     }
-    None
-}
-
-fn is_set_at(set: &SetRec, zone: &Name, owner: &Name, rtype: u16, now: u32) -> bool
-    ensures { result ≡ (same_name set.now.zone zone.now && (same_name set.now.owner owner.now && ((set.now.rtype == rtype) && nat_lt now set.now.expiry))) }
-{
-    set.zone == *zone && set.owner == *owner && set.rtype == rtype && u64::from(now) < set.expiry
-}
-
-fn evidence_at<'a>(held: &'a [Record], zone: &Name, name: &Name, now: u32) -> Option<&'a NsecRec>
-    ensures { option_copied result ≡ the_evidence now zone.now name.now held.now }
-{
-    for item in held {
-        if let Record::Nsec(nsec) = item {
-            if is_evidence(nsec, zone, name, now) {
-                return Some(nsec);
-            }
-        }
-    }
-    None
-}
-
-fn is_evidence(nsec: &NsecRec, zone: &Name, name: &Name, now: u32) -> bool
-    ensures { result ≡ (same_name nsec.now.zone zone.now && (nat_lt now nsec.now.expiry && arc_has canonical_cmp nsec.now.owner nsec.now.next name.now)) }
-{
-    nsec.zone == *zone
-        && u64::from(now) < nsec.expiry
-        && name_arc_has(&nsec.owner, &nsec.next, name)
-}
-
-fn denies_type(nsec: &NsecRec, zone: &Name, name: &Name, qtype: u16) -> bool
-    ensures { result ≡ is_denied zone.now name.now qtype nsec.now }
-{
-    if nsec.owner != *name || has(&nsec.types, qtype) || has(&nsec.types, CNAME) {
-        return false;
-    }
-    !has(&nsec.types, NS) || name == zone || qtype == DS
-}
-
-fn has(types: &TypeSet, rtype: u16) -> bool
-    ensures { result ≡ has_type types.now rtype }
-{
-    types.has(rtype)
-}
-
-// An SOA's MINIMUM: the last four octets of its data, and 0 where they aren't there.
-fn minimum_of(items: &OctetsList) -> u32
-    ensures { result ≡ the_minimum items.now }
-{
-    if items.is_empty() {
-        return 0;
-    }
-    last_number(items.get(0).as_slice())
-}
-
-fn last_number(octets: &[u8]) -> u32
-    ensures { result ≡ (if nat_lt (length octets.now) 4 then 0 else big_number 4 (drop (length octets.now - 4) octets.now)) }
-{
-    if octets.len() < 4 {
-        return 0;
-    }
-    BigEndian::read_u32(octets_from(octets, octets.len() - 4))
-}
-
-fn octets_from(octets: &[u8], at: usize) -> &[u8]
-    requires { at ≤ length octets.now }
-    ensures { result.now ≡ drop at octets.now }
-{
-    &octets[at..]
 }

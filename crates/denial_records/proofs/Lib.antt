@@ -1,4 +1,3 @@
-pub mod CopyLemmas
 pub mod PartsLemmas
 pub mod RisingLemmas
 pub mod TypeSetLemmas

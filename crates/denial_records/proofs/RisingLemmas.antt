@@ -82,10 +82,10 @@ types_small least [] formed octets = All-nil (λ t. t < 2 ^ 16)
 types_small least (block ∷ rest) formed octets =
     let Small : ℕ → Type 0 = λ octet. octet < 256 in
     let window : block.window < 256 = All-head Small block.window (length block.bitmap ∷ (block.bitmap ++ map_of rest)) octets in
-    let behind = All-drop Small (suc (suc (length block.bitmap))) (map_of (block ∷ rest)) octets in
+    let after = All-drop Small (suc (suc (length block.bitmap))) (map_of (block ∷ rest)) octets in
     All-append (λ t. t < 2 ^ 16) (types_of_block block) (types_of rest)
     (All-weaker (λ t. t < 256 * block.window + 256) (λ t. t < 2 ^ 16) (λ t lt. below_top block.window t window lt) (types_of_block block) (block_below block formed.1.short))
-    (types_small (block.window + 1) rest formed.2 (All-same Small (map_of rest) (drop (length block.bitmap) (block.bitmap ++ map_of rest)) (sym (drop_at block.bitmap (map_of rest) (length block.bitmap) refl)) behind))
+    (types_small (block.window + 1) rest formed.2 (All-same Small (map_of rest) (drop (length block.bitmap) (block.bitmap ++ map_of rest)) (sym (drop_at block.bitmap (map_of rest) (length block.bitmap) refl)) after))
   where
     below_top : (window t : ℕ) → window < 256 → t < 256 * window + 256 → t < 2 ^ 16
     below_top window t small lt = omega (arith, small, lt)

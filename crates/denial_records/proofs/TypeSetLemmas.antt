@@ -19,9 +19,9 @@ blocks_within-map_of (suc n) [] enough = refl
 blocks_within-map_of zero (block ∷ rest) enough = absurd (omega arith)
 blocks_within-map_of (suc n) (block ∷ rest) enough =
     let front = take_at block.bitmap (map_of rest) (length block.bitmap) refl in
-    let behind : blocks_within n (drop (length block.bitmap) (block.bitmap ++ map_of rest)) ≡ rest =
+    let after : blocks_within n (drop (length block.bitmap) (block.bitmap ++ map_of rest)) ≡ rest =
     ap (blocks_within n) (drop_at block.bitmap (map_of rest) (length block.bitmap) refl) ∙ blocks_within-map_of n rest (omega arith) in
-    λ i. record { window = block.window; bitmap = front i } ∷ behind i
+    λ i. record { window = block.window; bitmap = front i } ∷ after i
 
 -- what blocks are written as gives their types back
 pub types_in-map_of : (blocks : List Block) → types_in (map_of blocks) ≡ types_of blocks
@@ -97,10 +97,10 @@ pub record HasLeft (octets : List ℕ) (least : ℕ) (rest : List ℕ) : Type 0 
 pub left_all : (octets : List ℕ) → HasLeft octets 0 octets
 left_all octets = record { into = λ h. h; back = λ h. h }
 
-pub left_less : (octets : List ℕ) (least : ℕ) (rest : List ℕ) (window : ℕ) (bitmap behind : List ℕ) → HasLeft octets least rest → BeginsWith least rest window bitmap behind → HasLeft octets (window + 1) behind
-left_less octets least rest window bitmap behind left begins = record {
-  into = λ h. left.into (forms_more least rest window bitmap behind begins h);
-  back = λ h. forms_rest least rest window bitmap behind begins (left.back h);
+pub left_less : (octets : List ℕ) (least : ℕ) (rest : List ℕ) (window : ℕ) (bitmap after : List ℕ) → HasLeft octets least rest → BeginsWith least rest window bitmap after → HasLeft octets (window + 1) after
+left_less octets least rest window bitmap after left begins = record {
+  into = λ h. left.into (forms_more least rest window bitmap after begins h);
+  back = λ h. forms_rest least rest window bitmap after begins (left.back h);
 }
 
 pub map_from_forms : (octets : List ℕ) → FormsFrom 0 octets → (types : List ℕ) × IsTypeMap octets types
@@ -239,16 +239,16 @@ look_first octets types t is = record {
 }
 
 -- the block at the front is the first of the blocks that are left
-record SplitsBlock (window : ℕ) (bitmap behind : List ℕ) (blocks : List Block) : Type 0 where
+record SplitsBlock (window : ℕ) (bitmap after : List ℕ) (blocks : List Block) : Type 0 where
   pub more : List Block
   pub is : blocks ≡ record { window = window; bitmap = bitmap } ∷ more
-  pub written : behind ≡ map_of more
+  pub written : after ≡ map_of more
   pub formed : AreBlocksFrom (window + 1) more
 
-splits_block : (least window : ℕ) (bitmap behind : List ℕ) (blocks : List Block) → window ∷ length bitmap ∷ bitmap ++ behind ≡ map_of blocks → AreBlocksFrom least blocks → SplitsBlock window bitmap behind blocks
-splits_block least window bitmap behind [] written formed = cc
-splits_block least window bitmap behind (block ∷ blocks) written formed =
-    let same = one_front window block.window bitmap block.bitmap behind (map_of blocks) written in
+splits_block : (least window : ℕ) (bitmap after : List ℕ) (blocks : List Block) → window ∷ length bitmap ∷ bitmap ++ after ≡ map_of blocks → AreBlocksFrom least blocks → SplitsBlock window bitmap after blocks
+splits_block least window bitmap after [] written formed = cc
+splits_block least window bitmap after (block ∷ blocks) written formed =
+    let same = one_front window block.window bitmap block.bitmap after (map_of blocks) written in
     let windows = sym same.windows in
     let bitmaps = sym same.bitmaps in
     record {
@@ -258,17 +258,17 @@ splits_block least window bitmap behind (block ∷ blocks) written formed =
       formed = subst (λ w. AreBlocksFrom (w + 1) blocks) windows formed.2;
     }
 
-split_left : (types : List ℕ) (t : ℕ) (rest : List ℕ) (window : ℕ) (bitmap behind : List ℕ) (left : IsLookedUpIn types t rest) → BeginsWith 0 rest window bitmap behind → SplitsBlock window bitmap behind left.blocks
-split_left types t rest window bitmap behind left begins =
-    splits_block left.least window bitmap behind left.blocks (sym begins.spelled ∙ left.written) left.formed
+split_left : (types : List ℕ) (t : ℕ) (rest : List ℕ) (window : ℕ) (bitmap after : List ℕ) (left : IsLookedUpIn types t rest) → BeginsWith 0 rest window bitmap after → SplitsBlock window bitmap after left.blocks
+split_left types t rest window bitmap after left begins =
+    splits_block left.least window bitmap after left.blocks (sym begins.spelled ∙ left.written) left.formed
 
 in_first : (window : ℕ) (bitmap : List ℕ) (more : List Block) (t : ℕ) → Contains (types_of (record { window = window; bitmap = bitmap } ∷ more)) t → Contains (types_of_block (record { window = window; bitmap = bitmap })) t ⊎ Contains (types_of more) t
 in_first window bitmap more t h = Contains-append_cases (types_of_block (record { window = window; bitmap = bitmap })) (types_of more) t h
 
 -- the block of the type's window decides
-pub look_here : (types : List ℕ) (t : ℕ) (rest : List ℕ) (window : ℕ) (bitmap behind : List ℕ) (r : Bool) → IsLookedUpIn types t rest → BeginsWith 0 rest window bitmap behind → window ≡ t / 256 → r ≡ has_bit bitmap (t % 256) → Decides r (Contains types t)
-look_here types t rest window bitmap behind r left begins same is =
-    let split = split_left types t rest window bitmap behind left begins in
+pub look_here : (types : List ℕ) (t : ℕ) (rest : List ℕ) (window : ℕ) (bitmap after : List ℕ) (r : Bool) → IsLookedUpIn types t rest → BeginsWith 0 rest window bitmap after → window ≡ t / 256 → r ≡ has_bit bitmap (t % 256) → Decides r (Contains types t)
+look_here types t rest window bitmap after r left begins same is =
+    let split = split_left types t rest window bitmap after left begins in
     let found : Contains types t → has_bit bitmap (t % 256) ≡ true = λ h.
     elim (in_first window bitmap split.more t (subst (λ b. Contains (types_of b) t) split.is (left.back h))) [
       | inl h ↦ (in_block window bitmap t begins.formed.short h).1
@@ -280,9 +280,9 @@ look_here types t rest window bitmap behind r left begins same is =
     )
 
 -- a block of another window says nothing of it
-pub look_past : (types : List ℕ) (t : ℕ) (rest : List ℕ) (window : ℕ) (bitmap behind : List ℕ) → IsLookedUpIn types t rest → BeginsWith 0 rest window bitmap behind → window ≢ t / 256 → IsLookedUpIn types t behind
-look_past types t rest window bitmap behind left begins other =
-    let split = split_left types t rest window bitmap behind left begins in
+pub look_past : (types : List ℕ) (t : ℕ) (rest : List ℕ) (window : ℕ) (bitmap after : List ℕ) → IsLookedUpIn types t rest → BeginsWith 0 rest window bitmap after → window ≢ t / 256 → IsLookedUpIn types t after
+look_past types t rest window bitmap after left begins other =
+    let split = split_left types t rest window bitmap after left begins in
     record {
       least = window + 1;
       blocks = split.more;
@@ -296,13 +296,13 @@ look_past types t rest window bitmap behind left begins other =
       ];
     }
 
-none_left : (least : ℕ) (rest : List ℕ) (blocks : List Block) (t : ℕ) → rest ≡ map_of blocks → AreBlocksFrom least blocks → ((window : ℕ) (bitmap behind : List ℕ) → ¬ BeginsWith 0 rest window bitmap behind) → Contains (types_of blocks) t → ⊥
+none_left : (least : ℕ) (rest : List ℕ) (blocks : List Block) (t : ℕ) → rest ≡ map_of blocks → AreBlocksFrom least blocks → ((window : ℕ) (bitmap after : List ℕ) → ¬ BeginsWith 0 rest window bitmap after) → Contains (types_of blocks) t → ⊥
 none_left least rest [] t written formed none h = nowhere t h
 none_left least rest (block ∷ blocks) t written formed none h =
     none block.window block.bitmap (map_of blocks) (record { spelled = written; rises = omega arith; formed = formed.1 })
 
 -- where no block is left, it isn't in the set
-pub look_end : (types : List ℕ) (t : ℕ) (rest : List ℕ) → IsLookedUpIn types t rest → ((window : ℕ) (bitmap behind : List ℕ) → ¬ BeginsWith 0 rest window bitmap behind) → Contains types t → ⊥
+pub look_end : (types : List ℕ) (t : ℕ) (rest : List ℕ) → IsLookedUpIn types t rest → ((window : ℕ) (bitmap after : List ℕ) → ¬ BeginsWith 0 rest window bitmap after) → Contains types t → ⊥
 look_end types t rest left none h = none_left left.least rest left.blocks t left.written left.formed none (left.back h)
 
 -- what `is_empty` says of octets

@@ -1,6 +1,6 @@
-pub mod Nsec3Parts
+pub mod TypeSet
 pub mod NsecParts
-pub mod Numbers
+pub mod Proof
+pub mod Nsec3Parts
 pub mod Rrsig
 pub mod TimeLeft
-pub mod TypeSet

@@ -1,6 +1,7 @@
 -- Type bit maps, and the record types that they stand for (RFC 4034, section 4.1.2).
 use Rattle.std.specs.Prelude.{◌≡◌, ◌≢◌, ℕ, ◌+◌, ◌-◌, ◌*◌, ◌/◌, ◌%◌, ◌^◌, ◌<◌, ◌≤◌, zero, suc, Bool, not, ◌==◌, bit_and, slice_index, List, [], ◌∷◌, ◌++◌, length, take, drop, map, filter, flat_map}
 use Rattle.std.specs.List.{All, AllPairs, range_with_len}
+use Rattle.denial_records.specs.declared.type_set.TheConstants.{MAX_BITMAP}
 
 -- a block: 256 types from 256 times the window's number on, and the bitmap that says which of them are there
 pub record Block : Type 0 where
@@ -15,7 +16,7 @@ map_of (block ∷ rest) = block.window ∷ length block.bitmap ∷ block.bitmap 
 -- a bitmap has 1 to 32 octets, and its last octet isn't zero
 pub record IsBitmap (bitmap : List ℕ) : Type 0 where
   pub some : 1 ≤ length bitmap
-  pub short : length bitmap ≤ 32
+  pub short : length bitmap ≤ MAX_BITMAP
   pub trimmed : slice_index bitmap (length bitmap - 1) ≢ 0
 
 -- blocks with such bitmaps, whose windows rise strictly, the first of them at or after the given one

@@ -1,14 +1,14 @@
-//! The records that deny names and types, and the readers of their formats (RFC 4034, RFC 5155).
+//! The records that a cache keeps of validated answers, and exact readers of the data of NSEC, NSEC3 and RRSIG records
+//! (RFC 4034, RFC 5155).
+//!
+//! Specs, in reading order: `TypeSet`, `NsecParts`, `Nsec3Parts`, `Rrsig`, `TimeLeft`. Public clauses cite them all.
 #![tactic(auto)]
 
 mod batch;
-mod copies;
 mod nsec3_parts;
 mod nsec3_rec;
 mod nsec_parts;
 mod nsec_rec;
-mod numbers;
-mod pieces;
 mod record;
 mod record_list;
 mod rrsig;
@@ -20,7 +20,7 @@ mod verdict;
 pub use batch::Batch;
 pub use nsec_parts::{NsecFault, NsecParts};
 pub use nsec_rec::NsecRec;
-pub use nsec3_parts::{Nsec3Fault, Nsec3Parts};
+pub use nsec3_parts::{HASH_OCTETS, Nsec3Fault, Nsec3Parts};
 pub use nsec3_rec::Nsec3Rec;
 pub use record::Record;
 pub use record_list::RecordList;

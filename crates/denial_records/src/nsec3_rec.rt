@@ -1,7 +1,6 @@
 ghost use Rattle.std.specs.Prelude.{◌≡◌, IfOk};
 
-use crate::TypeSet;
-use crate::copies::{copy_list, copy_octets};
+use crate::{HASH_OCTETS, TypeSet};
 use dname::{Name, Octets, OctetsList, OutOfMemory};
 use std::alloc::Global;
 
@@ -11,9 +10,9 @@ pub struct Nsec3Rec {
     /// The apex of the zone that signed it.
     pub zone: Name,
     /// The owner's hashed name.
-    pub hash: [u8; 20],
+    pub hash: [u8; HASH_OCTETS],
     /// The next hashed owner name of the zone.
-    pub next: [u8; 20],
+    pub next: [u8; HASH_OCTETS],
     pub salt: Octets,
     /// How often the hash is taken again, the first time not counted.
     pub iterations: u16,
@@ -40,14 +39,14 @@ impl Nsec3Rec {
             zone: self.zone.copy(),
             hash: self.hash,
             next: self.next,
-            salt: copy_octets(alloc, &self.salt)?,
+            salt: self.salt.copy(alloc)?,
             iterations: self.iterations,
             opt_out: self.opt_out,
             types: self.types.copy(alloc)?,
             life: self.life,
             expiry: self.expiry,
-            image: copy_octets(alloc, &self.image)?,
-            signatures: copy_list(alloc, &self.signatures)?,
+            image: self.image.copy(alloc)?,
+            signatures: self.signatures.copy(alloc)?,
         })
     }
 }

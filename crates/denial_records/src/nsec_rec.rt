@@ -1,7 +1,6 @@
 ghost use Rattle.std.specs.Prelude.{◌≡◌, IfOk};
 
 use crate::TypeSet;
-use crate::copies::{copy_list, copy_octets};
 use dname::{Name, Octets, OctetsList, OutOfMemory};
 use std::alloc::Global;
 
@@ -37,8 +36,8 @@ impl NsecRec {
             types: self.types.copy(alloc)?,
             life: self.life,
             expiry: self.expiry,
-            image: copy_octets(alloc, &self.image)?,
-            signatures: copy_list(alloc, &self.signatures)?,
+            image: self.image.copy(alloc)?,
+            signatures: self.signatures.copy(alloc)?,
         })
     }
 }

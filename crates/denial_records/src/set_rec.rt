@@ -1,6 +1,5 @@
 ghost use Rattle.std.specs.Prelude.{◌≡◌, IfOk};
 
-use crate::copies::copy_list;
 use dname::{Name, OctetsList, OutOfMemory};
 use std::alloc::Global;
 
@@ -32,8 +31,8 @@ impl SetRec {
             rtype: self.rtype,
             life: self.life,
             expiry: self.expiry,
-            items: copy_list(alloc, &self.items)?,
-            signatures: copy_list(alloc, &self.signatures)?,
+            items: self.items.copy(alloc)?,
+            signatures: self.signatures.copy(alloc)?,
         })
     }
 }

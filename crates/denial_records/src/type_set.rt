@@ -5,6 +5,9 @@ use dname::{Octets, OutOfMemory};
 use std::alloc::Global;
 use std::marker::Model;
 
+/// The octets of a bitmap with a bit for each type of its window (RFC 4034, section 4.1.2).
+const MAX_BITMAP: usize = 32;
+
 /// Why no set of types came of octets.
 #[derive(Clone, Copy, Debug, PartialEq, Eq)]
 pub enum MapFault {
@@ -36,11 +39,13 @@ impl TypeSet {
     pub fn read(alloc: Global, octets: &[u8]) -> Result<TypeSet, MapFault>
         ensures read { IfOk result (IsTypeMap octets.now) }
         ensures bad_map { IsErrOf result MapFault.BadMap ↔ IsNoTypeMap octets.now }
-        ensures out_of_memory { IsErrOf result MapFault.OutOfMemory → (types : List ℕ) × IsTypeMap octets.now types }
+        ensures out_of_memory { IsErrOf result MapFault.OutOfMemory
+            → (types : List ℕ) × IsTypeMap octets.now types }
         ensures set { IfOk result IsTypeSet }
 
         // Type bit maps are read, where there is memory.
-        ensures every_map { (types : List ℕ) → IsTypeMap octets.now types → (result ≡ Ok types) ⊎ (result ≡ Err MapFault.OutOfMemory) }
+        ensures every_map { (types : List ℕ) → IsTypeMap octets.now types
+            → (result ≡ Ok types) ⊎ (result ≡ Err MapFault.OutOfMemory) }
     {
         if !is_type_map(octets) {
             return Err(MapFault::BadMap);
@@ -58,11 +63,11 @@ impl TypeSet {
     {
         let (window, bit) = ((rtype / 256) as u8, usize::from(rtype % 256));
         let mut rest = self.octets.as_slice();
-        while let Some((block, behind)) = first_block(rest, 0) {
+        while let Some((block, after)) = first_block(rest, 0) {
             if block.window == window {
                 return has_bit(block.bitmap, bit);
             }
-            rest = behind;
+            rest = after;
         }
         false
     }
@@ -92,9 +97,9 @@ fn is_type_map(octets: &[u8]) -> bool
     let mut rest = octets;
     while !rest.is_empty() {
         match first_block(rest, least) {
-            Some((block, behind)) => {
+            Some((block, after)) => {
                 least = u16::from(block.window) + 1;
-                rest = behind;
+                rest = after;
             }
             None => return false,
         }
@@ -108,13 +113,13 @@ fn first_block(octets: &[u8], least: u16) -> Option<(Block<'_>, &[u8])>
         ((window : ℕ) (bitmap rest : List ℕ) → ¬ BeginsWith least octets.now window bitmap rest)
         (λ front. BeginsWith least octets.now front.0.window front.0.bitmap.now front.1.now) }
 {
-    let (window, behind) = octets.split_first()?;
-    let (size, behind) = behind.split_first()?;
+    let (window, after) = octets.split_first()?;
+    let (size, after) = after.split_first()?;
     let (window, size) = (*window, usize::from(*size));
-    if u16::from(window) < least || size > behind.len() {
+    if u16::from(window) < least || size > after.len() {
         return None;
     }
-    let (bitmap, rest) = behind.split_at(size);
+    let (bitmap, rest) = after.split_at(size);
     if is_bitmap(bitmap) {
         Some((Block { window, bitmap }, rest))
     } else {
@@ -127,7 +132,7 @@ fn is_bitmap(bitmap: &[u8]) -> bool
     ensures { IsTrue result ↔ IsBitmap bitmap.now }
 {
     match bitmap.last() {
-        Some(last) => bitmap.len() <= 32 && *last != 0,
+        Some(last) => bitmap.len() <= MAX_BITMAP && *last != 0,
         None => false,
     }
 }
@@ -143,104 +148,4 @@ fn has_bit(bitmap: &[u8], bit: usize) -> bool
 }
 
 #[cfg(test)]
-mod tests {
-    use super::*;
-    use std::test::Fail;
-
-    // A RRSIG NSEC
-    const OF_A: &[u8] = b"\x00\x06\x40\x00\x00\x00\x00\x03";
-
-    // Every window with every type, but for the map's last octet.
-    fn every_window(alloc: Global, last: u8) -> Result<Vec<u8>, OutOfMemory> {
-        let mut octets = Vec::new(alloc);
-        for window in 0..=255 {
-            octets.push(window)?;
-            octets.push(32)?;
-            for _ in 0..32 {
-                octets.push(0xff)?;
-            }
-        }
-        octets.pop();
-        octets.push(last)?;
-        Ok(octets)
-    }
-
-    #[test]
-    fn maps_stand_for_their_types(rt: HostRuntime) -> Result<(), Fail> {
-        let maps: [(&[u8], &[u16]); 6] = [
-            (b"", &[]),
-            (OF_A, &[1, 46, 47]),
-            // NS SOA RRSIG NSEC
-            (b"\x00\x06\x22\x00\x00\x00\x00\x03", &[2, 6, 46, 47]),
-            // NS SOA RRSIG NSEC3PARAM
-            (b"\x00\x07\x22\x00\x00\x00\x00\x02\x10", &[2, 6, 46, 51]),
-            // NS RRSIG NSEC
-            (b"\x00\x06\x20\x00\x00\x00\x00\x03", &[2, 46, 47]),
-            // A RRSIG NSEC and TYPE1234
-            (
-                b"\x00\x06\x40\x00\x00\x00\x00\x03\x04\x1b\0\0\0\0\0\0\0\0\0\0\0\0\0\0\0\0\0\0\0\0\0\0\0\0\0\0\x20",
-                &[1, 46, 47, 1234],
-            ),
-        ];
-        for (octets, types) in maps {
-            let set = TypeSet::read(rt.alloc(), octets)?;
-            let copy = set.copy(rt.alloc())?;
-            for rtype in 0..=u16::MAX {
-                assert_eq!(rt;
-                    set.has(rtype),
-                    types.contains(&rtype),
-                    "{octets:?} {rtype}"
-                );
-                assert_eq!(rt;
-                    copy.has(rtype),
-                    types.contains(&rtype),
-                    "{octets:?} {rtype}"
-                );
-            }
-        }
-        Ok(())
-    }
-
-    #[test]
-    fn the_longest_map_has_every_type(rt: HostRuntime) -> Result<(), Fail> {
-        let octets = every_window(rt.alloc(), 0xff)?;
-        assert_eq!(rt; octets.len(), 8704);
-        let set = TypeSet::read(rt.alloc(), &octets)?;
-        for rtype in [0, 1, 255, 256, 32768, 65534, 65535] {
-            assert!(rt; set.has(rtype), "{rtype}");
-        }
-        let trailing_zero = every_window(rt.alloc(), 0)?;
-        assert_eq!(rt;
-            TypeSet::read(rt.alloc(), &trailing_zero).err(),
-            Some(MapFault::BadMap)
-        );
-        Ok(())
-    }
-
-    #[test]
-    fn other_octets_are_refused(rt: HostRuntime) {
-        let refused: [(&str, &[u8]); 11] = [
-            ("a window alone", b"\x00"),
-            ("no bitmap", b"\x00\x01"),
-            ("a length of 0", b"\x00\x00"),
-            ("a length of 0 before a block", b"\x00\x00\x01\x01\x40"),
-            (
-                "a length of 33",
-                b"\x00\x21\x01\x01\x01\x01\x01\x01\x01\x01\x01\x01\x01\x01\x01\x01\x01\x01\x01\x01\x01\x01\x01\x01\x01\x01\x01\x01\x01\x01\x01\x01\x01\x01\x01",
-            ),
-            ("a bitmap past the end", b"\x00\x06\x40\x00\x00\x00\x00"),
-            ("a zero octet alone", b"\x00\x01\x00"),
-            ("a zero octet last", b"\x00\x07\x40\x00\x00\x00\x00\x03\x00"),
-            ("a window twice", b"\x00\x01\x40\x00\x01\x20"),
-            ("windows that fall", b"\x01\x01\x40\x00\x01\x40"),
-            ("an octet behind the blocks", b"\x00\x01\x40\x01"),
-        ];
-        for (name, octets) in refused {
-            assert_eq!(rt;
-                TypeSet::read(rt.alloc(), octets).err(),
-                Some(MapFault::BadMap),
-                "{name}"
-            );
-        }
-    }
-}
+mod tests;

@@ -2,9 +2,9 @@
 use Rattle.std.proofs.Common.{◌≡◌, ℕ, ◌+◌, ◌≤◌, List, [], ◌∷◌, ◌++◌, length, map, take, drop, refl, sym, ◌∙◌, ap, subst, arith, length-append, append_assoc}
 use Rattle.std.specs.List.{All}
 use Rattle.std.proofs.lemmas.List.{take_at, drop_at, drop-drop, append-nil, take-append-drop, length-take-le}
-use Rattle.std.proofs.lemmas.List.Elements.{All-head, All-tail, All-push, All-nil}
+use Rattle.std.proofs.lemmas.List.Elements.{All-head, All-tail, All-push}
 use Rattle.dname.specs.Name.{Label, HasLabelLength, lowered, wire_of}
-use Rattle.dname.specs.Read.{written, IsFaultAt, StopsAt, Spells, HasLabelAt, IsWireForm}
+use Rattle.dname.specs.Read.{written, IsFaultAt, StopsAt, Spells, HasLabelAt}
 use Rattle.dname.specs.declared.name_fault.NameFault.{NameFault}
 use Rattle.dname.specs.declared.name_fault.NameFault.TheVariants.{Pointer, LabelTooLong, NameTooLong, Short}
 
@@ -16,10 +16,7 @@ pub record HasRead (octets : List ℕ) (before : ℕ) : Type 0 where
   pub count : before ≡ length (written labels)
   pub fits : before ≤ 254
 
-pub read_none : (octets : List ℕ) → HasRead octets 0
-read_none octets = record { labels = []; spelled = refl; sizes = All-nil HasLabelLength; count = refl; fits = omega arith }
-
-written-push : (labels : List Label) (label : Label) → written (labels ++ label ∷ []) ≡ written labels ++ (length label ∷ label)
+pub written-push : (labels : List Label) (label : Label) → written (labels ++ label ∷ []) ≡ written labels ++ (length label ∷ label)
 written-push [] label = ap (λ l. length label ∷ l) (append-nil label)
 written-push (first ∷ rest) label = ap (λ l. length first ∷ l) (ap (λ l. first ++ l) (written-push rest label) ∙ sym (append_assoc first (written rest) (length label ∷ label)))
 
@@ -59,17 +56,6 @@ read_end octets before read at = (
     lower = refl;
   },
 )
-
--- or a fault stops it
-pub read_stops : (octets : List ℕ) (before : ℕ) (fault : NameFault) → HasRead octets before → IsFaultAt fault before (drop before octets) → StopsAt octets fault
-read_stops octets before fault read at = record {
-  labels = read.labels;
-  rest = drop before octets;
-  spelled = read.spelled;
-  sizes = read.sizes;
-  fits = subst (λ n. n ≤ 254) read.count read.fits;
-  faulty = subst (λ n. IsFaultAt fault n (drop before octets)) read.count at;
-}
 
 -- ---- one way only
 
@@ -185,9 +171,3 @@ one_stop octets fault fault' s s' =
     (omega (arith, s.fits)) (omega (arith, s'.fits)) (stop_of octets fault s) (stop_of octets fault' s') in
     one_fault fault fault' (length (written s.labels)) s.rest s.faulty
     (subst (λ l. IsFaultAt fault' (length (written l)) s.rest) (sym place.labels_same) (subst (IsFaultAt fault' (length (written s'.labels))) (sym place.rest_same) s'.faulty))
-
--- the octets taken are the wire form
-pub form_of : (octets : List ℕ) (name : List Label) (taken : ℕ) → Spells octets name taken → IsWireForm (take taken octets)
-form_of octets name taken s =
-    let is : take taken octets ≡ wire_of s.labels = ap (take taken) s.spelled ∙ take_at (wire_of s.labels) s.rest taken (sym s.size) in
-    record { labels = s.labels; spelled = is; sizes = s.sizes; fits = omega (arith, ap length is, s.size, s.fits) }

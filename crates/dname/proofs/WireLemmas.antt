@@ -1,12 +1,15 @@
 -- A wire form gives its labels back, one by one from the left.
-use Rattle.std.proofs.Common.{◌≡◌, ◌≢◌, ℕ, ◌+◌, ◌*◌, ◌<◌, ◌≤◌, zero, suc, Bool, List, [], ◌∷◌, ◌++◌, length, map, take, drop, get_or, refl, sym, ◌∙◌, ap, subst, arith, length-append}
+use Rattle.std.proofs.Common.{◌≡◌, ◌≢◌, ◌⊎◌, inl, inr, ⊎_elim, ℕ, ◌+◌, ◌-◌, ◌*◌, ◌<◌, ◌≤◌, zero, suc, Bool, List, [], ◌∷◌, ◌++◌, length, map, take, drop, get_or, refl, sym, ◌∙◌, ap, subst, arith, length-append, Fits, w8}
 use Rattle.std.specs.Prelude.{nat_eq}
 use Rattle.std.specs.Bool.{Decides}
 use Rattle.std.specs.Char.{to_ascii_lowercase}
 use Rattle.std.specs.List.{All}
 use Rattle.std.specs.Cmp.Lexicographic.{pointwise, pointwise_decides, bytes_decides}
-use Rattle.std.proofs.lemmas.List.{take_at, drop_at, map-append, length-map}
-use Rattle.std.proofs.lemmas.List.Elements.{All-nil, All-head, All-tail, All-map, All-weaker, All-cons, All-same, All-take, All-drop}
+use Rattle.std.proofs.lemmas.Bool.{cases_lt}
+use Rattle.std.proofs.Math.ListN.{get_or-append, get_or-map}
+use Rattle.std.proofs.Math.Seq.{get_or-append_right}
+use Rattle.std.proofs.lemmas.List.{take_at, drop_at, map-append, length-map, length-drop, length-take-le, take-append-drop, ext_get_or, get_or-drop, get_or-take}
+use Rattle.std.proofs.lemmas.List.Elements.{All-nil, All-head, All-tail, All-map, All-weaker, All-cons, All-same, All-take, All-drop, All-from_get_or}
 use Rattle.std.proofs.lemmas.Slice.Eq.{bytes_eq-Decides}
 use Rattle.std.proofs.lemmas.Bool.Decides.{nat_tests, same_from_decides}
 use Rattle.dname.specs.Name.{Label, HasLabelLength, IsLabel, IsName, lowered, wire_of, labels_within, labels_of, IsWire}
@@ -144,6 +147,10 @@ lowered_twice (octet ∷ rest) = λ i. lower_twice octet i ∷ lowered_twice res
 lower_small : (n : ℕ) → n < 256 → to_ascii_lowercase n < 256
 lower_small n small = grind (arith, nat_tests)
 
+-- a slice of octets has octets
+pub octets_small : (octets : List ℕ) → ((i : ℕ) → Fits w8 (get_or octets i 0)) → All (λ octet. octet < 256) octets
+octets_small octets fits = All-from_get_or (λ octet. octet < 256) octets 0 (λ i within. omega (arith, fits i))
+
 -- a label's octets, lowered, are a label
 pub IsLabel-lowered : (label : Label) → HasLabelLength label → All (λ octet. octet < 256) label → IsLabel (lowered label)
 IsLabel-lowered label size octets = record {
@@ -193,10 +200,6 @@ lowered_labels (label ∷ rest) sizes small =
     (IsLabel-lowered label (All-head HasLabelLength label rest sizes) (All-head (All (λ octet. octet < 256)) label rest small))
     (lowered_labels rest (All-tail HasLabelLength label rest sizes) (All-tail (All (λ octet. octet < 256)) label rest small))
 
-pub lowered_sizes : (labels : List Label) → All HasLabelLength labels → All HasLabelLength (map lowered labels)
-lowered_sizes labels sizes =
-    All-map HasLabelLength lowered labels (All-weaker HasLabelLength (λ label. HasLabelLength (lowered label)) (λ label size. subst (λ n. (1 ≤ n) × (n ≤ 63)) (sym (length-map label to_ascii_lowercase)) size) labels sizes)
-
 -- a wire form, lowered, is that of the lowered labels
 pub made_from : (octets items : List ℕ) (labels : List Label) → octets ≡ wire_of labels → All HasLabelLength labels → All (λ octet. octet < 256) octets → length octets ≤ 255 → items ≡ lowered octets → IsMade items (map lowered labels)
 made_from octets items labels spelled sizes small fits is =
@@ -205,3 +208,49 @@ made_from octets items labels spelled sizes small fits is =
       each = lowered_labels labels sizes (labels_small labels (subst (All (λ octet. octet < 256)) spelled small));
       fits = omega (arith, ap length form, ap length is, length-map octets to_ascii_lowercase, fits);
     })
+
+-- a wire form of more than an octet isn't the root's
+pub not_root : (octets : List ℕ) → IsWire octets → 1 < length (wire_of (labels_of octets)) → get_or octets 0 0 ≢ 0
+not_root octets wire long none = absurd (omega (arith, long, ap (λ labels. length (wire_of labels)) (no_labels octets wire none)))
+
+-- from the start up to the end the octets are lowered, and the others as they were
+pub record IsLowered (before after : List ℕ) (start end : ℕ) : Type 0 where
+  pub size : length after ≡ length before
+  pub low : start ≤ end
+  pub inside : (k : ℕ) → start ≤ k → k < end → get_or after k 0 ≡ to_ascii_lowercase (get_or before k 0)
+  pub outside : (k : ℕ) → (k < start) ⊎ (end ≤ k) → get_or after k 0 ≡ get_or before k 0
+
+-- up to one place, and from there up to another
+pub lowered_then : (before between after : List ℕ) (start at end : ℕ) → IsLowered before between start at → IsLowered between after at end → IsLowered before after start end
+lowered_then before between after start at end l m = record {
+  size = m.size ∙ l.size;
+  low = omega (arith, l.low, m.low);
+  inside = λ k from below. ⊎_elim
+      (λ (lt : k < at). m.outside k (inl lt) ∙ l.inside k from lt)
+      (λ (le : at ≤ k). m.inside k le below ∙ ap to_ascii_lowercase (l.outside k (inr le)))
+      (cases_lt k at);
+  outside = λ k out. ⊎_elim
+      (λ (lt : k < start). m.outside k (inl (omega (arith, lt, l.low))) ∙ l.outside k (inl lt))
+      (λ (le : end ≤ k). m.outside k (inr le) ∙ l.outside k (inr (omega (arith, le, m.low))))
+      out;
+}
+
+pub lowered_all : (before after : List ℕ) (start at end : ℕ) → IsLowered before after start at → start ≤ end → end ≤ at → end ≤ length before → take end after ≡ take start before ++ lowered (take (end - start) (drop start before))
+lowered_all before after start at end l order whole within =
+    let front = take start before in
+    let rest = drop start before in
+    let back = take (end - start) rest in
+    let few : length front ≡ start = length-take-le start before (omega arith) in
+    let size : length (take end after) ≡ length (front ++ lowered back) =
+    omega (arith, l.size, length-take-le end after (omega (arith, l.size)), length-append front (lowered back), few, length-map back to_ascii_lowercase, length-take-le (end - start) rest (omega (arith, length-drop start before)), length-drop start before) in
+    ext_get_or 0 (take end after) (front ++ lowered back) size (λ i inside.
+    let small : i < end = omega (arith, inside, length-take-le end after (omega (arith, l.size))) in
+    get_or-take end after i 0 small ∙ ⊎_elim
+    (λ (lt : i < start). l.outside i (inl lt)
+    ∙ ap (λ xs. get_or xs i 0) (sym (take-append-drop start before))
+    ∙ get_or-append front rest 0 i (omega (arith, few))
+    ∙ sym (get_or-append front (lowered back) 0 i (omega (arith, few))))
+    (λ (le : start ≤ i). l.inside i le (omega arith)
+    ∙ ap to_ascii_lowercase (sym (get_or-take (end - start) rest (i - length front) 0 (omega (arith, few)) ∙ get_or-drop start before (i - length front) 0 ∙ ap (λ k. get_or before k 0) {x = start + (i - length front)} {y = i} (omega (arith, few))))
+    ∙ sym (get_or-append_right front (lowered back) i 0 (omega (arith, few)) ∙ get_or-map to_ascii_lowercase back (i - length front) 0))
+    (cases_lt i start))

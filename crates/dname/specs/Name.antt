@@ -43,7 +43,8 @@ IsUnder name other = (front : List Label) × (name ≡ front ++ other)
 pub record IsCommon (name other ancestor : List Label) : Type 0 where
   pub first : IsUnder name ancestor
   pub second : IsUnder other ancestor
-  pub longest : (another : List Label) → IsUnder name another → IsUnder other another → IsUnder ancestor another
+  pub longest : (another : List Label) → IsUnder name another → IsUnder other another
+      → IsUnder ancestor another
 
 -- labels compare as left-justified strings of octets, a missing octet before octet zero (RFC 4034, section 6.1)
 abbrev pub label_cmp : Label → Label → Ordering
@@ -67,7 +68,8 @@ abbrev pub labels_within : ℕ → List ℕ → List Label
 labels_within zero octets = []
 labels_within (suc n) [] = []
 labels_within (suc n) (zero ∷ rest) = []
-labels_within (suc n) (suc size ∷ rest) = take (suc size) rest ∷ labels_within n (drop (suc size) rest)
+labels_within (suc n) (suc size ∷ rest) =
+    take (suc size) rest ∷ labels_within n (drop (suc size) rest)
 
 abbrev pub labels_of : List ℕ → List Label
 labels_of octets = labels_within (length octets) octets

@@ -1,4 +1,5 @@
--- The laws of canonical order: it is total, and equal exactly on equal names.
+-- No public clause cites this module: the laws of canonical order that `Ord` asks for. It is total, and equal exactly on
+-- equal names.
 use Rattle.std.specs.Prelude.{◌≡◌, Bool, true, false, List, reverse, nat_eq}
 use Rattle.std.proofs.Common.{refl, sym, ◌∙◌, ap, subst}
 use Rattle.std.specs.declared.cmp.Ordering.{Ordering}

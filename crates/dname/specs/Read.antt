@@ -20,16 +20,18 @@ abbrev pub written : List Label → List ℕ
 written [] = []
 written (label ∷ rest) = length label ∷ label ++ written rest
 
--- behind labels of so many octets, the rest can't be read as a label or the end, for this fault
+-- after labels of so many octets, the rest can't be read as a label or the end, for this fault
 abbrev pub IsFaultAt : NameFault → ℕ → List ℕ → Type 0
 IsFaultAt Pointer before [] = ⊥
 IsFaultAt Pointer before (size ∷ rest) = 192 ≤ size
 IsFaultAt LabelTooLong before [] = ⊥
 IsFaultAt LabelTooLong before (size ∷ rest) = (64 ≤ size) × (size < 192)
 IsFaultAt NameTooLong before [] = ⊥
-IsFaultAt NameTooLong before (size ∷ rest) = (1 ≤ size) × (size ≤ 63) × (254 < before + 1 + size)
+IsFaultAt NameTooLong before (size ∷ rest) =
+    (1 ≤ size) × (size ≤ 63) × (254 < before + 1 + size)
 IsFaultAt Short before [] = Unit {0}
-IsFaultAt Short before (size ∷ rest) = (1 ≤ size) × (size ≤ 63) × (before + 1 + size ≤ 254) × (length rest < size)
+IsFaultAt Short before (size ∷ rest) =
+    (1 ≤ size) × (size ≤ 63) × (before + 1 + size ≤ 254) × (length rest < size)
 
 -- the octets begin with whole labels that fit a name, and what follows has the fault
 pub record StopsAt (octets : List ℕ) (fault : NameFault) : Type 0 where
@@ -40,7 +42,7 @@ pub record StopsAt (octets : List ℕ) (fault : NameFault) : Type 0 where
   pub fits : length (written labels) ≤ 254
   pub faulty : IsFaultAt fault (length (written labels)) rest
 
--- behind labels of so many octets stands a whole label of this size that fits a name, or the end, of size 0
+-- after labels of so many octets stands a whole label of this size that fits a name, or the end, of size 0
 pub record HasLabelAt (before : ℕ) (octets : List ℕ) (size : ℕ) : Type 0 where
   pub rest : List ℕ
   pub first : octets ≡ size ∷ rest
@@ -58,4 +60,6 @@ pub record IsWireForm (octets : List ℕ) : Type 0 where
 
 -- those labels, lowered, are the name's
 abbrev pub IsReadFrom : List ℕ → List Label → Type 0
-IsReadFrom octets name = (labels : List Label) → octets ≡ wire_of labels → All HasLabelLength labels → name ≡ map lowered labels
+IsReadFrom octets name =
+    (labels : List Label) → octets ≡ wire_of labels → All HasLabelLength labels
+    → name ≡ map lowered labels

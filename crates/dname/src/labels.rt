@@ -1,7 +1,8 @@
-ghost use Rattle.std.specs.Prelude.{◌≡◌, ◌+◌, ◌-◌, ◌≤◌, ℕ, List, [], ◌∷◌, length, take, drop, slice_index, MatchOption};
-ghost use Rattle.dname.specs.Name.{wire_of, IsName, IsCommon, canonical_cmp};
+ghost use Rattle.std.specs.Prelude.{◌≡◌, ◌+◌, ◌≤◌, ◌<◌, ℕ, List, [], ◌∷◌, length, take, drop, reverse, slice_index, MatchOption, IsTrue, ◌↔◌};
+ghost use Rattle.dname.specs.Digest.{first_label};
+ghost use Rattle.dname.specs.Name.{wire_of, IsName, IsUnder, IsCommon, label_cmp, canonical_cmp};
 
-use std::cmp::Ordering;
+use crate::pieces::octets_eq;
 use std::marker::Model;
 
 /// The last labels of a name, leftmost first, in the name's own octets.
@@ -41,46 +42,88 @@ impl<'a> Labels<'a> {
 
     /// Takes the leftmost label off.
     pub(crate) fn next(&mut self) -> Option<&'a [u8]>
-        ensures label { MatchOption result (self.old ≡ []) (λ label. self.old ≡ label.now ∷ self.new) }
+        ensures label { MatchOption result (self.old ≡ [])
+            (λ label. self.old ≡ label.now ∷ self.new) }
         ensures rest { self.new ≡ drop 1 self.old }
     {
-        if self.wire[0] == 0 {
+        if self.wire().len() <= 1 {
             return None;
         }
+        Some(self.take_first())
+    }
+
+    /// Takes the leftmost label off a name that isn't the root.
+    #[inline(always)]
+    fn take_first(&mut self) -> &'a [u8]
+        requires { 1 < length (wire_of self.old) }
+        ensures { self.old ≡ result.now ∷ self.new }
+    {
         let (label, rest) = split_label(self.wire);
         self.wire = rest;
-        Some(label)
+        label
     }
 }
 
-// The order of two names of as many labels: the rightmost labels that differ decide.
-pub(crate) fn aligned_cmp(mut name: Labels<'_>, mut other: Labels<'_>) -> Ordering
-    requires { length name ≡ length other }
-    ensures { result ≡ canonical_cmp name.entry other.entry }
-{
-    let mut order = Ordering::Equal;
-    while let Some(label) = name.next() {
-        if let Some(another) = other.next() {
-            order = label.cmp(another).then(order);
-        }
-    }
-    order
+/// Where two names meet: their longest common ancestor, and of each name the label in front of it, empty for none.
+#[derive(Drop)]
+pub(crate) struct Meeting<'a> {
+    pub(crate) rest: Labels<'a>,
+    pub(crate) label: &'a [u8],
+    pub(crate) other: &'a [u8],
 }
 
-// How many last labels two names of as many labels share.
-pub(crate) fn shared_labels(mut name: Labels<'_>, mut other: Labels<'_>) -> usize
-    requires aligned { length name ≡ length other }
-    requires short { length name ≤ 127 }
-    ensures few { result ≤ length name.entry }
-    ensures common { IsCommon name.entry other.entry (drop (length name.entry - result) name.entry) }
+// Each name loses labels from the left, the one with more octets left first, until the same octets are left of both.
+#[inline(always)]
+pub(crate) fn meet<'a>(mut name: Labels<'a>, mut other: Labels<'a>) -> Meeting<'a>
+    ensures common { IsCommon name.entry other.entry result.rest }
+    ensures order { label_cmp result.label.now result.other.now
+        ≡ canonical_cmp name.entry other.entry }
 {
-    let mut shared = 0;
-    while let Some(label) = name.next() {
-        if let Some(another) = other.next() {
-            shared = if label == another { shared + 1 } else { 0 };
+    let mut label: &[u8] = &[];
+    let mut another: &[u8] = &[];
+    loop {
+        let (size, other_size) = (name.wire().len(), other.wire().len());
+        if size == other_size {
+            if octets_eq(name.wire(), other.wire()) {
+                break;
+            }
+            label = name.take_first();
+            another = other.take_first();
+        } else if size > other_size {
+            label = name.take_first();
+        } else {
+            another = other.take_first();
         }
     }
-    shared
+    Meeting {
+        rest: name,
+        label,
+        other: another,
+    }
+}
+
+// Whether the first name is the other or below it: it loses labels from the left until it has no more octets.
+#[inline(always)]
+pub(crate) fn ends_in(mut name: Labels<'_>, other: Labels<'_>) -> bool
+    ensures { IsTrue result ↔ IsUnder name.entry other.entry }
+{
+    while name.wire().len() > other.wire().len() {
+        name.take_first();
+    }
+    octets_eq(name.wire(), other.wire())
+}
+
+// The label in front of the apex's, which is empty where there is none.
+#[inline(always)]
+pub(crate) fn label_below<'a>(mut name: Labels<'a>, apex: Labels<'_>) -> &'a [u8]
+    requires { IsUnder name apex }
+    ensures { result.now ≡ first_label (drop (length apex.entry) (reverse name.entry)) }
+{
+    let mut label: &[u8] = &[];
+    while name.wire().len() > apex.wire().len() {
+        label = name.take_first();
+    }
+    label
 }
 
 // The label that a length octet begins, and what follows it.

@@ -1,14 +1,36 @@
-//! Domain names in canonical order, and lists of octets.
+//! What all other crates stand on: domain names in canonical order, the arcs of an order, octets and lists, and the
+//! numbers of types. It knows no message, no record and no zone.
+//!
+//! Its specs, in reading order:
+//! - `specs/Name.antt`: what a name is, its wire form, above and below, canonical order
+//! - `specs/Read.antt`: what octets say of a name at their front, and each fault
+//! - `specs/Arc.antt`: arcs of the ring that an order makes of its values
+//! - `specs/Digest.antt`: a number that keeps the order of the names under one apex
+//! - `specs/Order.antt`: the laws of canonical order, which no public clause cites
 #![tactic(auto)]
 
+mod arc;
+mod item_list;
 mod labels;
 mod name;
+mod name_builder;
 mod name_fault;
 mod octets;
 mod octets_list;
+mod order;
+mod pieces;
 mod reader;
+mod slices;
+pub mod types;
+mod wire;
 
+pub use arc::{arc_has, arcs_meet, arcs_part_the_ring, inside_by_arc};
+pub use item_list::ItemList;
 pub use name::Name;
+pub use name_builder::{NameBuilder, NameTooLong};
 pub use name_fault::NameFault;
 pub use octets::{Octets, OutOfMemory};
 pub use octets_list::OctetsList;
+pub use order::{descendants_stand_together, digest_keeps_the_order};
+pub use slices::{octets_between, octets_from, u16_at, u32_at};
+pub use wire::MAX_WIRE;

@@ -1,24 +1,23 @@
-ghost use Rattle.std.specs.Prelude.{◌≡◌, ◌+◌, ◌-◌, ◌≤◌, ◌<◌, ◌↔◌, ℕ, List, [], ◌∷◌, ◌++◌, length, map, drop, IsTrue, IsSome, IfSome, IfOk, IfErr, Ok, Err, MatchOption, Bool, true, false, nat_eq};
+ghost use Rattle.std.specs.Prelude.{◌≡◌, ◌-◌, ◌≤◌, ◌↔◌, ℕ, List, [], ◌∷◌, ◌++◌, length, drop, IsTrue, IsSome, IfSome, IfOk, IfErr, Ok, Err, MatchOption, true, false};
 ghost use Rattle.std.specs.Cmp.Lexicographic.{pointwise};
 ghost use Rattle.dname.specs.Read.{Spells, StopsAt, IsWireForm, IsReadFrom};
 ghost use Rattle.dname.specs.declared.name_fault.NameFault.{NameFault};
+ghost use Rattle.dname.specs.Digest.{digest_below};
 ghost use Rattle.dname.specs.Name.{wire_of, IsName, IsUnder, IsCommon, HasLabelLength, lowered, asterisk, without_asterisk, canonical_cmp};
 
 use crate::NameFault;
-use crate::labels::{Labels, aligned_cmp, shared_labels};
+use crate::labels::{Labels, ends_in, label_below, meet};
+use crate::pieces::{first_word, octets_cmp, octets_eq};
 use crate::reader::wire_size;
-use arrayvec::ArrayVec;
+use crate::wire::{MAX_WIRE, Wire};
 use std::cmp::Ordering;
 use std::marker::Model;
-
-/// The octets of the longest wire form (RFC 1035, section 2.3.4).
-const MAX_WIRE: usize = 255;
 
 /// A domain name, seen as the list of its labels, the leftmost first, with A to Z lowered. The root has none.
 /// No call on it takes memory.
 #[derive(Debug, Drop)]
 pub struct Name {
-    wire: ArrayVec<u8, MAX_WIRE>,
+    wire: Wire,
 }
 
 impl Model for Name {
@@ -27,9 +26,9 @@ impl Model for Name {
 
     ghost Value = { List (List ℕ) };
 
-    ghost view = { λ n. labels_of n.wire.items };
+    ghost view = { λ n. labels_of n.wire };
 
-    ghost invariant = { λ n. IsWire n.wire.items };
+    ghost invariant = { λ n. IsWire n.wire };
 }
 
 impl Name {
@@ -38,7 +37,7 @@ impl Name {
     pub fn root() -> Name
         ensures { result ≡ [] }
     {
-        let mut wire = ArrayVec::new();
+        let mut wire = Wire::empty();
         wire.push(0);
         Name { wire }
     }
@@ -50,8 +49,10 @@ impl Name {
         ensures refused { IfErr result (StopsAt octets.now) }
 
         // Octets that spell a name are read, and each fault is told where it stands.
-        ensures every_name { (name : List (List ℕ)) (taken : ℕ) → Spells octets.now name taken → result ≡ Ok (name, taken) }
-        ensures every_fault { (fault : NameFault) → StopsAt octets.now fault → result ≡ Err fault }
+        ensures every_name { (name : List (List ℕ)) (taken : ℕ) → Spells octets.now name taken
+            → result ≡ Ok (name, taken) }
+        ensures every_fault { (fault : NameFault) → StopsAt octets.now fault
+            → result ≡ Err fault }
     {
         let taken = wire_size(octets)?;
         Ok((Name::of_wire(&octets[..taken]), taken))
@@ -61,7 +62,9 @@ impl Name {
     pub fn copy(&self) -> Name
         ensures { result ≡ self.now }
     {
-        Name::of_labels(&self.all_labels())
+        Name {
+            wire: self.wire.copy(),
+        }
     }
 
     /// The wire form, uncompressed (RFC 1035, section 3.1).
@@ -70,6 +73,15 @@ impl Name {
         ensures name { IsName self.now }
     {
         self.wire.as_slice()
+    }
+
+    /// A number that is less than that of another name under the apex only where the name goes before it: the first 8
+    /// octets of the label in front of the apex.
+    pub fn digest_below(&self, apex: &Name) -> u64
+        requires { IsUnder self.now apex.now }
+        ensures { result ≡ digest_below (length apex.now) self.now }
+    {
+        first_word(label_below(self.all_labels(), apex.all_labels()))
     }
 
     /// The number of labels, the root not counted.
@@ -101,13 +113,13 @@ impl Name {
     pub fn is_under(&self, other: &Name) -> bool
         ensures { IsTrue result ↔ IsUnder self.now other.now }
     {
-        let depth = other.labels();
-        depth <= self.labels() && self.last_labels(depth).wire() == other.wire()
+        ends_in(self.all_labels(), other.all_labels())
     }
 
     /// The name with its leftmost label taken off; the root has none.
     pub fn parent(&self) -> Option<Name>
-        ensures { MatchOption result (self.now ≡ []) (λ parent. (label : List ℕ) × (self.now ≡ label ∷ parent)) }
+        ensures { MatchOption result (self.now ≡ [])
+            (λ parent. (label : List ℕ) × (self.now ≡ label ∷ parent)) }
     {
         let mut labels = self.all_labels();
         labels.next()?;
@@ -126,8 +138,7 @@ impl Name {
     pub fn common(&self, other: &Name) -> Name
         ensures { IsCommon self.now other.now result }
     {
-        let depth = self.labels().min(other.labels());
-        self.last(shared_labels(self.last_labels(depth), other.last_labels(depth)))
+        Name::of_labels(&meet(self.all_labels(), other.all_labels()).rest)
     }
 
     /// The name below it that the label begins; none where its wire form would have more than 255 octets.
@@ -136,13 +147,14 @@ impl Name {
         ensures room { IsSome result ↔ (length (wire_of (label.now ∷ self.now)) ≤ 255) }
         ensures value { IfSome result (λ child. child ≡ lowered label.now ∷ self.now) }
     {
-        if 1 + label.len() + self.wire.len() > MAX_WIRE {
+        let rest = self.wire.as_slice();
+        if 1 + label.len() + rest.len() > MAX_WIRE {
             return None;
         }
-        let mut wire = ArrayVec::new();
+        let mut wire = Wire::empty();
         wire.push(label.len() as u8);
-        append_lowered(&mut wire, label);
-        append(&mut wire, self.wire.as_slice());
+        wire.append_lowered(label);
+        wire.append(rest);
         Some(Name { wire })
     }
 
@@ -154,9 +166,21 @@ impl Name {
         self.child(b"*")
     }
 
-    // Whether the leftmost label is an asterisk alone.
+    // Puts the label last.
+    pub(crate) fn append_label(&mut self, label: &[u8])
+        requires size { HasLabelLength label.now }
+        requires room { length (wire_of (self.old ++ label.now ∷ [])) ≤ 255 }
+        ensures { self.new ≡ self.old ++ lowered label.now ∷ [] }
+    {
+        self.wire.pop();
+        self.wire.push(label.len() as u8);
+        self.wire.append_lowered(label);
+        self.wire.push(0);
+    }
+
     fn is_wildcard(&self) -> bool
-        ensures yes { result ≡ true → (rest : List (List ℕ)) × (self.now ≡ asterisk ∷ rest) }
+        ensures yes { result ≡ true
+            → (rest : List (List ℕ)) × (self.now ≡ asterisk ∷ rest) }
         ensures no { result ≡ false → without_asterisk self.now ≡ self.now }
     {
         let mut labels = self.all_labels();
@@ -171,17 +195,17 @@ impl Name {
         requires { IsWireForm octets.now }
         ensures { IsReadFrom octets.now result }
     {
-        let mut wire = ArrayVec::new();
-        append_lowered(&mut wire, octets);
+        let mut wire = Wire::empty();
+        wire.append_lowered(octets);
         Name { wire }
     }
 
     fn of_labels(labels: &Labels<'_>) -> Name
         ensures { result ≡ labels.now }
     {
-        let mut wire = ArrayVec::new();
-        append(&mut wire, labels.wire());
-        Name { wire }
+        Name {
+            wire: Wire::of(labels.wire()),
+        }
     }
 
     fn last_labels(&self, n: usize) -> Labels<'_>
@@ -203,24 +227,6 @@ impl Name {
     }
 }
 
-fn append(wire: &mut ArrayVec<u8, MAX_WIRE>, octets: &[u8])
-    requires { length wire.old.items + length octets.now ≤ 255 }
-    ensures { wire.new.items ≡ wire.old.items ++ octets.now }
-{
-    let fitted = wire.try_extend_from_slice(octets).is_ok();
-    prove!(fitted);
-}
-
-// A to Z lowered on the way; a length octet is below 64 and stays.
-fn append_lowered(wire: &mut ArrayVec<u8, MAX_WIRE>, octets: &[u8])
-    requires { length wire.old.items + length octets.now ≤ 255 }
-    ensures { wire.new.items ≡ wire.old.items ++ lowered octets.now }
-{
-    for octet in octets {
-        wire.push(octet.to_ascii_lowercase());
-    }
-}
-
 impl PartialEq for Name {
     ghost use Rattle.std.specs.Prelude.{nat_eq};
     ghost use Rattle.std.specs.Cmp.{partial_equiv_from_equiv};
@@ -234,7 +240,7 @@ impl PartialEq for Name {
         ensures value { result ≡ pointwise (pointwise nat_eq) self.now other.now }
         ensures same { IsTrue result ↔ (self.now ≡ other.now) }
     {
-        self.wire() == other.wire()
+        octets_eq(self.wire(), other.wire())
     }
 }
 
@@ -272,14 +278,13 @@ impl Ord for Name {
 
     ghost matches_eq = { canonical_ties };
 
+    #[tactic(auto, using(crate::specs::Order::canonical_equal, crate::specs::Order::canonical_same))]
     fn cmp(&self, other: &Name) -> Ordering
         ensures value { result ≡ canonical_cmp self.now other.now }
         ensures equal { (result ≡ Ordering.Equal) ↔ (self.now ≡ other.now) }
     {
-        let (depth, other_depth) = (self.labels(), other.labels());
-        let shared = depth.min(other_depth);
-        let order = aligned_cmp(self.last_labels(shared), other.last_labels(shared));
-        order.then(depth.cmp(&other_depth))
+        let met = meet(self.all_labels(), other.all_labels());
+        octets_cmp(met.label, met.other)
     }
 }
 

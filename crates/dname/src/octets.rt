@@ -37,7 +37,14 @@ impl Octets {
         })
     }
 
-    /// Puts the piece behind the octets that there are.
+    /// Equal octets.
+    pub fn copy(&self, alloc: Global) -> Result<Octets, OutOfMemory>
+        ensures { IfOk result (λ octets. octets ≡ self.now) }
+    {
+        Octets::of(alloc, self.as_slice())
+    }
+
+    /// Puts the piece last.
     pub fn append(&mut self, piece: &[u8]) -> Result<(), OutOfMemory>
         ensures ok { OnOk result (self.new ≡ self.old ++ piece.now) }
         ensures refused { OnErr result (self.new ≡ self.old) }

@@ -1,58 +1,21 @@
-ghost use Rattle.std.specs.Prelude.{◌≡◌, ◌<◌, ℕ, List, [], ◌∷◌, ◌++◌, length, slice_get, Some, IsTrue, OnOk, OnErr, ◌↔◌};
+ghost use Rattle.std.specs.Prelude.{◌≡◌, IfOk};
 
-use crate::{Octets, OutOfMemory};
+use crate::{ItemList, Octets, OutOfMemory};
 use std::alloc::Global;
-use std::marker::Model;
 
 /// A list of octets, such as the data of an RRset, seen as the list of their lists.
-#[derive(Debug, Drop)]
-pub struct OctetsList {
-    items: Vec<Octets>,
-}
+pub type OctetsList = ItemList<Octets>;
 
-impl Model for OctetsList {
-    ghost Value = { List (List ℕ) };
-
-    ghost view = { λ l. l.items.items };
-}
-
-impl OctetsList {
-    /// The empty list, which keeps the allocator for `push`. It takes no memory.
-    pub fn empty(alloc: Global) -> OctetsList
-        ensures { result ≡ [] }
+impl ItemList<Octets> {
+    /// An equal list.
+    pub fn copy(&self, alloc: Global) -> Result<OctetsList, OutOfMemory>
+        ensures { IfOk result (λ copy. copy ≡ self.now) }
     {
-        OctetsList {
-            items: Vec::new(alloc),
+        let mut copy = OctetsList::empty(alloc);
+        for item in self.as_slice() {
+            copy.push(item.copy(alloc)?)?;
         }
-    }
-
-    /// Puts the item last.
-    pub fn push(&mut self, item: Octets) -> Result<(), OutOfMemory>
-        ensures ok { OnOk result (self.new ≡ self.old ++ item ∷ []) }
-        ensures refused { OnErr result (self.new ≡ self.old) }
-    {
-        self.items.push(item)?;
-        Ok(())
-    }
-
-    pub fn len(&self) -> usize
-        ensures { result ≡ length self.now }
-    {
-        self.items.len()
-    }
-
-    pub fn is_empty(&self) -> bool
-        ensures { IsTrue result ↔ (self.now ≡ []) }
-    {
-        self.items.is_empty()
-    }
-
-    /// The item at place `i`, counted from 0.
-    pub fn get(&self, i: usize) -> &Octets
-        requires { i < length self.now }
-        ensures { slice_get self.now i ≡ Some result.now }
-    {
-        &self.items[i]
+        Ok(copy)
     }
 }
 
@@ -68,9 +31,12 @@ mod tests {
         assert!(rt; list.is_empty());
         list.push(Octets::of(alloc, b"one")?)?;
         list.push(Octets::of(alloc, b"")?)?;
-        assert_eq!(rt; list.len(), 2);
-        assert_eq!(rt; list.get(0).as_slice(), b"one".as_slice());
-        assert_eq!(rt; list.get(1).as_slice(), b"".as_slice());
+        let copy = list.copy(alloc)?;
+        for kept in [&list, &copy] {
+            assert_eq!(rt; kept.len(), 2);
+            assert_eq!(rt; kept.get(0).as_slice(), b"one".as_slice());
+            assert_eq!(rt; kept.get(1).as_slice(), b"".as_slice());
+        }
         Ok(())
     }
 }

@@ -1,14 +1,13 @@
-ghost use Rattle.std.specs.Prelude.{◌≡◌, ◌+◌, ◌≤◌, ◌<◌, List, ℕ, [], ◌∷◌, length, take, drop, IfOk, IfErr, MatchResult};
+ghost use Rattle.std.specs.Prelude.{◌≤◌, List, ℕ, IfOk, IfErr};
 ghost use Rattle.dname.specs.Read.{IsFaultAt, StopsAt, Spells, HasLabelAt};
 
 use crate::NameFault;
-
-/// The most octets of a wire form before the root's octet.
-const MAX_LABEL_OCTETS: usize = 254;
+use crate::wire::MAX_WIRE;
 
 /// The octets that the name at the front takes, the root's among them.
 pub(crate) fn wire_size(octets: &[u8]) -> Result<usize, NameFault>
-    ensures read { IfOk result (λ taken. (name : List (List ℕ)) × Spells octets.now name taken) }
+    ensures read { IfOk result
+        (λ taken. (name : List (List ℕ)) × Spells octets.now name taken) }
     ensures refused { IfErr result (StopsAt octets.now) }
 {
     let mut before = 0;
@@ -21,7 +20,7 @@ pub(crate) fn wire_size(octets: &[u8]) -> Result<usize, NameFault>
     }
 }
 
-// The size of the label at the front, behind labels of so many octets; 0 is the root.
+// The size of the label at the front, after labels of so many octets; 0 is the root.
 fn label_size(octets: &[u8], before: usize) -> Result<usize, NameFault>
     requires { before ≤ 254 }
     ensures read { IfOk result (HasLabelAt before octets.now) }
@@ -37,7 +36,7 @@ fn label_size(octets: &[u8], before: usize) -> Result<usize, NameFault>
     if size >= 64 {
         return Err(NameFault::LabelTooLong);
     }
-    if size > 0 && before + 1 + size > MAX_LABEL_OCTETS {
+    if size > 0 && before + 1 + size >= MAX_WIRE {
         return Err(NameFault::NameTooLong);
     }
     if rest.len() < size {

@@ -1,6 +1,5 @@
 pub mod FramesLemmas
-pub mod StepOfLemmas
-pub mod StepLemmas
+pub mod OneFrameLemmas
 pub mod ReplayLemmas
-pub mod WordLemmas
 pub mod RunLemmas
+pub mod WordLemmas

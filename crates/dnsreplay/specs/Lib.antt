@@ -1,5 +1,6 @@
-pub mod Outputs
-pub mod Replay
+pub mod Cache
+pub mod Frames
+pub mod OneFrame
 pub mod Run
 pub mod Status
 pub mod Words

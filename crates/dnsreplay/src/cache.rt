@@ -1,89 +1,77 @@
-ghost use Rattle.std.specs.Prelude.{◌≡◌, ◌+◌, ◌<◌, ◌^◌, [], ◌++◌, length, OnOk, IfOk};
-ghost use Rattle.replay_meaning.specs.OutFrame.{output_spelling};
-ghost use Rattle.replay_meaning.specs.Outcome.{reply_in};
-ghost use Rattle.dnsreplay.specs.Outputs.{cache_of, IsShort, query_output, batch_output, output_of as the_output, with_batch, cache_after};
+ghost use Rattle.std.specs.Prelude.{◌≡◌, ◌+◌, ◌<◌, ◌^◌, [], IfOk, OnErr};
+ghost use Rattle.replay_meaning.specs.Version.{version_of};
+ghost use Rattle.dnsreplay.specs.Cache.{IsOutcome, with_batch};
 
-use crate::step::{Asked, Step};
-use cache_meaning::HeldRecords;
+use cache_meaning::{PlainStore, answer};
 use denial_records::Batch;
-use dname::{Octets, OutOfMemory};
-use replay_meaning::{OutFrame, OutKind};
+use dname::OutOfMemory;
+use dnswire::Question;
 use reply_core::{ReplyBuffer, write_reply};
 use std::alloc::Global;
+use std::marker::Model;
 
-/// The records held, and which version they are: how many batches were placed.
-#[derive(Debug, Drop)]
+/// What becomes of a query, at the version that it reads.
+#[derive(Clone, Copy, Debug, PartialEq, Eq)]
+pub enum Outcome {
+    /// There is a proof, and the buffer holds its reply.
+    Answered(u32),
+    /// There is none.
+    Forward(u32),
+}
+
+/// The records held, and how many batches were placed, seen as a version.
+#[derive(Drop)]
 pub struct Cache {
-    held: HeldRecords,
+    store: PlainStore,
     version: u32,
+}
+
+impl Model for Cache {
+    ghost use Rattle.replay_meaning.specs.Version.{Version};
+
+    ghost Value = { Version };
+
+    ghost view = { λ c. record { held = c.store; number = c.version } };
 }
 
 impl Cache {
     /// Version 0, which holds nothing. It takes no memory.
     pub fn empty(alloc: Global) -> Cache
-        ensures { result ≡ cache_of [] }
+        ensures { result ≡ version_of [] }
     {
         Cache {
-            held: HeldRecords::empty(alloc),
+            store: PlainStore::empty(alloc),
             version: 0,
         }
     }
 
-    /// Takes the step, and puts its frame of the output, for worker 0, at the end of `out`.
-    pub fn take_step(
-        &mut self,
-        alloc: Global,
-        step: &Step,
-        out: &mut Vec<u8>,
-    ) -> Result<(), OutOfMemory>
-        requires { (self.now.version + 1 < 2 ^ 32) × IsShort step.now }
-        ensures output { OnOk result (out.new.items ≡ out.old.items ++ output_spelling (the_output self.old step.now)) }
-        ensures then { OnOk result (self.new ≡ cache_after self.old step.now) }
+    /// Asks the question at a moment, in seconds. It takes no memory.
+    pub fn query(&self, question: &Question, now: u32, reply: &mut ReplyBuffer) -> Outcome
+        ensures { IsOutcome self.now question.now now result reply.new }
     {
-        match step {
-            Step::Ask(asked) => self.answer(alloc, asked)?.write(out),
-            Step::Place(batch) => self.place(alloc, batch)?.write(out),
-            Step::Tell(output) => output.write(out),
-        }
-    }
-
-    fn answer(&self, alloc: Global, asked: &Asked) -> Result<OutFrame, OutOfMemory>
-        ensures output { IfOk result (λ frame. frame ≡ query_output self.now.version (reply_in self.now.held asked.entry.now.question asked.entry.now.now)) }
-        ensures short { IfOk result (λ frame. length frame.body < 2 ^ 16) }
-    {
-        let question = &asked.question;
-        let found = self
-            .held
-            .answer(&question.name, question.qtype, question.qclass, asked.now);
+        let found = answer(
+            &self.store,
+            &question.name,
+            question.qtype,
+            question.qclass,
+            now,
+        );
         let Some(verdict) = found else {
-            return self.frame(alloc, OutKind::Forward, &[]);
+            return Outcome::Forward(self.version);
         };
-        let mut reply = ReplyBuffer::new();
-        write_reply(question, &verdict, &mut reply);
-        self.frame(alloc, OutKind::Reply, reply.as_slice())
+        write_reply(question, &verdict, reply);
+        Outcome::Answered(self.version)
     }
 
-    fn place(&mut self, alloc: Global, batch: &Batch) -> Result<OutFrame, OutOfMemory>
-        requires { self.now.version + 1 < 2 ^ 32 }
-        ensures output { IfOk result (λ frame. frame ≡ batch_output self.old.version batch.entry.now) }
-        ensures then { OnOk result (self.new ≡ with_batch self.old batch.entry.now) }
-        ensures short { IfOk result (λ frame. length frame.body < 2 ^ 16) }
+    /// Places the batch, and gives the version that it makes.
+    pub fn insert(&mut self, alloc: Global, batch: &Batch) -> Result<u32, OutOfMemory>
+        requires { self.old.number + 1 < 2 ^ 32 }
+        ensures version { IfOk result (λ version. version ≡ self.new.number) }
+        ensures then { IfOk result (λ _. self.new ≡ with_batch self.old batch.entry.now) }
+        ensures refused { OnErr result (self.new ≡ self.old) }
     {
-        self.held.take_batch(alloc, batch)?;
+        self.store = self.store.with_batch(alloc, batch)?;
         self.version += 1;
-        let [high, low] = ((batch.records.len() % 0x1_0000) as u16).to_be_bytes();
-        self.frame(alloc, OutKind::Stored, &[high, low, 0, 0])
-    }
-
-    // A frame of this version.
-    fn frame(&self, alloc: Global, kind: OutKind, body: &[u8]) -> Result<OutFrame, OutOfMemory>
-        ensures { IfOk result (λ frame. frame ≡ record { kind = kind; worker = 0; version = self.now.version; body = body.now }) }
-    {
-        Ok(OutFrame {
-            kind,
-            worker: 0,
-            version: self.version,
-            body: Octets::of(alloc, body)?,
-        })
+        Ok(self.version)
     }
 }

@@ -1,21 +1,33 @@
-ghost use Rattle.std.specs.Prelude.{◌↔◌, IsTrue};
-ghost use Rattle.dnsreplay.specs.Replay.{AreFrames};
+ghost use Rattle.std.specs.Prelude.{IfOk, MatchOption};
+ghost use Rattle.replay_meaning.specs.Replay.{AreFrames};
+ghost use Rattle.dnsreplay.specs.Frames.{AreFramesOf};
 
-use replay_meaning::read_frame;
+use dname::OutOfMemory;
+use replay_meaning::{Frame, read_frame};
+use std::alloc::Global;
 
-/// Whether the octets spell frames, each for one of so many workers.
-pub fn are_frames(octets: &[u8], workers: u8) -> bool
-    ensures { IsTrue result ↔ AreFrames workers octets.now }
+/// The frames of an input, in order, which lend their messages. None where the octets don't spell frames, each for one of
+/// so many workers.
+pub fn read_frames(
+    alloc: Global,
+    octets: &[u8],
+    workers: u8,
+) -> Result<Option<Vec<Frame<'_>>>, OutOfMemory>
+    ensures { IfOk result (λ frames.
+        MatchOption frames (AreFrames workers octets.now → ⊥)
+        (λ frames. AreFramesOf workers octets.now frames.items)) }
 {
+    let mut frames = Vec::new(alloc);
     let mut rest = octets;
     while !rest.is_empty() {
         let Some((frame, after)) = read_frame(rest) else {
-            return false;
+            return Ok(None);
         };
         if frame.worker >= workers {
-            return false;
+            return Ok(None);
         }
+        frames.push(frame)?;
         rest = after;
     }
-    true
+    Ok(Some(frames))
 }

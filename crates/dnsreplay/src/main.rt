@@ -1,31 +1,47 @@
-//! `dnsreplay`: frames of queries and upstream answers in, frames of what becomes of them out.
+//! `dnsreplay`: frames of queries and upstream answers in, frames of what becomes of them out. `run` carries the headline;
+//! read `specs/Run.antt`, `Words` and `Status`, and then those of `replay_meaning`. `Cache`, `OneFrame` and `Frames` are the
+//! words of its parts.
 #![tactic(auto)]
 
 mod cache;
 mod frames;
+mod one_frame;
 mod reading;
 mod replay;
 mod run;
 mod status;
-mod step;
-mod tell;
 mod words;
 mod writing;
 
+use crate::status::Status;
 use outside_core::{StreamSink, StreamSource};
 use std::process::ExitCode;
 use std::{env, io};
 
-fn main(rt: HostRuntime) -> io::Result<ExitCode> {
-    let mut words: Vec<String> = env::args(&rt)?.collect(rt.alloc())?;
-    if !words.is_empty() {
-        words.remove(0);
+fn main(rt: HostRuntime) -> ExitCode {
+    let status = match words_of(&rt) {
+        Ok(words) => run_words(&rt, &words),
+        Err(status) => status,
+    };
+    if let Some(line) = status.line() {
+        // Where nobody can be told, the status tells it.
+        let _ = eprintln!(rt; "dnsreplay: {line}");
     }
+    status.exit_code()
+}
+
+fn run_words(rt: &HostRuntime, words: &[String]) -> Status {
     let mut source = StreamSource::over(rt.stdin());
     let mut sink = StreamSink::over(rt.stdout());
-    let status = run::run(rt.alloc(), &words, &mut source, &mut sink);
-    if let Some(line) = status.line() {
-        eprintln!(rt; "dnsreplay: {line}")?;
-    }
-    Ok(ExitCode::from(status.number()))
+    run::run(rt.alloc(), words, &mut source, &mut sink)
+}
+
+// The words after the program's name. Words that aren't text are no command.
+fn words_of(rt: &HostRuntime) -> Result<Vec<String>, Status> {
+    let words = match env::args(rt) {
+        Ok(args) => args.skip(1).collect(rt.alloc()),
+        Err(error) if error.kind() == io::ErrorKind::InvalidData => return Err(Status::Usage),
+        Err(_) => return Err(Status::OutOfMemory),
+    };
+    words.map_err(|_| Status::OutOfMemory)
 }

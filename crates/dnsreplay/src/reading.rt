@@ -20,11 +20,14 @@ pub enum ReadError {
 
 /// Reads the source to its end, or to one octet more than the longest input.
 pub fn read_whole<S: Source>(alloc: Global, source: &mut S) -> Result<Vec<u8>, ReadError>
-    ensures left { IfOk result (λ input. S.left source.old ≡ prepend_told input.items (S.left source.new)) }
-    ensures end { IfOk result (λ input. length input.items ≤ MAX_INPUT → IfSome (S.left source.new) (λ left. left ≡ [])) }
+    ensures left { IfOk result (λ input.
+        S.left source.old ≡ prepend_told input.items (S.left source.new)) }
+    ensures end { IfOk result (λ input.
+        length input.items ≤ MAX_INPUT → IfSome (S.left source.new) (λ left. left ≡ [])) }
     ensures most { IfOk result (λ input. length input.items ≤ MAX_INPUT + 1) }
     ensures faults { IfOk result (λ _. S.faults source.new ≡ S.faults source.old) }
-    ensures failed { IsErrOf result ReadError.Failed → Rose (S.faults source.old) (S.faults source.new) }
+    ensures failed { IsErrOf result ReadError.Failed
+        → Rose (S.faults source.old) (S.faults source.new) }
 {
     let mut input = Vec::new(alloc);
     while input.len() <= MAX_INPUT {
@@ -40,11 +43,15 @@ pub fn read_whole<S: Source>(alloc: Global, source: &mut S) -> Result<Vec<u8>, R
 // Puts the source's next octets at the end of the input; how many, and 0 at the source's end.
 fn read_piece<S: Source>(source: &mut S, input: &mut Vec<u8>) -> Result<usize, ReadError>
     requires { length input.old.items ≤ MAX_INPUT }
-    ensures piece { IfOk result (λ count. (piece : List ℕ) × (length piece ≡ count) × (input.new.items ≡ input.old.items ++ piece) × (S.left source.old ≡ prepend_told piece (S.left source.new))) }
-    ensures end { IfOk result (λ count. count ≡ 0 → IfSome (S.left source.new) (λ left. left ≡ [])) }
+    ensures piece { IfOk result (λ count. (piece : List ℕ) × (length piece ≡ count)
+        × (input.new.items ≡ input.old.items ++ piece)
+        × (S.left source.old ≡ prepend_told piece (S.left source.new))) }
+    ensures end { IfOk result (λ count.
+        count ≡ 0 → IfSome (S.left source.new) (λ left. left ≡ [])) }
     ensures most { IfOk result (λ _. length input.new.items ≤ MAX_INPUT + 1) }
     ensures faults { IfOk result (λ _. S.faults source.new ≡ S.faults source.old) }
-    ensures failed { IsErrOf result ReadError.Failed → Rose (S.faults source.old) (S.faults source.new) }
+    ensures failed { IsErrOf result ReadError.Failed
+        → Rose (S.faults source.old) (S.faults source.new) }
 {
     let mut piece = [0; PIECE];
     let room = (MAX_INPUT + 1 - input.len()).min(PIECE);

@@ -1,24 +1,25 @@
-ghost use Rattle.std.specs.Prelude.{◌≤◌, length, IfOk, List};
-ghost use Rattle.std.specs.List.{AllZip};
-ghost use Rattle.replay_meaning.specs.Frame.{Input};
-ghost use Rattle.dnsreplay.specs.Replay.{Makes, IsOutputOf};
-ghost use Rattle.dnsreplay.specs.declared.step.TheConstants.{MAX_FRAMES};
+ghost use Rattle.std.specs.Prelude.{ℕ, List, ◌<◌, ◌^◌, length, IfOk};
+ghost use Rattle.replay_meaning.specs.Replay.{IsReplay};
+ghost use Rattle.dnsreplay.specs.Frames.{AreFramesOf};
 
 use crate::cache::Cache;
-use crate::step::Step;
+use crate::one_frame::one_frame;
 use dname::OutOfMemory;
+use replay_meaning::Frame;
+use reply_core::ReplyBuffer;
 use std::alloc::Global;
 
-/// The output of the steps, taken one after the other for worker 0.
-pub fn replay(alloc: Global, steps: &[Step]) -> Result<Vec<u8>, OutOfMemory>
-    requires few { length steps.now ≤ MAX_FRAMES }
-    requires made { (inputs : List Input) × AllZip Makes inputs steps.now }
-    ensures { IfOk result (λ output. IsOutputOf steps.now output.items) }
+/// The output of the frames, done one after the other.
+pub fn replay(alloc: Global, frames: &[Frame<'_>]) -> Result<Vec<u8>, OutOfMemory>
+    requires { length frames.now < 2 ^ 32 }
+    ensures { IfOk result (λ output. (workers : ℕ) (octets : List ℕ)
+        → AreFramesOf workers octets frames.now → IsReplay workers octets output.items) }
 {
     let mut output = Vec::new(alloc);
     let mut cache = Cache::empty(alloc);
-    for step in steps {
-        cache.take_step(alloc, step, &mut output)?;
+    let mut reply = ReplyBuffer::new();
+    for frame in frames {
+        one_frame(alloc, &mut cache, frame, &mut reply, &mut output)?;
     }
     Ok(output)
 }

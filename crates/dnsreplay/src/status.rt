@@ -1,5 +1,8 @@
 ghost use Rattle.std.specs.Prelude.{◌≡◌};
+ghost use Rattle.std.specs.Process.{exit_status};
 ghost use Rattle.dnsreplay.specs.Status.{status_number};
+
+use std::process::ExitCode;
 
 /// How a run ended.
 #[derive(Clone, Copy, Debug, PartialEq, Eq)]
@@ -16,25 +19,14 @@ pub enum Status {
     OutOfMemory,
     /// The input is longer than the longest that is taken.
     InputTooLong,
-    /// The input asks for what isn't built yet.
-    NotBuilt,
 }
 
 impl Status {
-    /// The exit status of the program.
-    pub fn number(self) -> u8
-        ensures { result ≡ status_number self }
+    /// What the program ends with.
+    pub fn exit_code(self) -> ExitCode
+        ensures { exit_status result ≡ status_number self }
     {
-        match self {
-            Status::Good => 0,
-            Status::Usage => 2,
-            Status::ReadFault => 3,
-            Status::BadFrame => 4,
-            Status::WriteFault => 5,
-            Status::OutOfMemory => 6,
-            Status::InputTooLong => 7,
-            Status::NotBuilt => 9,
-        }
+        ExitCode::from(self.number())
     }
 
     /// What the program says of it, without its name before.
@@ -49,7 +41,20 @@ impl Status {
             Status::WriteFault => Some("write fault"),
             Status::OutOfMemory => Some("out of memory"),
             Status::InputTooLong => Some("input too long"),
-            Status::NotBuilt => Some("not built"),
+        }
+    }
+
+    fn number(self) -> u8
+        ensures { result ≡ status_number self }
+    {
+        match self {
+            Status::Good => 0,
+            Status::Usage => 2,
+            Status::ReadFault => 3,
+            Status::BadFrame => 4,
+            Status::WriteFault => 5,
+            Status::OutOfMemory => 6,
+            Status::InputTooLong => 7,
         }
     }
 }

@@ -2,6 +2,9 @@ ghost use Rattle.std.specs.Prelude.{◌≡◌, ◌↔◌, IsTrue};
 ghost use Rattle.std.specs.String.{string_bytes};
 ghost use Rattle.dnsreplay.specs.Words.{IsCommand};
 
+/// The workers that the one command asks for.
+pub const WORKERS: u8 = 1;
+
 /// Whether the words after the program's name are a command.
 pub fn is_command(words: &[String]) -> bool
     ensures { IsTrue result ↔ IsCommand words.now }

@@ -6,11 +6,13 @@ use outside_core::{Failed, Sink};
 
 /// Writes all the octets, in as many calls as the sink wants.
 pub fn write_whole<K: Sink>(sink: &mut K, octets: &[u8]) -> Result<(), Failed>
-    ensures written { OnOk result (K.written sink.new ≡ append_told (K.written sink.old) octets.now) }
+    ensures written { OnOk result
+        (K.written sink.new ≡ append_told (K.written sink.old) octets.now) }
     ensures faults { OnOk result (K.faults sink.new ≡ K.faults sink.old) }
 
     // A strict prefix was written before the failure.
-    ensures part { OnErr result ((n : ℕ) × (n < length octets.now) × (K.written sink.new ≡ append_told (K.written sink.old) (take n octets.now))) }
+    ensures part { OnErr result ((n : ℕ) × (n < length octets.now)
+        × (K.written sink.new ≡ append_told (K.written sink.old) (take n octets.now))) }
     ensures failed { OnErr result (Rose (K.faults sink.old) (K.faults sink.new)) }
 {
     let mut at = 0;

@@ -1,151 +1,152 @@
 -- The data of a record is read in one way only, field by field.
-use Rattle.std.proofs.Common.{◌≡◌, ℕ, suc, ◌+◌, ◌-◌, ◌≤◌, List, [], ◌∷◌, ◌++◌, length, take, drop, refl, sym, ◌∙◌, ap, subst, arith, length-drop, append_assoc, Option, Some, None}
+use Rattle.std.proofs.Common.{◌≡◌, ℕ, ◌+◌, ◌-◌, ◌≤◌, List, [], ◌∷◌, ◌++◌, length, take, drop, refl, sym, ◌∙◌, ap, subst, arith, length-drop, append_assoc, Option, Some, None}
 use Rattle.std.proofs.lemmas.List.{take_at, take-append-drop, length-take-le, append-nil}
-use Rattle.dname.specs.Name.{wire_of}
-use Rattle.dnswire.specs.Data.{IsWrittenOut, IsText, IsPiece, IsField, IsData}
-use Rattle.dnswire.specs.DataField.{IsMissing, HasKept, Keeps}
-use Rattle.dnswire.specs.NamePiece.{Expands}
+use Rattle.dname.specs.Name.{Label, wire_of}
+use Rattle.dname.specs.Read.{written}
+use Rattle.dname.proofs.ReadLemmas.{wire_of-written}
+use Rattle.dnswire.specs.Data.{IsWrittenOut, IsCharacterString, AreOctets, IsField, IsData, HasNoData}
+use Rattle.dnswire.specs.DataField.{IsMissing, HasAppended, Appends}
+use Rattle.dnswire.specs.MessageName.{Reads}
+use Rattle.dnswire.specs.LabelsLeft.{AreLeft, AreNoneLeft, first_of}
 use Rattle.dnswire.specs.declared.field.Field.{Field}
-use Rattle.dnswire.specs.declared.field.Field.TheVariants.{Numbers, Name, Text, Rest}
+use Rattle.dnswire.specs.declared.field.Field.TheVariants.{Numbers, Name, CharacterString, Rest}
 use Rattle.dnswire.proofs.MessageNameLemmas.{one_reading}
 
--- ---- a place has one piece of a length, one text and one name
+-- ---- at an offset one field stands
 
-one_front : (octets piece rest piece' rest' : List ℕ) → octets ≡ piece ++ rest → octets ≡ piece' ++ rest' → length piece ≡ length piece' → piece ≡ piece'
-one_front octets piece rest piece' rest' is is' long =
-    sym (take_at piece rest (length piece) refl) ∙ ap (take (length piece)) (sym is ∙ is') ∙ take_at piece' rest' (length piece) (sym long)
+one_front : (message octets octets' rest rest' : List ℕ) → message ≡ octets ++ rest → message ≡ octets' ++ rest' → length octets ≡ length octets' → octets ≡ octets'
+one_front message octets octets' rest rest' is is' long =
+    sym (take_at octets rest (length octets) refl) ∙ ap (take (length octets)) (sym is ∙ is') ∙ take_at octets' rest' (length octets) (sym long)
 
-one_piece : (message : List ℕ) (at : ℕ) (piece piece' : List ℕ) (end end' : ℕ) → IsPiece message at piece end → IsPiece message at piece' end' → length piece ≡ length piece' → (piece ≡ piece') × (end ≡ end')
-one_piece message at piece piece' end end' p p' long =
-    (one_front (drop at message) piece p.rest piece' p'.rest p.stands p'.stands long, omega (arith, long, p.end_is, p'.end_is))
+one_octets : (message : List ℕ) (at : ℕ) (octets octets' : List ℕ) (end end' : ℕ) → AreOctets message at octets end → AreOctets message at octets' end' → length octets ≡ length octets' → (octets ≡ octets') × (end ≡ end')
+one_octets message at octets octets' end end' a b long =
+    (one_front (drop at message) octets octets' a.rest b.rest a.stands b.stands long, omega (arith, long, a.end_is, b.end_is))
 
-one_text : (message : List ℕ) (at : ℕ) (text text' : List ℕ) (end end' : ℕ) → IsText message at text end → IsText message at text' end' → (text ≡ text') × (end ≡ end')
-one_text message at text text' end end' t t' =
-    let whole : length t.characters ∷ (t.characters ++ t.rest) ≡ length t'.characters ∷ (t'.characters ++ t'.rest) = sym t.stands ∙ t'.stands in
-    let long : length t.characters ≡ length t'.characters = cc in
-    let same : t.characters ≡ t'.characters = one_front (t.characters ++ t.rest) t.characters t.rest t'.characters t'.rest refl (ap (drop 1) whole) long in
-    (t.text_is ∙ ap (λ c. length c ∷ c) same ∙ sym t'.text_is, omega (arith, long, t.end_is, t'.end_is))
+-- a character string that stands before other octets has the size that the first of these says
+string_size : (message octets rest : List ℕ) (size : ℕ) (after : List ℕ) → message ≡ octets ++ rest → message ≡ size ∷ after → IsCharacterString octets → length octets ≡ 1 + size
+string_size message [] rest size after stands is string = absurd (omega (arith, string))
+string_size message (first ∷ octets) rest size after stands is string =
+    let head : first ≡ size = cc in
+    omega (arith, head, string)
 
-one_written : (message : List ℕ) (at : ℕ) (piece piece' : List ℕ) (end end' : ℕ) → IsWrittenOut message at piece end → IsWrittenOut message at piece' end' → (piece ≡ piece') × (end ≡ end')
-one_written message at piece piece' end end' w w' =
+one_size : (message octets octets' rest rest' : List ℕ) → message ≡ octets ++ rest → message ≡ octets' ++ rest' → IsCharacterString octets → IsCharacterString octets' → length octets ≡ length octets'
+one_size message [] octets' rest rest' is is' string string' = absurd (omega (arith, string))
+one_size message (size ∷ octets) octets' rest rest' is is' string string' =
+    string ∙ sym (string_size message octets' rest' size (octets ++ rest) is' is string')
+
+one_written : (message : List ℕ) (at : ℕ) (octets octets' : List ℕ) (end end' : ℕ) → IsWrittenOut message at octets end → IsWrittenOut message at octets' end' → (octets ≡ octets') × (end ≡ end')
+one_written message at octets octets' end end' w w' =
     let same = one_reading message at at w.labels w'.labels end end' w.reads w'.reads in
     (w.wire ∙ ap wire_of same.0 ∙ sym w'.wire, same.1)
 
-one_field : (message : List ℕ) (stop : ℕ) (field : Field) (at : ℕ) (piece piece' : List ℕ) (end end' : ℕ) → IsField message stop field at piece end → IsField message stop field at piece' end' → (piece ≡ piece') × (end ≡ end')
-one_field message stop (Numbers count) at piece piece' end end' f f' = one_piece message at piece piece' end end' f.0 f'.0 (f.1 ∙ sym f'.1)
-one_field message stop Name at piece piece' end end' f f' = one_written message at piece piece' end end' f f'
-one_field message stop Text at piece piece' end end' f f' = one_text message at piece piece' end end' f f'
-one_field message stop Rest at piece piece' end end' f f' =
-    one_piece message at piece piece' end end' f.0 f'.0 (omega (arith, f.0.end_is, f'.0.end_is, f.1, f'.1))
+one_field : (message : List ℕ) (stop : ℕ) (field : Field) (at : ℕ) (octets octets' : List ℕ) (end end' : ℕ) → IsField message stop field at octets end → IsField message stop field at octets' end' → (octets ≡ octets') × (end ≡ end')
+one_field message stop (Numbers count) at octets octets' end end' f f' = one_octets message at octets octets' end end' f.0 f'.0 (f.1 ∙ sym f'.1)
+one_field message stop Name at octets octets' end end' f f' = one_written message at octets octets' end end' f f'
+one_field message stop CharacterString at octets octets' end end' f f' =
+    one_octets message at octets octets' end end' f.0 f'.0 (one_size (drop at message) octets octets' f.0.rest f'.0.rest f.0.stands f'.0.stands f.1 f'.1)
+one_field message stop Rest at octets octets' end end' f f' =
+    one_octets message at octets octets' end end' f.0 f'.0 (omega (arith, f.0.end_is, f'.0.end_is, f.1, f'.1))
 
--- what is kept of data is determined
+-- data is written out in one way
 pub one_data : (message : List ℕ) (stop : ℕ) (fields : List Field) (at : ℕ) (rdata rdata' : List ℕ) → IsData message stop fields at rdata → IsData message stop fields at rdata' → rdata ≡ rdata'
 one_data message stop [] at rdata rdata' d d' = d.1 ∙ sym d'.1
 one_data message stop (field ∷ more) at rdata rdata' d d' =
     let same = one_field message stop field at d.0 d'.0 d.1 d'.1 d.3 d'.3 in
     let rest = one_data message stop more d'.1 d.2 d'.2 (subst (λ end. IsData message stop more end d.2) same.1 d.5) d'.5 in
-    d.6 ∙ ap (λ piece. piece ++ d.2) same.0 ∙ ap (λ kept. d'.0 ++ kept) rest ∙ sym d'.6
+    d.6 ∙ ap (λ octets. octets ++ d.2) same.0 ∙ ap (λ others. d'.0 ++ others) rest ∙ sym d'.6
 
--- ---- a field read as another one
+-- ---- a field read as so many octets
 
--- so many octets from a place
-pub octets_kept : (message : List ℕ) (stop at count : ℕ) (before after : List ℕ) → at + count ≤ stop → stop ≤ length message → after ≡ before ++ take count (drop at message) → HasKept message stop (Numbers count) at before after (at + count)
-octets_kept message stop at count before after fits within is =
+pub octets_appended : (message : List ℕ) (stop at count : ℕ) (before after : List ℕ) → at + count ≤ stop → stop ≤ length message → after ≡ before ++ take count (drop at message) → HasAppended message stop (Numbers count) at before after (at + count)
+octets_appended message stop at count before after fits within is =
     let long : length (take count (drop at message)) ≡ count = length-take-le count (drop at message) (omega (arith, length-drop at message)) in
     record {
-      piece = take count (drop at message);
+      octets = take count (drop at message);
       stands = (record { rest = drop count (drop at message); stands = sym (take-append-drop count (drop at message)); end_is = omega (arith, long) }, long);
       within = fits;
       appended = is;
     }
 
--- what is kept of one field is kept of another that says the same of the place
-pub kept_as : (message : List ℕ) (stop : ℕ) (field field' : Field) (at : ℕ) (before after : List ℕ) → ((piece : List ℕ) (end : ℕ) → IsField message stop field at piece end → IsField message stop field' at piece end) → ((piece : List ℕ) (end : ℕ) → IsField message stop field' at piece end → IsField message stop field at piece end) → (found : Option ℕ) → Keeps message stop field at before after found → Keeps message stop field' at before after found
-kept_as message stop field field' at before after forth back (Some end) k =
-    record { piece = k.piece; stands = forth k.piece end k.stands; within = k.within; appended = k.appended }
-kept_as message stop field field' at before after forth back None missing = λ piece end stands within. missing piece end (back piece end stands) within
-
-rest_of_numbers : (message : List ℕ) (stop at : ℕ) → at ≤ stop → (piece : List ℕ) (end : ℕ) → IsField message stop (Numbers (stop - at)) at piece end → IsField message stop Rest at piece end
-rest_of_numbers message stop at early piece end f = (f.0, omega (arith, early, f.0.end_is, f.1))
-
-numbers_of_rest : (message : List ℕ) (stop at : ℕ) (piece : List ℕ) (end : ℕ) → IsField message stop Rest at piece end → IsField message stop (Numbers (stop - at)) at piece end
-numbers_of_rest message stop at piece end f = (f.0, omega (arith, f.0.end_is, f.1))
+-- what is appended as one field is appended as another that says the same of the offset
+appended_as : (message : List ℕ) (stop : ℕ) (field field' : Field) (at : ℕ) (before after : List ℕ) → ((octets : List ℕ) (end : ℕ) → IsField message stop field at octets end → IsField message stop field' at octets end) → ((octets : List ℕ) (end : ℕ) → IsField message stop field' at octets end → IsField message stop field at octets end) → (found : Option ℕ) → Appends message stop field at before after found → Appends message stop field' at before after found
+appended_as message stop field field' at before after forth back (Some end) a =
+    record { octets = a.octets; stands = forth a.octets end a.stands; within = a.within; appended = a.appended }
+appended_as message stop field field' at before after forth back None missing = λ octets end stands within. missing octets end (back octets end stands) within
 
 -- what remains has so many octets
-pub rest_kept : (message : List ℕ) (stop at : ℕ) (before after : List ℕ) → at ≤ stop → (found : Option ℕ) → Keeps message stop (Numbers (stop - at)) at before after found → Keeps message stop Rest at before after found
-rest_kept message stop at before after early =
-    kept_as message stop (Numbers (stop - at)) Rest at before after (rest_of_numbers message stop at early) (numbers_of_rest message stop at)
+pub rest_appended : (message : List ℕ) (stop at : ℕ) (before after : List ℕ) → at ≤ stop → (found : Option ℕ) → Appends message stop (Numbers (stop - at)) at before after found → Appends message stop Rest at before after found
+rest_appended message stop at before after early =
+    appended_as message stop (Numbers (stop - at)) Rest at before after
+    (λ octets end f. (f.0, omega (arith, early, f.0.end_is, f.1))) (λ octets end f. (f.0, omega (arith, f.0.end_is, f.1)))
 
-text_of_cells : (message : List ℕ) (at size : ℕ) (behind rest : List ℕ) (first : ℕ) (characters : List ℕ) (end : ℕ) → drop at message ≡ size ∷ behind → drop at message ≡ first ∷ (characters ++ rest) → suc (length characters) ≡ 1 + size → end ≡ at + suc (length characters) → IsText message at (first ∷ characters) end
-text_of_cells message at size behind rest first characters end is stands long end_is =
+is_string : (message octets rest : List ℕ) (size : ℕ) (after : List ℕ) → message ≡ octets ++ rest → message ≡ size ∷ after → length octets ≡ 1 + size → IsCharacterString octets
+is_string message [] rest size after stands is long = absurd (omega (arith, long))
+is_string message (first ∷ octets) rest size after stands is long =
     let head : first ≡ size = cc in
-    let count : first ≡ length characters = omega (arith, head, long) in
-    record { characters = characters; rest = rest; stands = stands ∙ ap (λ n. n ∷ (characters ++ rest)) count; text_is = ap (λ n. n ∷ characters) count; end_is = omega (arith, end_is) }
+    omega (arith, head, long)
 
-text_of_numbers : (message : List ℕ) (stop at size : ℕ) (behind : List ℕ) → drop at message ≡ size ∷ behind → (piece : List ℕ) (end : ℕ) → IsField message stop (Numbers (1 + size)) at piece end → IsField message stop Text at piece end
-text_of_numbers message stop at size behind is [] end f = absurd (omega (arith, f.1))
-text_of_numbers message stop at size behind is (first ∷ characters) end f =
-    text_of_cells message at size behind f.0.rest first characters end is f.0.stands f.1 f.0.end_is
-
-numbers_of_text : (message : List ℕ) (stop at size : ℕ) (behind : List ℕ) → drop at message ≡ size ∷ behind → (piece : List ℕ) (end : ℕ) → IsField message stop Text at piece end → IsField message stop (Numbers (1 + size)) at piece end
-numbers_of_text message stop at size behind is piece end t =
-    let head : length t.characters ≡ size = cc in
-    let long : length piece ≡ 1 + length t.characters = omega (arith, ap length t.text_is) in
-    (record { rest = t.rest; stands = t.stands ∙ ap (λ text. text ++ t.rest) (sym t.text_is); end_is = omega (arith, t.end_is, long) }, omega (arith, long, head))
-
--- a text has its length octet and as many octets as this says
-pub text_kept : (message : List ℕ) (stop at size : ℕ) (behind before after : List ℕ) → drop at message ≡ size ∷ behind → (found : Option ℕ) → Keeps message stop (Numbers (1 + size)) at before after found → Keeps message stop Text at before after found
-text_kept message stop at size behind before after is =
-    kept_as message stop (Numbers (1 + size)) Text at before after (text_of_numbers message stop at size behind is) (numbers_of_text message stop at size behind is)
+-- a character string has its length octet and as many octets as this says
+pub string_appended : (message : List ℕ) (stop at size : ℕ) (rest before after : List ℕ) → drop at message ≡ size ∷ rest → (found : Option ℕ) → Appends message stop (Numbers (1 + size)) at before after found → Appends message stop CharacterString at before after found
+string_appended message stop at size rest before after is =
+    appended_as message stop (Numbers (1 + size)) CharacterString at before after
+    (λ octets end f. (f.0, is_string (drop at message) octets f.0.rest size rest f.0.stands is f.1))
+    (λ octets end f. (f.0, string_size (drop at message) octets f.0.rest size rest f.0.stands is f.1))
 
 -- ---- a name in data
 
-pub written_out : (message : List ℕ) (at : ℕ) (wire : List ℕ) (end : ℕ) → Expands message at wire end → length wire ≤ 255 → IsWrittenOut message at wire end
-written_out message at wire end e fits = record { labels = e.labels; reads = e.reads; fits = subst (λ w. length w ≤ 255) e.spelled fits; wire = e.spelled }
+pub name_appended : (message : List ℕ) (stop at : ℕ) (labels : List Label) (end : ℕ) (before now after : List ℕ) → AreLeft (first_of message at) labels end → end ≤ stop → now ≡ before ++ written labels → after ≡ now ++ 0 ∷ [] → HasAppended message stop Name at before after end
+name_appended message stop at labels end before now after left within has last = record {
+  octets = wire_of labels;
+  stands = record { labels = labels; reads = subst (Reads message at at labels) (sym left.end_is) left.reads; fits = omega (arith, left.fits); wire = refl };
+  within = within;
+  appended = last ∙ ap (λ o. o ++ 0 ∷ []) has ∙ append_assoc before (written labels) (0 ∷ []) ∙ ap (λ o. before ++ o) (sym (wire_of-written labels));
+}
 
--- a name that ends behind the data's end doesn't stand in the data
-pub runs_past : (message : List ℕ) (stop at : ℕ) (wire : List ℕ) (end : ℕ) → Expands message at wire end → stop + 1 ≤ end → IsMissing message stop Name at
-runs_past message stop at wire end e past piece end' w within =
-    let same = one_reading message at at e.labels w.labels end end' e.reads w.reads in
-    omega (arith, past, within, same.1)
+-- a name that ends after the data's end doesn't stand in the data
+pub runs_past : (message : List ℕ) (stop at : ℕ) (labels : List Label) (end : ℕ) → AreLeft (first_of message at) labels end → stop + 1 ≤ end → IsMissing message stop Name at
+runs_past message stop at labels end left past octets end' w within =
+    let same = one_reading message at at labels w.labels left.stop end' left.reads w.reads in
+    omega (arith, past, within, same.1, left.end_is)
+
+pub name_missing : (message : List ℕ) (stop at : ℕ) → AreNoneLeft (first_of message at) → IsMissing message stop Name at
+name_missing message stop at none octets end w within = none w.labels end (record { stop = end; reads = w.reads; end_is = refl; fits = omega (arith, w.fits) })
 
 -- ---- the loop over the fields
 
--- the fields before `rest` are kept, and `rest` has to stand from `here` on
-pub record HasWalked (message : List ℕ) (stop : ℕ) (fields : List Field) (at : ℕ) (rest : List Field) (here : ℕ) (octets : List ℕ) : Type 0 where
+-- the fields before `rest` are written out, and `rest` has to stand from `here` on
+pub record HasWritten (message : List ℕ) (stop : ℕ) (fields : List Field) (at : ℕ) (rest : List Field) (here : ℕ) (octets : List ℕ) : Type 0 where
   pub early : here ≤ stop
-  pub goes : (kept : List ℕ) → IsData message stop rest here kept → IsData message stop fields at (octets ++ kept)
-  pub only : (rdata : List ℕ) → IsData message stop fields at rdata → (kept : List ℕ) × IsData message stop rest here kept
+  pub goes : (others : List ℕ) → IsData message stop rest here others → IsData message stop fields at (octets ++ others)
+  pub only : (rdata : List ℕ) → IsData message stop fields at rdata → (others : List ℕ) × IsData message stop rest here others
 
-pub walk_begins : (message : List ℕ) (stop : ℕ) (fields : List Field) (at : ℕ) (octets : List ℕ) → at ≤ stop → octets ≡ [] → HasWalked message stop fields at fields at octets
-walk_begins message stop fields at octets early empty = record {
+pub writes_none : (message : List ℕ) (stop : ℕ) (fields : List Field) (at : ℕ) (octets : List ℕ) → at ≤ stop → octets ≡ [] → HasWritten message stop fields at fields at octets
+writes_none message stop fields at octets early empty = record {
   early = early;
-  goes = λ kept data_is. subst (λ o. IsData message stop fields at (o ++ kept)) (sym empty) data_is;
+  goes = λ others data_is. subst (λ o. IsData message stop fields at (o ++ others)) (sym empty) data_is;
   only = λ rdata data_is. (rdata, data_is);
 }
 
-pub walk_goes_on : (message : List ℕ) (stop : ℕ) (fields : List Field) (at : ℕ) (rest : List Field) (field : Field) (more : List Field) (here : ℕ) (octets octets' : List ℕ) (end : ℕ) → HasWalked message stop fields at rest here octets → rest ≡ field ∷ more → HasKept message stop field here octets octets' end → HasWalked message stop fields at more end octets'
-walk_goes_on message stop fields at rest field more here octets octets' end walked is k =
-    let h = subst (λ r. HasWalked message stop fields at r here octets) is walked in
+pub writes_more : (message : List ℕ) (stop : ℕ) (fields : List Field) (at : ℕ) (rest : List Field) (field : Field) (more : List Field) (here : ℕ) (octets octets' : List ℕ) (end : ℕ) → HasWritten message stop fields at rest here octets → rest ≡ field ∷ more → HasAppended message stop field here octets octets' end → HasWritten message stop fields at more end octets'
+writes_more message stop fields at rest field more here octets octets' end wrote is a =
+    let h = subst (λ r. HasWritten message stop fields at r here octets) is wrote in
     record {
-      early = k.within;
-      goes = λ kept data_is.
-          subst (IsData message stop fields at) (sym (append_assoc octets k.piece kept) ∙ ap (λ o. o ++ kept) (sym k.appended))
-          (h.goes (k.piece ++ kept) (k.piece, end, kept, k.stands, k.within, data_is, refl));
+      early = a.within;
+      goes = λ others data_is.
+          subst (IsData message stop fields at) (sym (append_assoc octets a.octets others) ∙ ap (λ o. o ++ others) (sym a.appended))
+          (h.goes (a.octets ++ others) (a.octets, end, others, a.stands, a.within, data_is, refl));
       only = λ rdata data_is.
-          let all = h.only rdata data_is in
-          let d = all.1 in
-          (d.2, subst (λ e. IsData message stop more e d.2) (one_field message stop field here d.0 k.piece d.1 end d.3 k.stands).1 d.5);
+          let d = (h.only rdata data_is).1 in
+          (d.2, subst (λ e. IsData message stop more e d.2) (one_field message stop field here d.0 a.octets d.1 end d.3 a.stands).1 d.5);
     }
 
-pub walk_ends : (message : List ℕ) (stop : ℕ) (fields : List Field) (at : ℕ) (rest : List Field) (here : ℕ) (octets : List ℕ) → HasWalked message stop fields at rest here octets → rest ≡ [] → here ≡ stop → IsData message stop fields at octets
-walk_ends message stop fields at rest here octets walked none is =
-    let h = subst (λ r. HasWalked message stop fields at r here octets) none walked in
+pub writes_all : (message : List ℕ) (stop : ℕ) (fields : List Field) (at : ℕ) (rest : List Field) (here : ℕ) (octets : List ℕ) → HasWritten message stop fields at rest here octets → rest ≡ [] → here ≡ stop → IsData message stop fields at octets
+writes_all message stop fields at rest here octets wrote none is =
+    let h = subst (λ r. HasWritten message stop fields at r here octets) none wrote in
     subst (IsData message stop fields at) (append-nil octets) (h.goes [] (is, refl))
 
 -- where a field is missing, the data hasn't the layout
-pub walk_stops : (message : List ℕ) (stop : ℕ) (fields : List Field) (at : ℕ) (rest : List Field) (field : Field) (more : List Field) (here : ℕ) (octets : List ℕ) → HasWalked message stop fields at rest here octets → rest ≡ field ∷ more → IsMissing message stop field here → (rdata : List ℕ) → IsData message stop fields at rdata → ⊥
-walk_stops message stop fields at rest field more here octets walked is missing rdata data_is =
-    let h = subst (λ r. HasWalked message stop fields at r here octets) is walked in
+pub writes_no_more : (message : List ℕ) (stop : ℕ) (fields : List Field) (at : ℕ) (rest : List Field) (field : Field) (more : List Field) (here : ℕ) (octets : List ℕ) → HasWritten message stop fields at rest here octets → rest ≡ field ∷ more → IsMissing message stop field here → HasNoData message stop fields at
+writes_no_more message stop fields at rest field more here octets wrote is missing rdata data_is =
+    let h = subst (λ r. HasWritten message stop fields at r here octets) is wrote in
     let d = (h.only rdata data_is).1 in
     missing d.0 d.1 d.3 d.4

@@ -1,9 +1,9 @@
-pub mod QuestionLemmas
-pub mod MessageNameLemmas
 pub mod HeaderLemmas
-pub mod RrHeadLemmas
-pub mod HeadsLemmas
-pub mod QueryLemmas
+pub mod MessageNameLemmas
+pub mod NameLabelsLemmas
+pub mod InTurnLemmas
+pub mod FieldsLemmas
 pub mod DataLemmas
+pub mod QueryLemmas
 pub mod MessageLemmas
 pub mod RcodeLemmas

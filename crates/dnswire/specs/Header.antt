@@ -1,12 +1,14 @@
 -- The header of a message and its flags (RFC 1035, section 4.1.1). Numbers are big-endian.
 use Rattle.std.specs.Prelude.{◌≡◌, ℕ, ◌/◌, ◌%◌, ◌≤◌, Bool, nat_eq, List, length, drop}
 use Rattle.byteorder.specs.Endian.{big_number}
+use Rattle.dnswire.specs.declared.flags.TheConstants.{QR, RD, AD, CD}
 use Rattle.dnswire.specs.declared.header.Header.{Header}
+use Rattle.dnswire.specs.declared.header.TheConstants.{HEADER_OCTETS}
 use Rattle.dnswire.specs.declared.head.Head.{Head}
 
 -- the octets begin with this header: ID, flags, and the numbers of questions and of the records of the three sections
 pub record IsHeader (octets : List ℕ) (header : Header) : Type 0 where
-  pub whole : 12 ≤ length octets
+  pub whole : HEADER_OCTETS ≤ length octets
   pub id : header.id ≡ big_number 2 octets
   pub flags : header.flags ≡ big_number 2 (drop 2 octets)
   pub questions : header.questions ≡ big_number 2 (drop 4 octets)
@@ -18,25 +20,24 @@ pub record IsHeader (octets : List ℕ) (header : Header) : Type 0 where
 abbrev pub is_set : ℕ → ℕ → Bool
 is_set bit number = nat_eq (number / bit % 2) 1
 
--- QR: the message is a response
 abbrev pub is_response : ℕ → Bool
-is_response flags = is_set 0x8000 flags
+is_response flags = is_set QR flags
 
--- the four bits behind QR; 0 is a standard query
+-- the four bits after QR
 abbrev pub opcode_of : ℕ → ℕ
 opcode_of flags = flags / 0x800 % 16
 
--- RD: recursion is desired
+-- recursion is desired
 abbrev pub has_rd : ℕ → Bool
-has_rd flags = is_set 0x100 flags
+has_rd flags = is_set RD flags
 
--- AD: of a query, the client takes the bit in a reply (RFC 6840, section 5.7)
+-- of a query, the client takes the bit in a reply (RFC 6840, section 5.7)
 abbrev pub has_ad : ℕ → Bool
-has_ad flags = is_set 0x20 flags
+has_ad flags = is_set AD flags
 
--- CD: checking is disabled (RFC 4035, section 3.2.2)
+-- checking is disabled (RFC 4035, section 3.2.2)
 abbrev pub has_cd : ℕ → Bool
-has_cd flags = is_set 0x10 flags
+has_cd flags = is_set CD flags
 
 -- the low four bits of the RCODE
 abbrev pub low_rcode : ℕ → ℕ

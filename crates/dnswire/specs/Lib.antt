@@ -1,9 +1,11 @@
+pub mod Query
+pub mod Message
+pub mod Header
 pub mod Question
 pub mod MessageName
-pub mod NamePiece
-pub mod Header
 pub mod RrHead
 pub mod Data
+pub mod InTurn
+pub mod LabelsLeft
+pub mod NameLabels
 pub mod DataField
-pub mod Message
-pub mod Query

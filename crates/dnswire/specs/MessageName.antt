@@ -7,7 +7,7 @@ pub record BeginsWithEnd (octets : List ℕ) : Type 0 where
   pub rest : List ℕ
   pub stands : octets ≡ 0 ∷ rest
 
--- a label stands at the front, behind its length octet
+-- a label stands at the front, after its length octet
 pub record BeginsWithLabel (octets : List ℕ) (label : Label) : Type 0 where
   pub rest : List ℕ
   pub stands : octets ≡ length label ∷ (label ++ rest)
@@ -22,8 +22,8 @@ pub record BeginsWithPointer (octets : List ℕ) (offset : ℕ) : Type 0 where
   pub marked : 192 ≤ first
   pub offset_is : offset ≡ (first - 192) * 256 + second
 
--- from place `at` of the run of octets that begins at `start`, these labels are read, and what stands there ends before
--- `end`; a pointer goes to a place before its run, where a run of its own begins
+-- from offset `at` of the run of octets that begins at `start`, these labels are read, and what stands there ends before
+-- `end`; a pointer goes to an offset before its run, where a run of its own begins
 pub data Reads (message : List ℕ) : ℕ → ℕ → List Label → ℕ → Type 0 where
   closed : (start at end : ℕ) → BeginsWithEnd (drop at message) → end ≡ at + 1 → Reads message start at [] end
   labelled :
@@ -33,7 +33,7 @@ pub data Reads (message : List ℕ) : ℕ → ℕ → List Label → ℕ → Typ
       (start at end offset stop : ℕ) (labels : List Label) → BeginsWithPointer (drop at message) offset → offset < start
       → Reads message offset offset labels stop → end ≡ at + 2 → Reads message start at labels end
 
--- the name stands at the place, in whatever case its letters come, and what stands there ends before `end`
+-- the name stands at the offset, in whatever case its letters come, and what stands there ends before `end`
 pub record NameAt (message : List ℕ) (at : ℕ) (name : List Label) (end : ℕ) : Type 0 where
   pub labels : List Label
   pub reads : Reads message at at labels end

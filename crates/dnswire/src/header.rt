@@ -1,12 +1,16 @@
-ghost use Rattle.std.specs.Prelude.{◌≡◌, ◌≤◌, ◌<◌, length, drop, IfSome, IsNone, Some};
+ghost use Rattle.std.specs.Prelude.{◌≡◌, ◌≤◌, ◌<◌, length, IfSome, IsNone, Some};
 ghost use Rattle.dnswire.specs.Header.{IsHeader, is_set, is_response, opcode_of, has_rd, has_ad, has_cd, low_rcode, head_of};
 ghost use Rattle.dnswire.specs.declared.header.Header.{Header};
 
 use crate::Head;
-use crate::numbers::number_at;
+use crate::flags::{AD, CD, QR, RD};
+use dname::u16_at;
 
 /// The octets of a message's header (RFC 1035, section 4.1.1).
-pub(crate) const HEADER: usize = 12;
+pub(crate) const HEADER_OCTETS: usize = 12;
+
+/// The opcode of a standard query (RFC 1035, section 4.1.1).
+pub(crate) const STANDARD_QUERY: u8 = 0;
 
 /// A message's header (RFC 1035, section 4.1.1).
 #[derive(Clone, Copy, Debug, PartialEq, Eq)]
@@ -26,16 +30,16 @@ impl Header {
         ensures none { IsNone result → length octets.now < 12 }
         ensures every { (header : Header) → IsHeader octets.now header → result ≡ Some header }
     {
-        if octets.len() < HEADER {
+        if octets.len() < HEADER_OCTETS {
             return None;
         }
         Some(Header {
-            id: number_at(octets, 0),
-            flags: number_at(octets, 2),
-            questions: number_at(octets, 4),
-            answers: number_at(octets, 6),
-            authorities: number_at(octets, 8),
-            additionals: number_at(octets, 10),
+            id: u16_at(octets, 0),
+            flags: u16_at(octets, 2),
+            questions: u16_at(octets, 4),
+            answers: u16_at(octets, 6),
+            authorities: u16_at(octets, 8),
+            additionals: u16_at(octets, 10),
         })
     }
 
@@ -88,16 +92,6 @@ impl Header {
         }
     }
 }
-
-// The bits of the flags (RFC 1035, section 4.1.1; RFC 4035, section 3).
-
-const QR: u16 = 0x8000;
-
-const RD: u16 = 0x100;
-
-const AD: u16 = 0x20;
-
-const CD: u16 = 0x10;
 
 fn is_set(flags: u16, bit: u16) -> bool
     requires { 0 < bit }

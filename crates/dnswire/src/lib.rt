@@ -1,32 +1,31 @@
-//! DNS messages: the readers of queries and answers.
+//! DNS messages (RFC 1035, section 4): exact readers of queries and of whole messages.
+//!
+//! Specs, in reading order: `Query` and `Message`, which public clauses cite; what these stand on, `Header`, `Question`,
+//! `MessageName`, `RrHead`, `Data` and `InTurn`; and for the readers' inner steps `LabelsLeft`, `NameLabels` and
+//! `DataField`.
 #![tactic(auto)]
 
-mod asked;
 mod data;
 mod edns;
 mod field;
+pub mod flags;
 mod head;
 mod header;
 mod message;
 mod message_name;
-mod numbers;
-mod query;
+mod name_labels;
 mod query_read;
 mod question;
-mod reader;
+mod question_fields;
 mod rr;
-mod rr_head;
-mod rr_list;
+mod rr_fields;
 mod section;
 mod wire_fault;
 
-pub use edns::Edns;
+pub use edns::{DO, Edns, LEAST_PAYLOAD};
 pub use head::Head;
-pub use message::Message;
-pub use query::read_query;
-pub use query_read::QueryRead;
+pub use message::{Message, read_message};
+pub use query_read::{QueryRead, read_query};
 pub use question::{MAX_ASKED, Question};
-pub use reader::read_message;
-pub use rr::Rr;
-pub use rr_list::RrList;
+pub use rr::{Rr, RrList};
 pub use wire_fault::WireFault;

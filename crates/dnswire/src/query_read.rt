@@ -1,4 +1,22 @@
-use crate::{Head, Question};
+ghost use Rattle.std.specs.Prelude.{◌≡◌, ◌+◌, ◌≤◌, ◌↔◌, ℕ, List, length, Option, IsSome, IfSome, Some};
+ghost use Rattle.dname.specs.Name.{Label};
+ghost use Rattle.dnswire.specs.InTurn.{StandInTurn};
+ghost use Rattle.dnswire.specs.RrHead.{RrHead, IsRrHead};
+ghost use Rattle.dnswire.specs.Query.{AreOpts, IsQuery, IsReadAs, edns_of, opts_of, version_of};
+ghost use Rattle.dnswire.specs.declared.edns.Edns.{Edns};
+ghost use Rattle.dnswire.specs.declared.query_read.QueryRead.{QueryRead};
+ghost use Rattle.dnswire.specs.declared.question.Question.{Question};
+ghost use Rattle.dnswire.specs.declared.rr_fields.RrFields.{RrFields};
+
+use crate::header::{HEADER_OCTETS, Header, STANDARD_QUERY};
+use crate::message_name::{is_root_at, skip_name};
+use crate::question::MAX_ASKED;
+use crate::question_fields::QuestionFields;
+use crate::rr_fields::RrFields;
+use crate::{DO, Edns, Head, LEAST_PAYLOAD, Question};
+use arrayvec::ArrayVec;
+use dname::types::OPT_TYPE;
+use dname::{Name, octets_between, octets_from};
 
 /// What octets are as a query.
 #[derive(Debug, Drop)]
@@ -13,3 +31,158 @@ pub enum QueryRead {
     BadVers(Question),
     Query(Question),
 }
+
+/// Reads a query: what it asks, or why it is refused. A fault comes before a version, an opcode before both. The data of
+/// records isn't read, but for what the OPT record says, and octets after the last record are passed over. It takes no
+/// memory.
+pub fn read_query(octets: &[u8]) -> QueryRead
+    ensures read { IsReadAs octets.now result }
+    ensures every { (read : QueryRead) → IsReadAs octets.now read → result ≡ read }
+{
+    let Some(header) = Header::read(octets) else {
+        return QueryRead::Dropped;
+    };
+    if header.is_response() {
+        return QueryRead::Dropped;
+    }
+    if header.opcode() != STANDARD_QUERY {
+        return QueryRead::NotImp(header.head());
+    }
+    let Some((question, version)) = read_question(octets, header) else {
+        return QueryRead::FormErr(header.head());
+    };
+    if version != 0 {
+        return QueryRead::BadVers(question);
+    }
+    QueryRead::Query(question)
+}
+
+// What a query with this header asks, and the version of its OPT record.
+fn read_question(octets: &[u8], header: Header) -> Option<(Question, u8)>
+    requires { HEADER_OCTETS ≤ length octets.now }
+    ensures read { IfSome result (λ read. IsQuery octets.now header read.0 read.1) }
+    ensures every { (question : Question) (version : ℕ)
+        → IsQuery octets.now header question version → IsSome result }
+{
+    if header.questions != 1 {
+        return None;
+    }
+    let Ok((name, taken)) = Name::read(octets_from(octets, HEADER_OCTETS)) else {
+        return None;
+    };
+    let Some(fields) = QuestionFields::read(octets, HEADER_OCTETS + taken) else {
+        return None;
+    };
+    let passed = usize::from(header.answers) + usize::from(header.authorities);
+    let Some(additional_at) = skip_rrs(octets, fields.end, passed) else {
+        return None;
+    };
+    let Some(opt) = read_opt(octets, additional_at, header.additionals) else {
+        return None;
+    };
+    let question = Question {
+        id: header.id,
+        rd: header.has_rd(),
+        ad: header.has_ad(),
+        cd: header.has_cd(),
+        name,
+        asked: copy_of(octets_between(octets, HEADER_OCTETS, fields.end)),
+        qtype: fields.qtype,
+        qclass: fields.qclass,
+        edns: opt.edns,
+    };
+    Some((question, opt.version))
+}
+
+fn copy_of(asked: &[u8]) -> ArrayVec<u8, MAX_ASKED>
+    requires { length asked.now ≤ MAX_ASKED }
+    ensures { result.items ≡ asked.now }
+{
+    let mut copy = ArrayVec::new();
+    let fitted = copy.try_extend_from_slice(asked).is_ok();
+    prove!(fitted);
+    copy
+}
+
+// The offset after so many records; none where one of them can't be read.
+fn skip_rrs(octets: &[u8], at: usize, count: usize) -> Option<usize>
+    ensures read { IfSome result (λ end. (heads : List RrHead)
+        × StandInTurn (IsRrHead octets.now) at heads end × (length heads ≡ count)) }
+    ensures every { (heads : List RrHead) (end : ℕ)
+        → StandInTurn (IsRrHead octets.now) at heads end → length heads ≡ count → IsSome result }
+{
+    let mut here = at;
+    for _ in 0..count {
+        let Some(fields) = skip_rr(octets, here) else {
+            return None;
+        };
+        here = fields.end;
+    }
+    Some(here)
+}
+
+// What follows the owner name of the record at the offset.
+fn skip_rr(octets: &[u8], at: usize) -> Option<RrFields>
+    ensures read { IfSome result (λ fields. (owner : List Label)
+        × IsRrHead octets.now at (record { owner = owner; fields = fields }) fields.end) }
+    ensures every { (head : RrHead) (end : ℕ) → IsRrHead octets.now at head end
+        → result ≡ Some head.fields }
+{
+    let Some(fields_at) = skip_name(octets, at) else {
+        return None;
+    };
+    RrFields::read(octets, fields_at)
+}
+
+/// What the OPT records of an additional section say.
+#[derive(Clone, Copy, Debug)]
+struct OptSaid {
+    edns: Option<Edns>,
+    version: u8,
+}
+
+// What the OPT records among so many records say; none where a record can't be read, or there is a second OPT record or
+// one of another owner than the root.
+fn read_opt(octets: &[u8], at: usize, count: u16) -> Option<OptSaid>
+    ensures read { IfSome result (λ said. (heads : List RrHead) × (end : ℕ)
+        × StandInTurn (IsRrHead octets.now) at heads end × (length heads ≡ count)
+        × AreOpts (opts_of heads) said.edns said.version) }
+    ensures every { (heads : List RrHead) (end : ℕ) (edns : Option Edns) (version : ℕ)
+        → StandInTurn (IsRrHead octets.now) at heads end → length heads ≡ count
+        → AreOpts (opts_of heads) edns version → IsSome result }
+{
+    let mut said = OptSaid {
+        edns: None,
+        version: 0,
+    };
+    let mut here = at;
+    for _ in 0..count {
+        let Some(fields) = skip_rr(octets, here) else {
+            return None;
+        };
+        if fields.rtype == OPT_TYPE {
+            if said.edns.is_some() || !is_root_at(octets, here) {
+                return None;
+            }
+            said = opt_said(fields);
+        }
+        here = fields.end;
+    }
+    Some(said)
+}
+
+fn opt_said(opt: RrFields) -> OptSaid
+    ensures edns { result.edns ≡ Some (edns_of opt) }
+    ensures version { result.version ≡ version_of opt }
+{
+    OptSaid {
+        edns: Some(Edns {
+            size: opt.class.max(LEAST_PAYLOAD),
+            dnssec: opt.ttl / u32::from(DO) % 2 == 1,
+        }),
+        version: (opt.ttl / 0x1_0000 % 0x100) as u8,
+    }
+}
+
+#[cfg(test)]
+mod tests;

@@ -1,10 +1,10 @@
 use std::alloc::AllocError;
 use thiserror::Error;
 
-/// Why octets aren't a message: the first fault from the front on. Places are counted in octets from the header's first.
+/// Why octets aren't a message: the first fault from the front on. Offsets are counted from the header's first octet.
 #[derive(Clone, Copy, Debug, PartialEq, Eq, Error)]
 pub enum WireFault {
-    /// They end within the header, behind a name or within a record's data.
+    /// They end within the header, after a name or within a record's data.
     #[error("the message ends early")]
     Short,
     /// The header says another number of questions than one.

@@ -1,3 +1,8 @@
 pub mod Group
-pub mod Plain
-pub mod Signature
+pub mod Signed
+pub mod Stored
+pub mod Batch
+pub mod Once
+pub mod Pile
+pub mod SignedGroup
+pub mod WireFault

@@ -1,15 +1,21 @@
 //! Intake: which records of an upstream answer are stored, and for how long.
 #![tactic(auto)]
 
-mod form;
-mod life;
+mod agreed;
+mod each_once;
+mod grouping;
+mod header;
+mod intake;
+mod intake_fault;
+mod key;
 mod nsec;
-mod numbers;
-mod one_item;
-mod plain;
-#[cfg(test)]
-mod samples;
-mod signature;
-mod soa;
+mod nsec3;
+mod pile;
+mod signed_group;
+mod stored;
+mod table;
+mod taken;
 
-pub use plain::plain_batch;
+pub use intake::batch_of;
+pub use intake_fault::IntakeFault;
+pub use taken::Taken;

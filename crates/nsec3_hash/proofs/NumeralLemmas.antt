@@ -11,7 +11,7 @@ use Rattle.std.specs.Int.Digits.{number_from_digits, number_from_digits_after, A
 use Rattle.std.specs.declared.cmp.Ordering.TheVariants.{Less, Equal, Greater}
 use Rattle.nsec3_hash.specs.Base32Hex.{values_of}
 
--- ---- a numeral behind a number
+-- ---- a numeral after a number
 
 pub number_after_is : (b n : ℕ) (xs : List ℕ) → number_from_digits_after b n xs ≡ n * b ^ length xs + number_from_digits b xs
 number_after_is b n [] = rw pow-zero (omega arith)

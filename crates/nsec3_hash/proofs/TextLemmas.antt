@@ -23,7 +23,7 @@ unfolding values_of
 values_of-below zero n = All-nil (λ value. value < 32)
 values_of-below (suc count) n = All-push (λ value. value < 32) _ _ (values_of-below count (n / 32)) (omega arith)
 
--- five octets behind others are eight digits behind theirs
+-- five octets after others are eight digits after theirs
 pub digits-append : (count : ℕ) (front group : List ℕ) → length group ≡ 5 → All (λ octet. octet < 256) group
     → map digit_of (values_of (count + 8) (number_from_digits 256 (front ++ group)))
     ≡ map digit_of (values_of count (number_from_digits 256 front)) ++ map digit_of (values_of 8 (number_from_digits 256 group))
@@ -95,7 +95,7 @@ pub values_of-eight : (n : ℕ) → values_of 8 n
 unfolding values_of
 values_of-eight n = simp div-div-eq-div-mul
 
--- one digit behind others
+-- one digit after others
 pub values_of-push : (count n value : ℕ) → value < 32 → values_of (count + 1) (n * 32 + value) ≡ values_of count n ++ value ∷ []
 unfolding values_of
 values_of-push count n value small =

@@ -1,2 +1,2 @@
-pub mod Base32Hex
 pub mod IteratedHash
+pub mod Base32Hex

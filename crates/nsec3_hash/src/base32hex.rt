@@ -25,8 +25,10 @@ pub fn from_base32hex(text: &[u8]) -> Option<[u8; 20]>
     ensures value { IfSome result (λ hash. text_of hash ≡ lowered text.now) }
 
     // The hash whose text it is, such as the one that `to_base32hex` wrote.
-    ensures every_hash { (hash : List ℕ) → IsHash hash → text_of hash ≡ lowered text.now → result ≡ Some hash }
-    ensures reads_back { (hash : List ℕ) → IsHash hash → text.now ≡ text_of hash → result ≡ Some hash }
+    ensures every_hash { (hash : List ℕ) → IsHash hash → text_of hash ≡ lowered text.now
+        → result ≡ Some hash }
+    ensures reads_back { (hash : List ℕ) → IsHash hash → text.now ≡ text_of hash
+        → result ≡ Some hash }
 {
     if text.len() != 32 {
         return None;
@@ -42,7 +44,8 @@ pub fn from_base32hex(text: &[u8]) -> Option<[u8; 20]>
 /// Texts stand in the order of their hashes, both compared octet by octet. So hashed owner names sort as the hashes do
 /// (RFC 5155, section 1.3).
 pub fn order_law()
-    ensures { (a b : List ℕ) → IsHash a → IsHash b → slice_cmp nat_cmp (text_of a) (text_of b) ≡ slice_cmp nat_cmp a b }
+    ensures { (a b : List ℕ) → IsHash a → IsHash b
+        → slice_cmp nat_cmp (text_of a) (text_of b) ≡ slice_cmp nat_cmp a b }
 {}
 
 // The number that five octets are, the first the highest.
@@ -82,7 +85,6 @@ fn digits_of(number: u64) -> [u8; 8]
     ]
 }
 
-// The last digit of a number.
 fn digit_of(number: u64) -> u8
     ensures { result ≡ digit_of (number % 32) }
 {
@@ -97,9 +99,11 @@ fn digit_of(number: u64) -> u8
 // The number that eight digits are, in either case.
 fn number_of_digits(digits: &[u8]) -> Option<u64>
     requires { length digits.now ≡ 8 }
-    ensures read { IsSome result ↔ All (λ digit. IsDigit (to_ascii_lowercase digit)) digits.now }
+    ensures read { IsSome result
+        ↔ All (λ digit. IsDigit (to_ascii_lowercase digit)) digits.now }
     ensures small { IfSome result (λ number. number < 2 ^ 40) }
-    ensures value { IfSome result (λ number. map digit_of (values_of 8 number) ≡ lowered digits.now) }
+    ensures value { IfSome result (λ number.
+        map digit_of (values_of 8 number) ≡ lowered digits.now) }
 {
     let mut number = 0;
     for digit in digits {
@@ -122,60 +126,4 @@ fn value_of(digit: u8) -> Option<u8>
 }
 
 #[cfg(test)]
-mod tests {
-    use super::{from_base32hex, to_base32hex};
-
-    #[test]
-    fn texts_of_hashes(rt: HostRuntime) {
-        let counted: [u8; 20] = [
-            0, 1, 2, 3, 4, 5, 6, 7, 8, 9, 10, 11, 12, 13, 14, 15, 16, 17, 18, 19,
-        ];
-        let cases: [([u8; 20], &[u8; 32]); 5] = [
-            ([0; 20], b"00000000000000000000000000000000"),
-            ([255; 20], b"vvvvvvvvvvvvvvvvvvvvvvvvvvvvvvvv"),
-            (counted, b"000g40o40k30e209185go38e1s8124gj"),
-            // "fooba" of RFC 4648, section 10, four times.
-            (
-                *b"foobafoobafoobafooba",
-                b"cpnmuoj1cpnmuoj1cpnmuoj1cpnmuoj1",
-            ),
-            // One bit at the end.
-            (
-                *b"\0\0\0\0\0\0\0\0\0\0\0\0\0\0\0\0\0\0\0\x01",
-                b"00000000000000000000000000000001",
-            ),
-        ];
-        for (hash, text) in cases {
-            assert_eq!(rt; to_base32hex(&hash).as_slice(), text.as_slice());
-            assert!(rt; from_base32hex(text) == Some(hash));
-            let mut capitals = *text;
-            capitals.make_ascii_uppercase();
-            assert!(rt; from_base32hex(&capitals) == Some(hash));
-        }
-    }
-
-    #[test]
-    fn what_is_read(rt: HostRuntime) {
-        let cases: [(&[u8], bool); 14] = [
-            (b"0p9mhaveqvm6t7vbl5lop2u3t2rp3tom", true),
-            (b"35mthgpgcu1qg68fab165klnsnk3dpvl", true),
-            (b"GJEQE526PLBF1G8MKLP59ENFD789NJGI", true),
-            (b"2t7b4g4vsa5smi47k61mv5bv1a22bojR", true),
-            (b"", false),
-            // 31 digits, 33, and 40.
-            (b"0p9mhaveqvm6t7vbl5lop2u3t2rp3to", false),
-            (b"0p9mhaveqvm6t7vbl5lop2u3t2rp3tom0", false),
-            (b"0p9mhaveqvm6t7vbl5lop2u3t2rp3tom00000000", false),
-            // The octets beside the digits.
-            (b"0p9mhaveqvm6t7vbl5lop2u3t2rp3tow", false),
-            (b"Wp9mhaveqvm6t7vbl5lop2u3t2rp3tom", false),
-            (b"0p9mhaveqvm6t7vb:5lop2u3t2rp3tom", false),
-            (b"0p9mhaveqvm6t7vb/5lop2u3t2rp3tom", false),
-            (b"0p9mhaveqvm6t7v@l5lop2u3t2rp3tom", false),
-            (b"0p9mhaveqvm6t7v`l5lop2u3t2rp3tom", false),
-        ];
-        for (text, want) in cases {
-            assert_eq!(rt; from_base32hex(text).is_some(), want);
-        }
-    }
-}
+mod tests;

@@ -1,4 +1,6 @@
-//! Hashed owner names (RFC 5155): the iterated hash of a name, and hashes as base32hex text.
+//! Hashed owner names (RFC 5155, section 5): the iterated hash of a name, and hashes as base32hex text (RFC 4648).
+//!
+//! Specs, in reading order: `IteratedHash`, `Base32Hex`. Public clauses cite both.
 #![tactic(auto)]
 
 mod base32hex;

@@ -1,7 +1,7 @@
-pub mod Fault
-pub mod FaultPlan
-pub mod MemorySink
-pub mod MemorySource
-pub mod SteadySource
-pub mod Stream
 pub mod Told
+pub mod Fault
+pub mod SteadySource
+pub mod FaultPlan
+pub mod MemorySource
+pub mod MemorySink
+pub mod Stream

@@ -1,5 +1,9 @@
 //! The outside as traits with a written meaning and a count of faults, their forms in memory, and
 //! thin adapters over the streams of std.
+//!
+//! Specs, in reading order: `Told`, `Fault`, which the traits cite; `SteadySource`, `FaultPlan`,
+//! `MemorySource`, `MemorySink` for the forms in memory; `Stream` for the adapters. Public clauses
+//! cite them all.
 #![tactic(auto)]
 
 mod failed;

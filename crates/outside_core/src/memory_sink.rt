@@ -65,7 +65,8 @@ impl Sink for MemorySink {
         requires { 1 ≤ length piece.now }
         ensures some { IfOk result (λ n. 1 ≤ n) }
         ensures within { IfOk result (λ n. n ≤ length piece.now) }
-        ensures written { IfOk result (λ n. self.new.written ≡ self.old.written ++ take n piece.now) }
+        ensures written { IfOk result (λ n.
+            self.new.written ≡ self.old.written ++ take n piece.now) }
         ensures failed_written { OnErr result (self.new.written ≡ self.old.written) }
         ensures cause { HasCause self.old.plan.faults self.new.plan.faults result }
 

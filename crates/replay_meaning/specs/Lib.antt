@@ -1,6 +1,11 @@
+pub mod Finding
 pub mod Fits
 pub mod Frame
+pub mod Laws
 pub mod OutFrame
 pub mod Outcome
+pub mod Replay
 pub mod Sound
-pub mod StoredRun
+pub mod Spelling
+pub mod Step
+pub mod Version

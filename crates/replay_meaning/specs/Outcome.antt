@@ -1,57 +1,41 @@
--- The reply to a query and what is said of a batch, from the batches placed.
-use Rattle.std.specs.Prelude.{ℕ, List, [], ◌∷◌, ◌++◌, length, map, Option, Some, None}
+-- What becomes of a query and of an insert: the octets that are said of it.
+use Rattle.std.specs.Prelude.{ℕ, List, [], ◌∷◌, ◌++◌, length, Option, Some, None}
 use Rattle.std.specs.Option.{option_map}
 use Rattle.byteorder.specs.Endian.{big_bytes}
 use Rattle.dnswire.specs.declared.question.Question.{Question}
-use Rattle.dnswire.specs.declared.query_read.QueryRead.{QueryRead}
-use Rattle.dnswire.specs.declared.query_read.QueryRead.TheVariants.{Dropped, NotImp, FormErr, BadVers, Query}
+use Rattle.denial_records.specs.Proof.{Proof}
 use Rattle.denial_records.specs.declared.batch.Batch.{Batch}
-use Rattle.denial_records.specs.declared.record.Record.{Record}
-use Rattle.denial_records.specs.declared.record.Record.TheVariants.{Set, Nsec, Nsec3}
-use Rattle.cache_meaning.specs.Held.{held_of}
-use Rattle.cache_meaning.specs.Outcome.{outcome_of}
-use Rattle.cache_meaning.specs.Proof.{Proof, ttl_of}
-use Rattle.reply_core.specs.Error.{error_octets, plain_octets}
+use Rattle.intake.specs.declared.taken.Taken.{Taken}
+use Rattle.intake.specs.declared.intake_fault.IntakeFault.{IntakeFault}
+use Rattle.intake.specs.declared.intake_fault.IntakeFault.TheVariants.{Malformed, NotResponse, Truncated, Rcode, NotAuthentic, Nothing, OutOfMemory}
+use Rattle.cache_meaning.specs.Held.{Held, held_of}
+use Rattle.cache_meaning.specs.Prove.{outcome_of}
 use Rattle.reply_core.specs.Reply.{reply_octets}
-use Rattle.reply_core.specs.View.{SignedSet, Finding, set_of, nsec_of, nsec3_of, listed}
+use Rattle.replay_meaning.specs.Finding.{finding_of}
 
-abbrev pub signed_set : Record → SignedSet
-signed_set (Set set) = set_of set
-signed_set (Nsec nsec) = nsec_of nsec
-signed_set (Nsec3 nsec3) = nsec3_of nsec3
+-- the reply to the question that a proof gives at a moment
+abbrev pub proof_octets : Question → ℕ → Proof → List ℕ
+proof_octets question now proof = reply_octets question (finding_of now proof)
 
--- what a reply says: the records of the proof, and its TTL
-abbrev pub finding_of : ℕ → Proof → Finding
-finding_of now proof = record {
-  kind = proof.kind;
-  answer = listed set_of proof.answer;
-  soa = listed set_of proof.soa;
-  denials = map signed_set proof.denials;
-  ttl = ttl_of now proof;
-}
+-- the proof that held records have for the question at the moment
+abbrev pub proof_in : Held → Question → ℕ → Option Proof
+proof_in held question now = outcome_of held now question.name question.qtype question.qclass
 
--- the reply to a question at a moment, from the records held; none where the query is forwarded
-abbrev pub reply_in : List Record → Question → ℕ → Option (List ℕ)
-reply_in held question now =
-    option_map (λ proof. reply_octets question (finding_of now proof)) (outcome_of held now question.name question.qtype question.qclass)
+-- the reply, or none where the query is forwarded
+abbrev pub reply_in : Held → Question → ℕ → Option (List ℕ)
+reply_in held question now = option_map (proof_octets question now) (proof_in held question now)
 
--- from the batches placed
-abbrev pub reply_from : List Batch → Question → ℕ → Option (List ℕ)
-reply_from placed question now = reply_in (held_of placed) question now
+-- how many records of an upstream answer were stored, and how many groups of records were skipped
+abbrev pub stored_octets : Taken → List ℕ
+stored_octets taken = big_bytes 2 (length taken.batch.records) ++ big_bytes 2 taken.skipped
 
--- how many records of a batch were stored, and how many groups of records were not
-abbrev pub stored_octets : Batch → List ℕ
-stored_octets batch = big_bytes 2 (length batch.records) ++ big_bytes 2 0
-
--- what tells a query's fault: RCODE 4 of another opcode than that of a standard query, 1 of what can't be read (RFC 1035,
--- section 4.1.1), 16 of an OPT record of another version than 0 (RFC 6891, section 6.1.3)
-abbrev pub fault_octets : QueryRead → Option (List ℕ)
-fault_octets Dropped = None
-fault_octets (NotImp head) = Some (error_octets head 4)
-fault_octets (FormErr head) = Some (error_octets head 1)
-fault_octets (BadVers question) = Some (plain_octets question 16)
-fault_octets (Query question) = None
-
--- why an upstream answer is refused: code 1, it isn't a message
-abbrev pub malformed_octets : List ℕ
-malformed_octets = 1 ∷ []
+-- why an upstream answer was refused. Code 6 is kept for a cache that refuses when it is full, and code 8 for one that has
+-- no number for another version; want of memory is no outcome and has no code
+abbrev pub refusal_code : IntakeFault → ℕ
+refusal_code (Malformed fault) = 1
+refusal_code NotResponse = 2
+refusal_code Truncated = 3
+refusal_code NotAuthentic = 4
+refusal_code (Nothing skipped) = 5
+refusal_code (Rcode rcode) = 7
+refusal_code OutOfMemory = 0

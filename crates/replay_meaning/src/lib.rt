@@ -1,10 +1,12 @@
-//! What a replay means: the frames of its input and output, and which outputs fit an input.
+//! What a replay means: the frames of its input and output, which outputs fit an input for any number of workers, and what a
+//! reply says of the zones. Read `specs/Frame.antt`, `OutFrame`, `Step`, `Outcome`, `Fits`, `Sound` and `Replay`, in this
+//! order; `Finding` is how `Outcome` has a proof written, and `Spelling` and `Laws` are the laws.
 #![tactic(auto)]
 
 mod frame;
+mod laws;
 mod out_frame;
-mod sound;
 
-pub use frame::{Frame, FrameKind, MAX_MESSAGE, one_spelling, read_frame};
+pub use frame::{Frame, FrameKind, read_frame};
+pub use laws::{one_output, one_spelling};
 pub use out_frame::{OutFrame, OutKind};
-pub use sound::the_stored_run_has_a_zone;

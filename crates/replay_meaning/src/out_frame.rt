@@ -1,7 +1,7 @@
 ghost use Rattle.std.specs.Prelude.{◌≡◌, ◌<◌, ◌^◌, ◌++◌, length, OnOk};
 ghost use Rattle.replay_meaning.specs.OutFrame.{out_number};
 
-use dname::{Octets, OutOfMemory};
+use dname::OutOfMemory;
 
 /// What became of an input frame.
 #[derive(Clone, Copy, Debug, PartialEq, Eq)]
@@ -10,7 +10,7 @@ pub enum OutKind {
     Reply,
     /// The cache has no answer: the query goes to the upstream server.
     Forward,
-    /// An upstream answer's records were stored; the body says how many were, and how many were skipped.
+    /// An upstream answer's records were stored; the body says how many were, and how many groups were skipped.
     Stored,
     /// An upstream answer was refused; the body says why.
     Refused,
@@ -37,29 +37,30 @@ impl OutKind {
 }
 
 /// A frame of the output.
-#[derive(Debug, Drop)]
-pub struct OutFrame {
+#[derive(Clone, Copy, Debug)]
+pub struct OutFrame<'a> {
     pub kind: OutKind,
+    /// The worker of the input frame.
     pub worker: u8,
-    /// How many batches had been placed in the version that was read, met or made; 0 without one.
+    /// How many batches had been placed in the version that was read or made; 0 without one.
     pub version: u32,
-    pub body: Octets,
+    pub body: &'a [u8],
 }
 
-impl OutFrame {
-    ghost use Rattle.replay_meaning.specs.OutFrame.{output_spelling};
+impl OutFrame<'_> {
+    ghost use Rattle.replay_meaning.specs.OutFrame.{output_of, output_spelling};
 
     /// Puts the frame's spelling at the end of `out`, which has a part of it after want of memory.
     pub fn write(&self, out: &mut Vec<u8>) -> Result<(), OutOfMemory>
-        requires { length self.now.body < 2 ^ 16 }
-        ensures { OnOk result (out.new.items ≡ out.old.items ++ output_spelling self.now) }
+        requires { length self.now.body.now < 2 ^ 16 }
+        ensures { OnOk result
+            (out.new.items ≡ out.old.items ++ output_spelling (output_of self.now)) }
     {
-        let body = self.body.as_slice();
-        let size = body.len() as u16;
+        let size = self.body.len() as u16;
         out.push(self.kind.number())?;
         out.push(self.worker)?;
         out.extend_from_slice(&self.version.to_be_bytes())?;
         out.extend_from_slice(&size.to_be_bytes())?;
-        out.extend_from_slice(body)
+        out.extend_from_slice(self.body)
     }
 }

@@ -1,4 +1,4 @@
 pub mod CountLemmas
-pub mod PageLemmas
+pub mod DraftLemmas
 pub mod RecordLemmas
 pub mod ReplyLemmas

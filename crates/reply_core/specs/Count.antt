@@ -1,4 +1,4 @@
--- The number of records, as a header has it.
+-- No public clause cites this module. The number of records, as a header has it.
 use Rattle.std.specs.Prelude.{ℕ, ◌%◌, ◌^◌, List, length}
 
 -- the number of records as 16 bits hold it

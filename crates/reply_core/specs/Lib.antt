@@ -1,6 +1,6 @@
-pub mod Count
-pub mod Error
-pub mod Owner
-pub mod Page
 pub mod Reply
 pub mod View
+pub mod Error
+pub mod Draft
+pub mod Owner
+pub mod Count

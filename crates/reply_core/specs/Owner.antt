@@ -1,4 +1,4 @@
--- The owner name of records, as labels.
+-- No public clause cites this module. The owner name of records, as labels.
 use Rattle.std.specs.Prelude.{List, ◌∷◌}
 use Rattle.dname.specs.Name.{Label}
 use Rattle.reply_core.specs.declared.owner.Owner.{Owner}

@@ -3,12 +3,17 @@ use Rattle.std.specs.Prelude.{ℕ, ◌+◌, ◌*◌, Bool, true, false, ◌||◌
 use Rattle.std.specs.List.{flat_map}
 use Rattle.byteorder.specs.Endian.{big_bytes}
 use Rattle.dname.specs.Name.{Label, wire_of}
+use Rattle.dname.specs.declared.types.TheConstants.{IN_CLASS, OPT_TYPE, RRSIG_TYPE}
 use Rattle.dnswire.specs.declared.edns.Edns.{Edns}
 use Rattle.dnswire.specs.declared.head.Head.{Head}
 use Rattle.dnswire.specs.declared.question.Question.{Question}
 use Rattle.denial_records.specs.declared.verdict.Kind.{Kind}
 use Rattle.denial_records.specs.declared.verdict.Kind.TheVariants.{Answer, NoData, NxDomain}
-use Rattle.reply_core.specs.View.{SignedSet, Finding, rrsig_type}
+use Rattle.dnswire.specs.declared.edns.TheConstants.{DO, LEAST_PAYLOAD}
+use Rattle.dnswire.specs.declared.flags.TheConstants.{QR, TC, RD, RA, AD, CD}
+use Rattle.reply_core.specs.View.{SignedSet, Finding}
+use Rattle.reply_core.specs.declared.draft.TheConstants.{MAX_REPLY}
+use Rattle.reply_core.specs.declared.rcode.TheConstants.{NO_ERROR, NAME_ERROR}
 
 -- DO, which the query's OPT record has (RFC 3225, section 3)
 abbrev pub dnssec_in : Option Edns → Bool
@@ -23,11 +28,11 @@ wants_dnssec question = dnssec_in question.edns
 abbrev pub flag : Bool → ℕ → ℕ
 flag set bit = if set then bit else 0
 
--- RCODE: 3 where the name doesn't exist, else 0 (RFC 1035, section 4.1.1)
+-- the RCODE (RFC 1035, section 4.1.1)
 abbrev pub rcode_of : Kind → ℕ
-rcode_of NxDomain = 3
-rcode_of NoData = 0
-rcode_of Answer = 0
+rcode_of NxDomain = NAME_ERROR
+rcode_of NoData = NO_ERROR
+rcode_of Answer = NO_ERROR
 
 -- what a reply takes over from the header of a question's query, whose opcode is 0
 abbrev pub head_of : Question → Head
@@ -36,13 +41,13 @@ head_of question = record { id = question.id; opcode = 0; rd = question.rd; cd =
 -- QR and RA are set; AA, TC, Z and AD zero; opcode, RD and CD are the query's (RFC 1035, section 4.1.1; RFC 4035,
 -- section 3.2.2)
 abbrev pub flags_of : Head → ℕ → ℕ
-flags_of head rcode = 0x8080 + head.opcode * 0x800 + flag head.rd 0x100 + flag head.cd 0x10 + rcode
+flags_of head rcode = QR + RA + head.opcode * 0x800 + flag head.rd RD + flag head.cd CD + rcode
 
--- those flags, with TC where the reply is cut, and AD where the query had AD or DO (RFC 4035, sections 3.1.6 and 3.2.3;
+-- those flags, with TC where the reply is truncated, and AD where the query had AD or DO (RFC 4035, sections 3.1.6 and 3.2.3;
 -- RFC 6840, section 5.8)
 abbrev pub reply_flags : Question → Kind → Bool → ℕ
-reply_flags question kind cut =
-    flags_of (head_of question) (rcode_of kind) + flag cut 0x200 + flag (question.ad || wants_dnssec question) 0x20
+reply_flags question kind truncated =
+    flags_of (head_of question) (rcode_of kind) + flag truncated TC + flag (question.ad || wants_dnssec question) AD
 
 -- the number of OPT records, which is that of the query (RFC 6891, section 6.1.1)
 abbrev pub opt_count : Option Edns → ℕ
@@ -64,7 +69,7 @@ pub record ReplyRecord : Type 0 where
 -- owner uncompressed, type, class IN, TTL, the data's length, data (RFC 1035, section 4.1.3)
 abbrev pub record_octets : ℕ → ReplyRecord → List ℕ
 record_octets ttl r =
-    wire_of r.owner ++ big_bytes 2 r.rtype ++ big_bytes 2 1 ++ big_bytes 4 ttl ++ big_bytes 2 (length r.rdata) ++ r.rdata
+    wire_of r.owner ++ big_bytes 2 r.rtype ++ big_bytes 2 IN_CLASS ++ big_bytes 4 ttl ++ big_bytes 2 (length r.rdata) ++ r.rdata
 
 -- a record for each item
 abbrev pub records_of : List Label → ℕ → List (List ℕ) → List ReplyRecord
@@ -72,9 +77,9 @@ records_of owner rtype items = map (λ rdata. record { owner = owner; rtype = rt
 
 -- the set's signatures, for a client that wants them (RFC 4035, section 3.1.1)
 abbrev pub signature_records : Bool → List Label → List (List ℕ) → List ReplyRecord
-signature_records dnssec owner signatures = if dnssec then records_of owner rrsig_type signatures else []
+signature_records dnssec owner signatures = if dnssec then records_of owner RRSIG_TYPE signatures else []
 
--- the set's records with this owner, and its signatures behind them
+-- the set's records with this owner, and its signatures after them
 abbrev pub set_records : Bool → List Label → SignedSet → List ReplyRecord
 set_records dnssec owner set = records_of owner set.rtype set.items ++ signature_records dnssec owner set.signatures
 
@@ -98,8 +103,8 @@ authority_records question finding =
 abbrev pub opt_octets : ℕ → Option Edns → List ℕ
 opt_octets upper None = []
 opt_octets upper (Some edns) =
-    wire_of [] ++ big_bytes 2 41 ++ big_bytes 2 1232
-    ++ big_bytes 1 upper ++ big_bytes 1 0 ++ big_bytes 2 (flag edns.dnssec 0x8000) ++ big_bytes 2 0
+    wire_of [] ++ big_bytes 2 OPT_TYPE ++ big_bytes 2 MAX_REPLY
+    ++ big_bytes 1 upper ++ big_bytes 1 0 ++ big_bytes 2 (flag edns.dnssec DO) ++ big_bytes 2 0
 
 -- the reply with all its records
 abbrev pub whole_octets : Question → Finding → List ℕ
@@ -116,18 +121,18 @@ bare_octets question flags upper =
     header_octets question.id flags 1 0 0 (opt_count question.edns) ++ question.asked.items ++ opt_octets upper question.edns
 
 -- the reply without records but OPT, and with TC (RFC 2181, section 9)
-abbrev pub cut_octets : Question → Finding → List ℕ
-cut_octets question finding = bare_octets question (reply_flags question finding.kind true) 0
+abbrev pub truncated_octets : Question → Finding → List ℕ
+truncated_octets question finding = bare_octets question (reply_flags question finding.kind true) 0
 
 -- the octets that a reply has at most: 512 without OPT (RFC 1035, section 4.2.1); else what the client takes, of which
 -- less than 512 counts as 512 (RFC 6891, section 6.2.3), and no more than 1232
 abbrev pub limit_of : Option Edns → ℕ
-limit_of None = 512
-limit_of (Some edns) = min 1232 (max 512 edns.size)
+limit_of None = LEAST_PAYLOAD
+limit_of (Some edns) = min MAX_REPLY (max LEAST_PAYLOAD edns.size)
 
--- a reply is whole where that is within the limit, and else cut
+-- a reply is whole where that is within the limit, and else truncated
 abbrev pub reply_octets : Question → Finding → List ℕ
 reply_octets question finding =
     if nat_le (length (whole_octets question finding)) (limit_of question.edns)
     then whole_octets question finding
-    else cut_octets question finding
+    else truncated_octets question finding

@@ -1,6 +1,7 @@
 -- What a verdict stands for: lists and numbers, with its references followed.
 use Rattle.std.specs.Prelude.{ℕ, List, [], ◌∷◌, ◌++◌, Option, Some, None}
 use Rattle.dname.specs.Name.{Label}
+use Rattle.dname.specs.declared.types.TheConstants.{NSEC_TYPE, NSEC3_TYPE}
 use Rattle.nsec3_hash.specs.Base32Hex.{text_of}
 use Rattle.denial_records.specs.declared.set_rec.SetRec.{SetRec}
 use Rattle.denial_records.specs.declared.nsec_rec.NsecRec.{NsecRec}
@@ -25,18 +26,6 @@ pub record Finding : Type 0 where
   pub denials : List SignedSet
   pub ttl : ℕ
 
--- RRSIG, one of the numbers of types (RFC 4034, sections 3 and 4; RFC 5155, section 3)
-abbrev pub rrsig_type : ℕ
-rrsig_type = 46
-
--- NSEC
-abbrev pub nsec_type : ℕ
-nsec_type = 47
-
--- NSEC3
-abbrev pub nsec3_type : ℕ
-nsec3_type = 50
-
 -- the owner name of an NSEC3 record: the text of its hash in front of its zone (RFC 5155, section 3)
 abbrev pub hashed_owner : List ℕ → List Label → List Label
 hashed_owner hash zone = text_of hash ∷ zone
@@ -47,11 +36,11 @@ set_of set = record { owner = set.owner; rtype = set.rtype; items = set.items; s
 
 -- a kept NSEC record
 abbrev pub nsec_of : NsecRec → SignedSet
-nsec_of kept = record { owner = kept.owner; rtype = nsec_type; items = kept.image ∷ []; signatures = kept.signatures }
+nsec_of kept = record { owner = kept.owner; rtype = NSEC_TYPE; items = kept.image ∷ []; signatures = kept.signatures }
 
 -- a kept NSEC3 record
 abbrev pub nsec3_of : Nsec3Rec → SignedSet
-nsec3_of kept = record { owner = hashed_owner kept.hash kept.zone; rtype = nsec3_type; items = kept.image ∷ []; signatures = kept.signatures }
+nsec3_of kept = record { owner = hashed_owner kept.hash kept.zone; rtype = NSEC3_TYPE; items = kept.image ∷ []; signatures = kept.signatures }
 
 -- a kept record that denies
 abbrev pub denial_of : Denial → SignedSet

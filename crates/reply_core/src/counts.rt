@@ -1,10 +1,9 @@
-ghost use Rattle.std.specs.Prelude.{◌≡◌, ℕ, List, [], if◌then◌else◌};
+ghost use Rattle.std.specs.Prelude.{◌≡◌, ◌%◌, ◌^◌, ℕ, List, [], if◌then◌else◌};
 ghost use Rattle.std.specs.List.{flat_map};
 ghost use Rattle.reply_core.specs.Count.{count16};
 ghost use Rattle.reply_core.specs.Reply.{set_records, proof_records};
 ghost use Rattle.reply_core.specs.View.{SignedSet, listed, set_of, denial_of};
 
-use crate::numbers::low16;
 use denial_records::{Denial, SetRec};
 use dname::OctetsList;
 
@@ -12,7 +11,8 @@ use dname::OctetsList;
 
 /// The number of records of a set, with its signatures where they are sent.
 pub(crate) fn count_set(set: Option<&SetRec>, dnssec: bool) -> u16
-    ensures { (owner_of : SignedSet → List (List ℕ)) → result ≡ count16 (flat_map (λ s. set_records dnssec (owner_of s) s) (listed (λ s. set_of s.now) set.entry)) }
+    ensures { (owner_of : SignedSet → List (List ℕ)) → result ≡ count16
+        (flat_map (λ s. set_records dnssec (owner_of s) s) (listed (λ s. set_of s.now) set.entry)) }
 {
     match set {
         Some(set) => count_list(&set.items).wrapping_add(count_signatures(&set.signatures, dnssec)),
@@ -41,4 +41,11 @@ fn count_list(list: &OctetsList) -> u16
     ensures { result ≡ count16 list.now }
 {
     low16(list.len())
+}
+
+/// The low 16 bits of a length or a count. One that doesn't fit stands only in what is too long to be sent.
+pub(crate) fn low16(number: usize) -> u16
+    ensures { result ≡ number % 2 ^ 16 }
+{
+    (number % 0x1_0000) as u16
 }

@@ -1,16 +1,20 @@
-//! Replies to DNS queries, written octet by octet.
+//! Replies to DNS queries, written octet by octet (RFC 1035, section 4.1).
+//!
+//! Specs, in reading order: `Reply`, `View` and `Error`, which public clauses cite; and for the inner steps `Draft`,
+//! `Owner` and `Count`.
 #![tactic(auto)]
 
 mod counts;
+mod draft;
 mod error;
 mod header;
-mod numbers;
 mod owner;
-mod page;
+pub mod rcode;
 mod records;
 mod reply;
 mod reply_buffer;
 
+pub use draft::MAX_REPLY;
 pub use error::{write_error, write_plain};
 pub use reply::write_reply;
 pub use reply_buffer::ReplyBuffer;

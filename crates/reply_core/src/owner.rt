@@ -1,8 +1,8 @@
 ghost use Rattle.std.specs.Prelude.{◌≡◌, ◌∷◌, length};
 ghost use Rattle.dname.specs.Name.{wire_of};
-ghost use Rattle.reply_core.specs.Page.{put};
+ghost use Rattle.reply_core.specs.Draft.{put};
 
-use crate::page::Page;
+use crate::draft::Draft;
 use dname::Name;
 
 /// The owner name of records.
@@ -17,23 +17,23 @@ impl Owner<'_> {
     ghost use Rattle.reply_core.specs.Owner.{labels_of};
 
     /// Its wire form, uncompressed.
-    pub(crate) fn put(&self, page: &mut Page)
-        ensures { page.new ≡ put page.old (wire_of (labels_of self.now)) }
+    pub(crate) fn put(&self, draft: &mut Draft)
+        ensures { draft.new ≡ put draft.old (wire_of (labels_of self.now)) }
     {
         match self {
-            Owner::Name(name) => page.put(name.wire()),
+            Owner::Name(name) => draft.put(name.wire()),
             Owner::Hashed(text, zone) => {
-                put_label(page, text);
-                page.put(zone.wire());
+                put_label(draft, text);
+                draft.put(zone.wire());
             }
         }
     }
 }
 
 // The label that is a hash's text, after its length.
-fn put_label(page: &mut Page, text: &[u8; 32])
-    ensures { page.new ≡ put page.old (length text.now ∷ text.now) }
+fn put_label(draft: &mut Draft, text: &[u8; 32])
+    ensures { draft.new ≡ put draft.old (length text.now ∷ text.now) }
 {
-    page.put(&[32]);
-    page.put(text.as_slice());
+    draft.put(&[32]);
+    draft.put(text.as_slice());
 }

@@ -1,21 +1,22 @@
 ghost use Rattle.std.specs.Prelude.{◌≡◌, ◌≤◌, [], length};
+ghost use Rattle.reply_core.specs.declared.draft.TheConstants.{MAX_REPLY};
 
-use crate::page::{MAX_REPLY, Page};
+use crate::draft::{Draft, MAX_REPLY};
 use std::marker::Model;
 
 /// A place for the octets of one reply, seen as their list. No call on it takes memory.
 #[derive(Debug, Drop)]
 pub struct ReplyBuffer {
-    pub(crate) page: Page,
+    pub(crate) draft: Draft,
 }
 
 impl Model for ReplyBuffer {
     ghost use Rattle.std.specs.Prelude.{List, ℕ};
-    ghost use Rattle.reply_core.specs.Page.{octets_on};
+    ghost use Rattle.reply_core.specs.Draft.{octets_of};
 
     ghost Value = { List ℕ };
 
-    ghost view = { λ b. octets_on b.page.written };
+    ghost view = { λ b. octets_of b.draft.written };
 }
 
 impl ReplyBuffer {
@@ -24,14 +25,14 @@ impl ReplyBuffer {
         ensures { result ≡ [] }
     {
         ReplyBuffer {
-            page: Page::new(MAX_REPLY),
+            draft: Draft::new(MAX_REPLY),
         }
     }
 
     pub fn as_slice(&self) -> &[u8]
         ensures value { result.now ≡ self.now }
-        ensures fits { length result.now ≤ 1232 }
+        ensures fits { length result.now ≤ MAX_REPLY }
     {
-        self.page.as_slice()
+        self.draft.as_slice()
     }
 }

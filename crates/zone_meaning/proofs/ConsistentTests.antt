@@ -4,62 +4,52 @@ use Rattle.std.specs.Prelude.{not, ◌&&◌, ◌||◌, ◌==◌}
 use Rattle.std.specs.Bool.{Decides}
 use Rattle.std.specs.List.{Contains}
 use Rattle.std.specs.declared.cmp.Ordering.{Ordering}
-use Rattle.std.specs.declared.cmp.Ordering.TheVariants.{Less, Equal, Greater}
+use Rattle.std.specs.declared.cmp.Ordering.TheVariants.{Equal}
+use Rattle.std.specs.Cmp.{IsTotalOrder}
 use Rattle.std.proofs.lemmas.Bool.Decides.{Decides-eqb, Decides-like, Decides-not, Decides-and, Decides-or, not_from_Decides}
 use Rattle.dname.specs.Name.{Label, IsUnder, canonical_cmp}
-use Rattle.zone_meaning.specs.Arc.{IsInside}
-use Rattle.zone_meaning.specs.Zone.{Zone, ZoneRecord, IsZone, IsProofType, HasType, IsCut, IsLive, ns_type, cname_type, ds_type, rrsig_type, nsec_type, nsec3_type}
+use Rattle.dname.specs.Arc.{arc_has, IsInside}
+use Rattle.dname.specs.Order.{canonical_total, canonical_equal}
+use Rattle.dname.specs.declared.types.TheConstants.{CNAME_TYPE, DS_TYPE, NSEC3_TYPE, NSEC_TYPE, NS_TYPE, RRSIG_TYPE}
+use Rattle.dname.proofs.ArcLemmas.{inside_arc}
+use Rattle.zone_meaning.specs.Zone.{Zone, ZoneRecord, IsZone, IsProofType, HasType, IsCut, IsLive}
 use Rattle.zone_meaning.specs.Consistent.{TypesAgree, IsParentType, SetPart, NsecPart, IsConsistentNsec, IsConsistentSet}
-use Rattle.zone_meaning.specs.Denial.{IsMatchWithoutType}
 use Rattle.zone_meaning.proofs.LookupTests.{has_just, has_just_decides}
 use Rattle.zone_meaning.proofs.ZoneTests.{all_by_member, any_of, any_decides, all_of, all_decides, if_decides, same_name, same_name_decides, is_under, under_decides, has_type, has_type_decides, is_cut, cut_decides, is_live, live_decides}
 
 -- ---- arcs
 
-abbrev pub is_less : Ordering → Bool
-is_less Less = true
-is_less Equal = false
-is_less Greater = false
+-- by an order and a test of equal values
+abbrev pub is_within : {K : Type 0} → (K → K → Ordering) → (K → K → Bool) → K → K → K → Bool
+is_within cmp same a b x = arc_has cmp a b x && not (same x a)
 
-less_decides : (o : Ordering) → Decides (is_less o) (o ≡ Less)
-less_decides Less = (λ _. refl, λ _. refl)
-less_decides Equal = (λ e. cc, λ e. cc)
-less_decides Greater = (λ e. cc, λ e. cc)
-
-abbrev pub comes_before : List Label → List Label → Bool
-comes_before x y = is_less (canonical_cmp x y)
+pub within_decides : {K : Type 0} (cmp : K → K → Ordering) → IsTotalOrder cmp → ((x y : K) → cmp x y ≡ Equal → x ≡ y) → (same : K → K → Bool) → ((x y : K) → Decides (same x y) (x ≡ y)) → (a b x : K) → Decides (is_within cmp same a b x) (IsInside cmp a b x)
+within_decides cmp total ties same decides a b x =
+    let both = inside_arc cmp total ties a b x in
+    Decides-like (is_within cmp same a b x) both.1 both.0
+    (Decides-and (arc_has cmp a b x) (not (same x a)) (λ has. has, λ has. has) (Decides-not (same x a) (decides x a)))
 
 abbrev pub is_inside : List Label → List Label → List Label → Bool
-is_inside a b x =
-    (comes_before a b && (comes_before a x && comes_before x b)) || (not (comes_before a b) && (not (same_name x a) && (comes_before a x || comes_before x b)))
+is_inside = is_within canonical_cmp same_name
 
 pub inside_decides : (a b x : List Label) → Decides (is_inside a b x) (IsInside canonical_cmp a b x)
-inside_decides a b x =
-    let before = λ (y z : List Label). less_decides (canonical_cmp y z) in
-    Decides-or (comes_before a b && (comes_before a x && comes_before x b)) (not (comes_before a b) && (not (same_name x a) && (comes_before a x || comes_before x b)))
-    (Decides-like (comes_before a b && (comes_before a x && comes_before x b)) (λ h. (h.0, h.1.0, h.1.1)) (λ h. (h.0, (h.1, h.2)))
-    (Decides-and (comes_before a b) (comes_before a x && comes_before x b) (before a b)
-    (Decides-and (comes_before a x) (comes_before x b) (before a x) (before x b))))
-    (Decides-like (not (comes_before a b) && (not (same_name x a) && (comes_before a x || comes_before x b))) (λ h. (h.0, h.1.0, h.1.1)) (λ h. (h.0, (h.1, h.2)))
-    (Decides-and (not (comes_before a b)) (not (same_name x a) && (comes_before a x || comes_before x b)) (Decides-not (comes_before a b) (before a b))
-    (Decides-and (not (same_name x a)) (comes_before a x || comes_before x b) (Decides-not (same_name x a) (same_name_decides x a))
-    (Decides-or (comes_before a x) (comes_before x b) (before a x) (before x b)))))
+inside_decides = within_decides canonical_cmp canonical_total canonical_equal same_name same_name_decides
 
 -- ---- types
 
 abbrev pub is_proof_type : ℕ → Bool
-is_proof_type rtype = (rtype == rrsig_type) || ((rtype == nsec_type) || (rtype == nsec3_type))
+is_proof_type rtype = (rtype == RRSIG_TYPE) || ((rtype == NSEC_TYPE) || (rtype == NSEC3_TYPE))
 
 pub proof_type_decides : (rtype : ℕ) → Decides (is_proof_type rtype) (IsProofType rtype)
-proof_type_decides rtype = Decides-or (rtype == rrsig_type) ((rtype == nsec_type) || (rtype == nsec3_type)) (Decides-eqb rtype rrsig_type)
-    (Decides-or (rtype == nsec_type) (rtype == nsec3_type) (Decides-eqb rtype nsec_type) (Decides-eqb rtype nsec3_type))
+proof_type_decides rtype = Decides-or (rtype == RRSIG_TYPE) ((rtype == NSEC_TYPE) || (rtype == NSEC3_TYPE)) (Decides-eqb rtype RRSIG_TYPE)
+    (Decides-or (rtype == NSEC_TYPE) (rtype == NSEC3_TYPE) (Decides-eqb rtype NSEC_TYPE) (Decides-eqb rtype NSEC3_TYPE))
 
 abbrev pub is_parents : ℕ → Bool
-is_parents rtype = (rtype == ns_type) || ((rtype == ds_type) || (rtype == cname_type))
+is_parents rtype = (rtype == NS_TYPE) || ((rtype == DS_TYPE) || (rtype == CNAME_TYPE))
 
 parents_decides : (rtype : ℕ) → Decides (is_parents rtype) (IsParentType rtype)
-parents_decides rtype = Decides-or (rtype == ns_type) ((rtype == ds_type) || (rtype == cname_type)) (Decides-eqb rtype ns_type)
-    (Decides-or (rtype == ds_type) (rtype == cname_type) (Decides-eqb rtype ds_type) (Decides-eqb rtype cname_type))
+parents_decides rtype = Decides-or (rtype == NS_TYPE) ((rtype == DS_TYPE) || (rtype == CNAME_TYPE)) (Decides-eqb rtype NS_TYPE)
+    (Decides-or (rtype == DS_TYPE) (rtype == CNAME_TYPE) (Decides-eqb rtype DS_TYPE) (Decides-eqb rtype CNAME_TYPE))
 
 -- of such a type nothing is asked
 IsUnasked : Zone → List Label → ℕ → Type 0
@@ -102,30 +92,27 @@ types_agree zone name types test rtype plain parent =
       λ in'. ⊎_elim (λ skipped. absurd (asked zone name rtype plain parent skipped)) (λ has. has) (both.1 rtype in'),
     )
 
-pub lacks : (types : List ℕ) (rtype : ℕ) → any_of (λ t. t == rtype) types ≡ false → Contains types rtype → ⊥
-lacks types rtype test in' = not_from_Decides (any_of (λ t. t == rtype) types) (any_decides (λ t. t == rtype) (λ t. t ≡ rtype) (λ t. Decides-eqb t rtype) types) test (rtype, in', refl)
+abbrev pub has_bit : List ℕ → ℕ → Bool
+has_bit types rtype = any_of (λ t. t == rtype) types
 
-pub lists : (types : List ℕ) (rtype : ℕ) → any_of (λ t. t == rtype) types ≡ true → Contains types rtype
-lists types rtype test = by ((any_decides (λ t. t == rtype) (λ t. t ≡ rtype) (λ t. Decides-eqb t rtype) types).0 test)
-  where
-    by : (t : ℕ) × Contains types t × (t ≡ rtype) → Contains types rtype
-    by h = subst (Contains types) h.2 h.1
+pub bit_decides : (types : List ℕ) (rtype : ℕ) → Decides (has_bit types rtype) (Contains types rtype)
+bit_decides types rtype = Decides-like (has_bit types rtype)
+    (λ h. subst (Contains types) h.2 h.1)
+    (λ in'. (rtype, in', refl))
+    (any_decides (λ t. t == rtype) (λ t. t ≡ rtype) (λ t. Decides-eqb t rtype) types)
 
-pub match_by_tests : (part : NsecPart) (name : List Label) (rtype : ℕ) → part.owner ≡ name → any_of (λ t. t == rtype) part.types ≡ false → any_of (λ t. t == cname_type) part.types ≡ false → (Contains part.types ns_type → name ≢ part.zone → rtype ≡ ds_type) → is_proof_type rtype ≡ false → IsMatchWithoutType part name rtype
-match_by_tests part name rtype matches no_type no_cname side ordinary = record {
-  matches = matches;
-  no_type = lacks part.types rtype no_type;
-  no_cname = lacks part.types cname_type no_cname;
-  side = side;
-  ordinary = not_from_Decides (is_proof_type rtype) (proof_type_decides rtype) ordinary;
-}
+pub lacks : (types : List ℕ) (rtype : ℕ) → has_bit types rtype ≡ false → Contains types rtype → ⊥
+lacks types rtype test = not_from_Decides (has_bit types rtype) (bit_decides types rtype) test
+
+pub lists : (types : List ℕ) (rtype : ℕ) → has_bit types rtype ≡ true → Contains types rtype
+lists types rtype = (bit_decides types rtype).0
 
 -- ---- the ring of live owners
 
 abbrev pub is_empty_between : Zone → List Label → List Label → Bool
 is_empty_between zone a b = all_of (λ r. not (is_live zone r.owner) || not (is_inside a b r.owner)) zone.records
 
-none_between : (zone : Zone) (a b : List Label) → is_empty_between zone a b ≡ true → (name : List Label) → IsLive zone name → IsInside canonical_cmp a b name → ⊥
+pub none_between : (zone : Zone) (a b : List Label) → is_empty_between zone a b ≡ true → (name : List Label) → IsLive zone name → IsInside canonical_cmp a b name → ⊥
 none_between zone a b test name live =
     let owner = live.owner in
     (all_decides (λ r. not (is_live zone r.owner) || not (is_inside a b r.owner)) (λ r. IsLive zone r.owner → IsInside canonical_cmp a b r.owner → ⊥)
@@ -141,13 +128,13 @@ nsec_by_tests zone part apex owner next types between = record {
   none_between = none_between zone part.owner part.next between;
 }
 
-pub set_by_tests : (zone : Zone) (part : SetPart) → zone.apex ≡ part.zone → has_just zone part.owner part.rtype part.items ≡ true → part.items ≢ [] → is_live zone part.owner ≡ true → (not (is_cut zone part.owner) || (part.rtype == ds_type)) ≡ true → IsConsistentSet zone part
-set_by_tests zone part apex just some live authority = record {
-  apex = apex;
+pub set_by_tests : (zone : Zone) (part : SetPart) → zone.apex ≡ part.zone → has_just zone part.owner part.rtype part.items ≡ true → part.items ≢ [] → is_live zone part.owner ≡ true → (not (is_cut zone part.owner) || (part.rtype == DS_TYPE)) ≡ true → IsConsistentSet zone part
+set_by_tests zone part of_zone just some live authority = record {
+  apex = of_zone;
   data_there = (has_just_decides zone part.owner part.rtype part.items).0 just;
   not_empty = some;
   live = (live_decides zone part.owner).0 live;
-  authority = (if_decides (is_cut zone part.owner) (part.rtype == ds_type) (cut_decides zone part.owner) (Decides-eqb part.rtype ds_type)).0 authority;
+  authority = (if_decides (is_cut zone part.owner) (part.rtype == DS_TYPE) (cut_decides zone part.owner) (Decides-eqb part.rtype DS_TYPE)).0 authority;
 }
 
 -- ---- a zone

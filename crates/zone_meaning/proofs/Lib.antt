@@ -1,9 +1,16 @@
-pub mod ArcLemmas
+pub mod AncestorLemmas
+pub mod BarLemmas
 pub mod ConsistentTests
+pub mod CoveredLemmas
 pub mod DenialLemmas
+pub mod DenialTests
+pub mod HashedLemmas
+pub mod HashedTests
 pub mod LookupLemmas
 pub mod LookupTests
+pub mod RoomLemmas
 pub mod SameRecords
 pub mod SomeAnswer
+pub mod WildcardLemmas
 pub mod ZoneLemmas
 pub mod ZoneTests

@@ -6,7 +6,8 @@ use Rattle.std.specs.Cmp.Lexicographic.{slice_cmp, nat_list_cmp_total}
 use Rattle.std.specs.declared.cmp.Ordering.TheVariants.{Less, Equal, Greater}
 use Rattle.std.specs.FinMap.{slice_cmp-IsAntisymmetric, nat_cmp-IsAntisymmetric}
 use Rattle.dname.specs.Name.{Label, IsUnder, asterisk}
-use Rattle.zone_meaning.specs.Zone.{Zone, HasType, IsCut, dname_type}
+use Rattle.dname.specs.declared.types.TheConstants.{DNAME_TYPE}
+use Rattle.zone_meaning.specs.Zone.{Zone, HasType, IsCut}
 use Rattle.zone_meaning.specs.Lookup.{Looked, Answer, Alias, NoData, NxDomain, Referral, Redirect, Undefined, MeetsCut, MeetsDname, Meets, MeetsFirst, AnswersAt, IsClosestEncloser, Synthesizes, by_no_source, by_its_ns, by_its_dname, as_itself, Finds, at_a_cut, at_a_dname, at_the_name, by_a_wildcard, with_no_encloser, LooksUp, IsSameAnswer}
 use Rattle.zone_meaning.proofs.ZoneLemmas.{same_or_not, under_itself, under_both, above_one_name}
 
@@ -65,7 +66,7 @@ no_data_alone zone name rtype (Referral cut) none at = absurd at
 no_data_alone zone name rtype (Redirect owner) none at = absurd at
 no_data_alone zone name rtype Undefined none at = absurd at
 
-not_itself : (zone : Zone) (source : List Label) (rtype : ℕ) (a : Looked) → HasType zone source dname_type → AnswersAt zone source rtype NoData → AnswersAt zone source rtype a → (a ≡ NoData → HasType zone source dname_type → ⊥) → ⊥
+not_itself : (zone : Zone) (source : List Label) (rtype : ℕ) (a : Looked) → HasType zone source DNAME_TYPE → AnswersAt zone source rtype NoData → AnswersAt zone source rtype a → (a ≡ NoData → HasType zone source DNAME_TYPE → ⊥) → ⊥
 not_itself zone source rtype a dname none at undirected = undirected (no_data_alone zone source rtype a none at) dname
 
 one_synthesis : (zone : Zone) (source : List Label) (rtype : ℕ) (a b : Looked) → Synthesizes zone source rtype a → Synthesizes zone source rtype b → IsSameAnswer a b

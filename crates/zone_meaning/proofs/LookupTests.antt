@@ -1,5 +1,5 @@
 -- Tests that decide what a lookup meets and finds.
-use Rattle.std.proofs.Common.{◌≡◌, ◌≢◌, ℕ, Bool, true, false, List, ◌∷◌, refl, subst, ⊎_elim}
+use Rattle.std.proofs.Common.{◌≡◌, ◌≢◌, ℕ, Bool, true, false, List, ◌∷◌, refl, subst}
 use Rattle.std.specs.Prelude.{not, ◌&&◌, ◌||◌, ◌==◌, ◌↔◌}
 use Rattle.std.specs.Bool.{Decides}
 use Rattle.std.specs.List.{Contains}
@@ -9,33 +9,33 @@ use Rattle.std.specs.Ordering.{nat_cmp}
 use Rattle.std.specs.Cmp.Lexicographic.{slice_cmp, bytes_decides}
 use Rattle.std.proofs.lemmas.Bool.Decides.{Decides-eqb, Decides-like, Decides-not, Decides-and, Decides-or, not_from_Decides}
 use Rattle.dname.specs.Name.{Label, IsUnder, asterisk}
-use Rattle.zone_meaning.specs.Zone.{Zone, HasData, Exists, ns_type, cname_type, dname_type, ds_type}
-use Rattle.zone_meaning.specs.Lookup.{Looked, Answer, Alias, NoData, NxDomain, Referral, Redirect, MeetsCut, MeetsDname, Meets, MeetsFirst, MeetsNothing, AnswersAt, IsClosestEncloser, Synthesizes, by_no_source, as_itself, at_a_cut, at_a_dname, at_the_name, by_a_wildcard, LooksUp}
-use Rattle.zone_meaning.proofs.ZoneTests.{here, later, any_of, any_decides, all_of, all_decides, if_decides, same_octets, same_name, same_name_decides, ancestors, ancestors_are_below, below_is_ancestor, is_below, below_decides, is_under, under_decides, is_at, at_decides, record_at, has_type, has_type_decides, has_data, has_data_decides, is_cut, cut_decides, does_exist, exists_decides}
+use Rattle.dname.specs.declared.types.TheConstants.{CNAME_TYPE, DNAME_TYPE, DS_TYPE, NS_TYPE}
+use Rattle.zone_meaning.specs.Zone.{Zone, HasData, Exists}
+use Rattle.zone_meaning.specs.Lookup.{Looked, Answer, Alias, NoData, NxDomain, Referral, Redirect, MeetsCut, MeetsDname, Meets, MeetsFirst, MeetsNothing, AnswersAt, IsClosestEncloser, Synthesizes, by_no_source, as_itself, at_a_cut, at_a_dname, at_the_name, by_a_wildcard, LooksUp, IsZoneFor}
+use Rattle.zone_meaning.proofs.ZoneTests.{any_of, any_decides, all_of, all_decides, if_decides, same_octets, same_name, same_name_decides, ancestors, ancestors_are_below, below_is_ancestor, is_among, is_below, below_decides, is_under, under_decides, is_at, at_decides, record_at, has_type, has_type_decides, has_data, has_data_decides, is_cut, cut_decides, does_exist, exists_decides}
 use Rattle.zone_meaning.proofs.LookupLemmas.{met_above}
-use Rattle.zone_meaning.proofs.ZoneLemmas.{same_or_not}
 
 -- ---- on the way
 
 abbrev pub meets_cut : Zone → List Label → ℕ → List Label → Bool
-meets_cut zone name rtype cut = is_cut zone cut && (is_under name cut && (not (same_name cut name) || not (rtype == ds_type)))
+meets_cut zone name rtype cut = is_cut zone cut && (is_under name cut && (not (same_name cut name) || not (rtype == DS_TYPE)))
 
 meets_cut_decides : (zone : Zone) (name : List Label) (rtype : ℕ) (cut : List Label) → Decides (meets_cut zone name rtype cut) (MeetsCut zone name rtype cut)
 meets_cut_decides zone name rtype cut = Decides-like (meets_cut zone name rtype cut)
     (λ h. record { parted = h.0; above = h.1.0; asked = h.1.1 })
     (λ meets. (meets.parted, (meets.above, meets.asked)))
-    (Decides-and (is_cut zone cut) (is_under name cut && (not (same_name cut name) || not (rtype == ds_type))) (cut_decides zone cut)
-    (Decides-and (is_under name cut) (not (same_name cut name) || not (rtype == ds_type)) (under_decides name cut)
-    (if_decides (same_name cut name) (not (rtype == ds_type)) (same_name_decides cut name) (Decides-not (rtype == ds_type) (Decides-eqb rtype ds_type)))))
+    (Decides-and (is_cut zone cut) (is_under name cut && (not (same_name cut name) || not (rtype == DS_TYPE))) (cut_decides zone cut)
+    (Decides-and (is_under name cut) (not (same_name cut name) || not (rtype == DS_TYPE)) (under_decides name cut)
+    (if_decides (same_name cut name) (not (rtype == DS_TYPE)) (same_name_decides cut name) (Decides-not (rtype == DS_TYPE) (Decides-eqb rtype DS_TYPE)))))
 
 abbrev pub meets_dname : Zone → List Label → List Label → Bool
-meets_dname zone name owner = has_type zone owner dname_type && is_below name owner
+meets_dname zone name owner = has_type zone owner DNAME_TYPE && is_below name owner
 
 meets_dname_decides : (zone : Zone) (name owner : List Label) → Decides (meets_dname zone name owner) (MeetsDname zone name owner)
 meets_dname_decides zone name owner = Decides-like (meets_dname zone name owner)
     (λ h. record { there = h.0; above = h.1 })
     (λ meets. (meets.there, meets.above))
-    (Decides-and (has_type zone owner dname_type) (is_below name owner) (has_type_decides zone owner dname_type) (below_decides name owner))
+    (Decides-and (has_type zone owner DNAME_TYPE) (is_below name owner) (has_type_decides zone owner DNAME_TYPE) (below_decides name owner))
 
 abbrev pub meets : Zone → List Label → ℕ → List Label → Bool
 meets zone name rtype other = meets_cut zone name rtype other || meets_dname zone name other
@@ -51,15 +51,9 @@ meets_nothing zone name rtype = all_of (λ other. not (meets zone name rtype oth
 
 pub meets_nothing_decides : (zone : Zone) (name : List Label) (rtype : ℕ) → Decides (meets_nothing zone name rtype) (MeetsNothing zone name rtype)
 meets_nothing_decides zone name rtype = Decides-like (meets_nothing zone name rtype)
-    (λ h other met. h other (among other (met_above zone name rtype other met)) met)
+    (λ h other met. h other (is_among name other (met_above zone name rtype other met)) met)
     (λ nothing other _. nothing other)
     (all_decides (λ other. not (meets zone name rtype other)) (λ other. Meets zone name rtype other → ⊥) (unmet_decides zone name rtype) (name ∷ ancestors name))
-  where
-    among : (other : List Label) → IsUnder name other → Contains (name ∷ ancestors name) other
-    among other under = ⊎_elim
-        (λ same. subst (Contains (name ∷ ancestors name)) same (here name (ancestors name)))
-        (λ (apart : name ≢ other). later name (ancestors name) other (below_is_ancestor name other (under, apart)))
-        (same_or_not name other)
 
 abbrev pub meets_first : Zone → List Label → ℕ → List Label → Bool
 meets_first zone name rtype other = meets zone name rtype other && all_of (λ another. not (meets zone name rtype another)) (ancestors other)
@@ -141,8 +135,8 @@ module _ (zone : Zone) (name : List Label) (rtype : ℕ) (within : is_under name
 pub data_at : (zone : Zone) (name : List Label) (rtype : ℕ) (items : List (List ℕ)) → has_type zone name rtype ≡ true → has_just zone name rtype items ≡ true → AnswersAt zone name rtype (Answer items)
 data_at zone name rtype items has just = ((has_type_decides zone name rtype).0 has, (has_just_decides zone name rtype items).0 just)
 
-pub nothing_at : (zone : Zone) (name : List Label) (rtype : ℕ) → has_type zone name rtype ≡ false → has_type zone name cname_type ≡ false → AnswersAt zone name rtype NoData
-nothing_at zone name rtype none no_cname = (not_from_Decides (has_type zone name rtype) (has_type_decides zone name rtype) none, not_from_Decides (has_type zone name cname_type) (has_type_decides zone name cname_type) no_cname)
+pub nothing_at : (zone : Zone) (name : List Label) (rtype : ℕ) → has_type zone name rtype ≡ false → has_type zone name CNAME_TYPE ≡ false → AnswersAt zone name rtype NoData
+nothing_at zone name rtype none no_cname = (not_from_Decides (has_type zone name rtype) (has_type_decides zone name rtype) none, not_from_Decides (has_type zone name CNAME_TYPE) (has_type_decides zone name CNAME_TYPE) no_cname)
 
 abbrev pub is_greater : Ordering → Bool
 is_greater Less = false
@@ -155,20 +149,32 @@ greater_decides Equal = (λ e. cc, λ e. cc)
 greater_decides Greater = (λ _. refl, λ _. refl)
 
 abbrev pub is_least : Zone → List Label → List ℕ → Bool
-is_least zone name octets = all_of (λ r. not (is_at name cname_type r) || not (is_greater (slice_cmp nat_cmp octets r.octets))) zone.records
+is_least zone name octets = all_of (λ r. not (is_at name CNAME_TYPE r) || not (is_greater (slice_cmp nat_cmp octets r.octets))) zone.records
 
-pub alias_at : (zone : Zone) (name : List Label) (rtype : ℕ) (octets : List ℕ) → has_type zone name rtype ≡ false → has_data zone name cname_type octets ≡ true → is_least zone name octets ≡ true → AnswersAt zone name rtype (Alias octets)
+pub alias_at : (zone : Zone) (name : List Label) (rtype : ℕ) (octets : List ℕ) → has_type zone name rtype ≡ false → has_data zone name CNAME_TYPE octets ≡ true → is_least zone name octets ≡ true → AnswersAt zone name rtype (Alias octets)
 alias_at zone name rtype octets none has least = (
   not_from_Decides (has_type zone name rtype) (has_type_decides zone name rtype) none,
-  (has_data_decides zone name cname_type octets).0 has,
-  λ others there. (all_decides (λ r. not (is_at name cname_type r) || not (is_greater (slice_cmp nat_cmp octets r.octets))) (λ r. ((r.owner ≡ name) × (r.rtype ≡ cname_type)) → slice_cmp nat_cmp octets r.octets ≢ Greater)
-      (λ r. if_decides (is_at name cname_type r) (not (is_greater (slice_cmp nat_cmp octets r.octets))) (at_decides name cname_type r) (Decides-not (is_greater (slice_cmp nat_cmp octets r.octets)) (greater_decides (slice_cmp nat_cmp octets r.octets))))
-      zone.records).0 least (record { owner = name; rtype = cname_type; octets = others }) there (refl, refl),
+  (has_data_decides zone name CNAME_TYPE octets).0 has,
+  λ others there. (all_decides (λ r. not (is_at name CNAME_TYPE r) || not (is_greater (slice_cmp nat_cmp octets r.octets))) (λ r. ((r.owner ≡ name) × (r.rtype ≡ CNAME_TYPE)) → slice_cmp nat_cmp octets r.octets ≢ Greater)
+      (λ r. if_decides (is_at name CNAME_TYPE r) (not (is_greater (slice_cmp nat_cmp octets r.octets))) (at_decides name CNAME_TYPE r) (Decides-not (is_greater (slice_cmp nat_cmp octets r.octets)) (greater_decides (slice_cmp nat_cmp octets r.octets))))
+      zone.records).0 least (record { owner = name; rtype = CNAME_TYPE; octets = others }) there (refl, refl),
 )
 
-pub data_made : (zone : Zone) (source : List Label) (rtype : ℕ) (items : List (List ℕ)) → does_exist zone source ≡ true → has_type zone source ns_type ≡ false → AnswersAt zone source rtype (Answer items) → Synthesizes zone source rtype (Answer items)
-data_made zone source rtype items there no_ns at = as_itself (Answer items) ((exists_decides zone source).0 there) (not_from_Decides (has_type zone source ns_type) (has_type_decides zone source ns_type) no_ns) at (λ e. cc)
+pub data_made : (zone : Zone) (source : List Label) (rtype : ℕ) (items : List (List ℕ)) → does_exist zone source ≡ true → has_type zone source NS_TYPE ≡ false → AnswersAt zone source rtype (Answer items) → Synthesizes zone source rtype (Answer items)
+data_made zone source rtype items there no_ns at = as_itself (Answer items) ((exists_decides zone source).0 there) (not_from_Decides (has_type zone source NS_TYPE) (has_type_decides zone source NS_TYPE) no_ns) at (λ e. cc)
 
-pub nothing_made : (zone : Zone) (source : List Label) (rtype : ℕ) → does_exist zone source ≡ true → has_type zone source ns_type ≡ false → has_type zone source dname_type ≡ false → AnswersAt zone source rtype NoData → Synthesizes zone source rtype NoData
+pub nothing_made : (zone : Zone) (source : List Label) (rtype : ℕ) → does_exist zone source ≡ true → has_type zone source NS_TYPE ≡ false → has_type zone source DNAME_TYPE ≡ false → AnswersAt zone source rtype NoData → Synthesizes zone source rtype NoData
 nothing_made zone source rtype there no_ns no_dname at =
-    as_itself NoData ((exists_decides zone source).0 there) (not_from_Decides (has_type zone source ns_type) (has_type_decides zone source ns_type) no_ns) at (λ _. not_from_Decides (has_type zone source dname_type) (has_type_decides zone source dname_type) no_dname)
+    as_itself NoData ((exists_decides zone source).0 there) (not_from_Decides (has_type zone source NS_TYPE) (has_type_decides zone source NS_TYPE) no_ns) at (λ _. not_from_Decides (has_type zone source DNAME_TYPE) (has_type_decides zone source DNAME_TYPE) no_dname)
+
+-- ---- the zone for a question
+
+abbrev pub is_zone_for : Zone → List Label → ℕ → Bool
+is_zone_for zone name qtype = is_under name zone.apex && (not (qtype == DS_TYPE) || not (same_name name zone.apex))
+
+pub zone_for_decides : (zone : Zone) (name : List Label) (qtype : ℕ) → Decides (is_zone_for zone name qtype) (IsZoneFor zone name qtype)
+zone_for_decides zone name qtype = Decides-like (is_zone_for zone name qtype)
+    (λ h. record { above = h.0; of_ds = h.1 })
+    (λ for. (for.above, for.of_ds))
+    (Decides-and (is_under name zone.apex) (not (qtype == DS_TYPE) || not (same_name name zone.apex)) (under_decides name zone.apex)
+    (if_decides (qtype == DS_TYPE) (not (same_name name zone.apex)) (Decides-eqb qtype DS_TYPE) (Decides-not (same_name name zone.apex) (same_name_decides name zone.apex))))

@@ -2,8 +2,10 @@
 use Rattle.std.proofs.Common.{ℕ, List, ◌∷◌, sym, ◌∙◌, subst, inl, inr, ⊎_elim}
 use Rattle.std.proofs.lemmas.List.Elements.{All-contains}
 use Rattle.dname.specs.Name.{Label, IsUnder, asterisk}
-use Rattle.zone_meaning.specs.Zone.{Zone, ZoneRecord, IsSameZone, IsZone, IsProofType, HasType, IsCut, IsBar, IsLive, Exists, ns_type, cname_type, dname_type}
+use Rattle.dname.specs.declared.types.TheConstants.{CNAME_TYPE, DNAME_TYPE, NS_TYPE}
+use Rattle.zone_meaning.specs.Zone.{Zone, ZoneRecord, IsSameZone, IsZone, IsProofType, HasType, IsCut, IsBar, IsLive, Exists}
 use Rattle.zone_meaning.specs.Lookup.{Looked, Answer, Alias, NoData, NxDomain, Referral, Redirect, Undefined, MeetsCut, MeetsDname, Meets, MeetsFirst, MeetsNothing, AnswersAt, IsClosestEncloser, Synthesizes, by_no_source, by_its_ns, by_its_dname, as_itself, Finds, at_a_cut, at_a_dname, at_the_name, by_a_wildcard, with_no_encloser, LooksUp}
+use Rattle.zone_meaning.specs.Hashed.{Nsec3Part, IsConsistentNsec3, IsClashFree}
 use Rattle.zone_meaning.specs.Consistent.{SetPart, NsecPart, IsConsistentSet, IsConsistentNsec, TypesAgree}
 use Rattle.zone_meaning.proofs.ZoneTests.{all_by_member}
 
@@ -17,10 +19,10 @@ under_apex : (z w : Zone) → IsSameZone z w → (name : List Label) → IsUnder
 under_apex z w same name under = subst (IsUnder name) same.apex_same under
 
 cut : (z w : Zone) → IsSameZone z w → (name : List Label) → IsCut z name → IsCut w name
-cut z w same name is = (λ e. is.0 (e ∙ sym same.apex_same), type z w same name ns_type is.1)
+cut z w same name is = (λ e. is.0 (e ∙ sym same.apex_same), type z w same name NS_TYPE is.1)
 
 bar : (z w : Zone) → IsSameZone z w → (name : List Label) → IsBar z name → IsBar w name
-bar z w same name = ⊎_elim (λ is. inl (cut z w same name is)) (λ has. inr (type z w same name dname_type has))
+bar z w same name = ⊎_elim (λ is. inl (cut z w same name is)) (λ has. inr (type z w same name DNAME_TYPE has))
 
 live : (z w : Zone) → IsSameZone z w → (name : List Label) → IsLive z name → IsLive w name
 live z w same name is = record {
@@ -34,7 +36,7 @@ there z w same name is = record { within = under_apex z w same name is.within; o
 meets : (z w : Zone) → IsSameZone z w → (name : List Label) (rtype : ℕ) (other : List Label) → Meets z name rtype other → Meets w name rtype other
 meets z w same name rtype other = ⊎_elim
     (λ (m : MeetsCut z name rtype other). inl (record { parted = cut z w same other m.parted; above = m.above; asked = m.asked }))
-    (λ (m : MeetsDname z name other). inr (record { there = type z w same other dname_type m.there; above = m.above }))
+    (λ (m : MeetsDname z name other). inr (record { there = type z w same other DNAME_TYPE m.there; above = m.above }))
 
 first : (z w : Zone) → IsSameZone z w → (name : List Label) (rtype : ℕ) (other : List Label) → MeetsFirst z name rtype other → MeetsFirst w name rtype other
 first z w same name rtype other is = record { met = meets z w same name rtype other is.met; topmost = λ another met below. is.topmost another (meets w z (back z w same) name rtype another met) below }
@@ -45,7 +47,7 @@ nothing z w same name rtype none other met = none other (meets w z (back z w sam
 at : (z w : Zone) → IsSameZone z w → (name : List Label) (rtype : ℕ) (answer : Looked) → AnswersAt z name rtype answer → AnswersAt w name rtype answer
 at z w same name rtype (Answer items) h = (type z w same name rtype h.0, λ octets. (λ in'. (same.records_same _).0 ((h.1 octets).0 in'), λ has. (h.1 octets).1 ((same.records_same _).1 has)))
 at z w same name rtype (Alias octets) h = (λ has. h.0 (type w z (back z w same) name rtype has), (same.records_same _).0 h.1, λ others has. h.2 others ((same.records_same _).1 has))
-at z w same name rtype NoData h = (λ has. h.0 (type w z (back z w same) name rtype has), λ has. h.1 (type w z (back z w same) name cname_type has))
+at z w same name rtype NoData h = (λ has. h.0 (type w z (back z w same) name rtype has), λ has. h.1 (type w z (back z w same) name CNAME_TYPE has))
 at z w same name rtype NxDomain h = absurd h
 at z w same name rtype (Referral cut) h = absurd h
 at z w same name rtype (Redirect owner) h = absurd h
@@ -56,10 +58,10 @@ closest z w same name encloser is = record { there = there z w same encloser is.
 
 made : (z w : Zone) → IsSameZone z w → (source : List Label) (rtype : ℕ) (answer : Looked) → Synthesizes z source rtype answer → Synthesizes w source rtype answer
 made z w same source rtype _ (by_no_source missing) = by_no_source (λ exists. missing (there w z (back z w same) source exists))
-made z w same source rtype _ (by_its_ns exists ns) = by_its_ns (there z w same source exists) (type z w same source ns_type ns)
-made z w same source rtype _ (by_its_dname exists dname none) = by_its_dname (there z w same source exists) (type z w same source dname_type dname) (at z w same source rtype NoData none)
+made z w same source rtype _ (by_its_ns exists ns) = by_its_ns (there z w same source exists) (type z w same source NS_TYPE ns)
+made z w same source rtype _ (by_its_dname exists dname none) = by_its_dname (there z w same source exists) (type z w same source DNAME_TYPE dname) (at z w same source rtype NoData none)
 made z w same source rtype _ (as_itself answer exists no_ns is undirected) =
-    as_itself answer (there z w same source exists) (λ ns. no_ns (type w z (back z w same) source ns_type ns)) (at z w same source rtype answer is) (λ e dname. undirected e (type w z (back z w same) source dname_type dname))
+    as_itself answer (there z w same source exists) (λ ns. no_ns (type w z (back z w same) source NS_TYPE ns)) (at z w same source rtype answer is) (λ e dname. undirected e (type w z (back z w same) source DNAME_TYPE dname))
 
 found : (z w : Zone) → IsSameZone z w → (name : List Label) (rtype : ℕ) (answer : Looked) → Finds z name rtype answer → Finds w name rtype answer
 found z w same name rtype _ (at_a_cut c is parted) = at_a_cut c (first z w same name rtype c is) (cut z w same c parted)
@@ -79,12 +81,12 @@ same_zone z w same is = record {
 }
 
 pub same_set : (z w : Zone) → IsSameZone z w → (part : SetPart) → IsConsistentSet z part → IsConsistentSet w part
-same_set z w same part is = record {
-  apex = sym same.apex_same ∙ is.apex;
-  data_there = λ octets. (λ in'. (same.records_same _).0 ((is.data_there octets).0 in'), λ has. (is.data_there octets).1 ((same.records_same _).1 has));
-  not_empty = is.not_empty;
-  live = live z w same part.owner is.live;
-  authority = λ parted. is.authority (cut w z (back z w same) part.owner parted);
+same_set z w same part true_set = record {
+  apex = sym same.apex_same ∙ true_set.apex;
+  data_there = λ octets. (λ in'. (same.records_same _).0 ((true_set.data_there octets).0 in'), λ has. (true_set.data_there octets).1 ((same.records_same _).1 has));
+  not_empty = true_set.not_empty;
+  live = live z w same part.owner true_set.live;
+  authority = λ parted. true_set.authority (cut w z (back z w same) part.owner parted);
 }
 
 types : (z w : Zone) → IsSameZone z w → (name : List Label) (types : List ℕ) → TypesAgree z name types → TypesAgree w name types
@@ -99,4 +101,20 @@ same_nsec z w same part is = record {
   next_live = live z w same part.next is.next_live;
   types_agree = types z w same part.owner part.types is.types_agree;
   none_between = λ name lives. is.none_between name (live w z (back z w same) name lives);
+}
+
+pub same_nsec3 : (z w : Zone) → IsSameZone z w → (nsec3 : Nsec3Part) → IsConsistentNsec3 z nsec3 → IsConsistentNsec3 w nsec3
+same_nsec3 z w same nsec3 is = record {
+  apex = sym same.apex_same ∙ is.apex;
+  named = is.named;
+  there = there z w same is.named is.there;
+  hashed = is.hashed;
+  types_agree = types z w same is.named nsec3.types is.types_agree;
+  none_between = λ clear name exists. is.none_between clear name (there w z (back z w same) name exists);
+}
+
+pub same_clashes : (z w : Zone) → IsSameZone z w → (hash : List Label → List ℕ) (name : List Label) → IsClashFree z hash name → IsClashFree w hash name
+same_clashes z w same hash name free = record {
+  of_names = λ above other under within exists. free.of_names above other under (under_apex w z (back z w same) above within) (there w z (back z w same) other exists);
+  of_sources = λ above other below within exists. free.of_sources above other below (under_apex w z (back z w same) above within) (there w z (back z w same) other exists);
 }

@@ -1,7 +1,6 @@
 -- A lookup has an answer.
-use Rattle.std.proofs.Common.{◌≡◌, ◌≢◌, ℕ, Bool, true, false, List, [], ◌∷◌, refl, sym, ◌∙◌, ap, subst, ◌⊎◌, inl, inr, ⊎_elim}
+use Rattle.std.proofs.Common.{◌≡◌, ◌≢◌, ℕ, true, false, List, [], ◌∷◌, refl, sym, ◌∙◌, ap, subst, ◌⊎◌, inl, inr, ⊎_elim}
 use Rattle.std.specs.Prelude.{◌↔◌}
-use Rattle.std.specs.Bool.{Decides}
 use Rattle.std.specs.List.{Contains}
 use Rattle.std.specs.declared.cmp.Ordering.{Ordering}
 use Rattle.std.specs.declared.cmp.Ordering.TheVariants.{Less, Equal, Greater}
@@ -9,49 +8,15 @@ use Rattle.std.specs.Ordering.{nat_cmp, is_gt, ordering_reverse}
 use Rattle.std.specs.Cmp.Lexicographic.{slice_cmp, nat_list_cmp_total}
 use Rattle.std.proofs.lemmas.Cmp.{tied_itself, upto}
 use Rattle.std.proofs.lemmas.Bool.{cases_Bool}
-use Rattle.std.proofs.lemmas.List.{append-nil}
 use Rattle.dname.specs.Name.{Label, IsUnder, asterisk}
-use Rattle.zone_meaning.specs.Zone.{Zone, ZoneRecord, HasData, HasType, IsBelow, Exists, ns_type, cname_type, dname_type}
+use Rattle.dname.specs.declared.types.TheConstants.{CNAME_TYPE, DNAME_TYPE, NS_TYPE}
+use Rattle.zone_meaning.specs.Zone.{Zone, ZoneRecord, HasData, HasType, IsBelow, Exists}
 use Rattle.zone_meaning.specs.Lookup.{Looked, Answer, Alias, NoData, NxDomain, Referral, Redirect, Undefined, Meets, MeetsFirst, MeetsNothing, AnswersAt, Synthesizes, by_no_source, by_its_ns, by_its_dname, as_itself, at_a_cut, at_a_dname, at_the_name, by_a_wildcard, with_no_encloser, LooksUp}
-use Rattle.zone_meaning.proofs.ZoneLemmas.{so_or_not, under_itself, under_through, under_both}
-use Rattle.zone_meaning.proofs.ZoneTests.{here, later, nowhere, first_or_later, under_step, is_at, at_decides, record_at, has_type, has_type_decides, is_cut, cut_decides, does_exist, exists_decides}
+use Rattle.zone_meaning.proofs.ZoneLemmas.{so_or_not}
+use Rattle.zone_meaning.proofs.ZoneTests.{here, later, nowhere, first_or_later, is_at, at_decides, record_at, has_type, has_type_decides, is_cut, cut_decides, does_exist, exists_decides}
+use Rattle.zone_meaning.proofs.AncestorLemmas.{topmost_or_none, lowest_or_none}
 use Rattle.zone_meaning.proofs.LookupTests.{meets, meets_decides}
 use Rattle.zone_meaning.proofs.LookupLemmas.{met_above}
-
--- ---- the name and the names above it
-
-module _ (P : List Label → Type 0) (p : List Label → Bool) (decides : (x : List Label) → Decides (p x) (P x)) where
-  -- the topmost of them of which P holds, or none
-  topmost_or_none : (name : List Label) → ((x : List Label) × IsUnder name x × P x × ((y : List Label) → P y → IsBelow x y → ⊥)) ⊎ ((x : List Label) → IsUnder name x → P x → ⊥)
-  topmost_or_none [] = ⊎_elim
-      (λ yes. inl ([], under_itself [], yes, λ y is below. below.1 (root_above y below.0)))
-      (λ unlike. inr (λ x under is. unlike (subst P (sym (root_above x under)) is)))
-      (so_or_not (p []) (decides []))
-    where
-      root_above : (y : List Label) → IsUnder [] y → [] ≡ y
-      root_above y under = under_both [] y under (y, sym (append-nil y))
-  topmost_or_none (label ∷ rest) = ⊎_elim
-      (λ (h : (x : List Label) × IsUnder rest x × P x × ((y : List Label) → P y → IsBelow x y → ⊥)). inl (h.0, under_through (label ∷ rest) rest h.0 (label ∷ [], refl) h.1, h.2, h.3))
-      (λ none. ⊎_elim
-      (λ yes. inl (label ∷ rest, under_itself (label ∷ rest), yes, λ y is below. ⊎_elim below.1 (λ under. none y under is) (under_step label rest y below.0)))
-      (λ unlike. inr (λ x under is. ⊎_elim (λ same. unlike (subst P (sym same) is)) (λ above. none x above is) (under_step label rest x under)))
-      (so_or_not (p (label ∷ rest)) (decides (label ∷ rest))))
-      (topmost_or_none rest)
-
-  -- the lowest of them, or none
-  lowest_or_none : (name : List Label) → ((x : List Label) × IsUnder name x × P x × ((y : List Label) → P y → IsUnder name y → IsUnder x y)) ⊎ ((x : List Label) → IsUnder name x → P x → ⊥)
-  lowest_or_none [] = ⊎_elim
-      (λ yes. inl ([], under_itself [], yes, λ y is under. under))
-      (λ unlike. inr (λ x under is. unlike (subst P (sym (under_both [] x under (x, sym (append-nil x)))) is)))
-      (so_or_not (p []) (decides []))
-  lowest_or_none (label ∷ rest) = ⊎_elim
-      (λ yes. inl (label ∷ rest, under_itself (label ∷ rest), yes, λ y is under. under))
-      (λ unlike. ⊎_elim
-      (λ (h : (x : List Label) × IsUnder rest x × P x × ((y : List Label) → P y → IsUnder rest y → IsUnder x y)).
-      inl (h.0, under_through (label ∷ rest) rest h.0 (label ∷ [], refl) h.1, h.2, λ y is under. ⊎_elim (λ same. absurd (unlike (subst P (sym same) is))) (λ above. h.3 y is above) (under_step label rest y under)))
-      (λ none. inr (λ x under is. ⊎_elim (λ same. unlike (subst P (sym same) is)) (λ above. none x above is) (under_step label rest x under)))
-      (lowest_or_none rest))
-      (so_or_not (p (label ∷ rest)) (decides (label ∷ rest)))
 
 -- ---- at a name
 
@@ -117,12 +82,12 @@ some_at : (zone : Zone) (name : List Label) (rtype : ℕ) → (answer : Looked) 
 some_at zone name rtype = ⊎_elim
     (λ has. let all = collected name rtype zone.records in (Answer all.0, (has, all.1)))
     (λ none. ⊎_elim
-    (λ cname. let all = collected name cname_type zone.records in by_alias none all.0 all.1 cname)
+    (λ cname. let all = collected name CNAME_TYPE zone.records in by_alias none all.0 all.1 cname)
     (λ no_cname. (NoData, (none, no_cname)))
-    (so_or_not (has_type zone name cname_type) (has_type_decides zone name cname_type)))
+    (so_or_not (has_type zone name CNAME_TYPE) (has_type_decides zone name CNAME_TYPE)))
     (so_or_not (has_type zone name rtype) (has_type_decides zone name rtype))
   where
-    by_alias : (HasType zone name rtype → ⊥) → (items : List (List ℕ)) → ((octets : List ℕ) → Contains items octets ↔ HasData zone name cname_type octets) → HasType zone name cname_type → (answer : Looked) × AnswersAt zone name rtype answer
+    by_alias : (HasType zone name rtype → ⊥) → (items : List (List ℕ)) → ((octets : List ℕ) → Contains items octets ↔ HasData zone name CNAME_TYPE octets) → HasType zone name CNAME_TYPE → (answer : Looked) × AnswersAt zone name rtype answer
     by_alias none [] all cname = absurd (nowhere cname.0 ((all cname.0).1 cname.1))
     by_alias none (x ∷ items) all cname =
         let low = least x items in
@@ -144,12 +109,12 @@ some_synthesis zone source rtype = ⊎_elim
     (λ no_ns. ⊎_elim
     (λ dname. directed there no_ns dname (some_at zone source rtype))
     (λ no_dname. let at = some_at zone source rtype in (at.0, as_itself at.0 there no_ns at.1 (λ _. no_dname)))
-    (so_or_not (has_type zone source dname_type) (has_type_decides zone source dname_type)))
-    (so_or_not (has_type zone source ns_type) (has_type_decides zone source ns_type)))
+    (so_or_not (has_type zone source DNAME_TYPE) (has_type_decides zone source DNAME_TYPE)))
+    (so_or_not (has_type zone source NS_TYPE) (has_type_decides zone source NS_TYPE)))
     (λ missing. (NxDomain, by_no_source missing))
     (so_or_not (does_exist zone source) (exists_decides zone source))
   where
-    directed : Exists zone source → (HasType zone source ns_type → ⊥) → HasType zone source dname_type → (answer : Looked) × AnswersAt zone source rtype answer → (answer : Looked) × Synthesizes zone source rtype answer
+    directed : Exists zone source → (HasType zone source NS_TYPE → ⊥) → HasType zone source DNAME_TYPE → (answer : Looked) × AnswersAt zone source rtype answer → (answer : Looked) × Synthesizes zone source rtype answer
     directed there no_ns dname at = ⊎_elim
         (λ same. (Undefined, by_its_dname there dname (subst (AnswersAt zone source rtype) same at.1)))
         (λ (unlike : at.0 ≢ NoData). (at.0, as_itself at.0 there no_ns at.1 (λ same _. unlike same)))

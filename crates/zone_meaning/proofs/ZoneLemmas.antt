@@ -26,7 +26,7 @@ pub under_through : (name middle other : List Label) → IsUnder name middle →
 under_through name middle other under up =
     (under.0 ++ up.0, under.1 ∙ ap (λ rest. under.0 ++ rest) up.1 ∙ sym (append_assoc under.0 up.0 other))
 
-no_more : (front rest name : List Label) → name ≡ front ++ rest → length name ≤ length rest → name ≡ rest
+pub no_more : (front rest name : List Label) → name ≡ front ++ rest → length name ≤ length rest → name ≡ rest
 no_more [] rest name is short = is
 no_more (label ∷ front) rest name is short = absurd (omega (arith, ap length is, length-append front rest))
 

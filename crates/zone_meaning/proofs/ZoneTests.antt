@@ -4,12 +4,13 @@ use Rattle.std.specs.Prelude.{nat_eq, not, slice_index_or, ◌&&◌, ◌||◌, �
 use Rattle.std.specs.Bool.{Decides}
 use Rattle.std.specs.List.{All, Contains}
 use Rattle.std.specs.Cmp.Lexicographic.{pointwise, pointwise_decides, bytes_decides}
-use Rattle.std.proofs.lemmas.Bool.Decides.{Decides-eqb, Decides-like, Decides-not, Decides-and, Decides-or}
+use Rattle.std.proofs.lemmas.Bool.Decides.{Decides-eqb, Decides-like, Decides-not, Decides-and, Decides-or, not_from_Decides}
 use Rattle.std.proofs.lemmas.List.Elements.{Contains-get_or, Contains-append_left, Contains-append_right, Contains-append_cases, Contains-push, Contains-push_cases}
-use Rattle.dname.specs.Name.{Label, IsUnder}
 use Rattle.std.proofs.lemmas.List.{append-nil}
+use Rattle.dname.specs.Name.{Label, IsUnder}
+use Rattle.dname.specs.declared.types.TheConstants.{DNAME_TYPE, NS_TYPE}
 use Rattle.dname.proofs.CommonLemmas.{under_is_longer}
-use Rattle.zone_meaning.specs.Zone.{Zone, ZoneRecord, HasData, HasType, IsBelow, IsCut, IsBar, IsLive, IsOwner, Exists, ns_type, dname_type}
+use Rattle.zone_meaning.specs.Zone.{Zone, ZoneRecord, HasData, HasType, IsBelow, IsCut, IsBar, IsLive, IsOwner, Exists}
 use Rattle.zone_meaning.proofs.ZoneLemmas.{same_or_not, under_both}
 
 -- ---- lists
@@ -61,6 +62,10 @@ if_decides false q d e = (λ t yes. absurd (differs (d.1 yes)), λ h. refl)
     differs : false ≡ true → ⊥
     differs e = cc
 
+-- what a test decides doesn't hold where it fails
+pub refuted : {P : Type 0} {r : Bool} → Decides r P → r ≡ false → P → ⊥
+refuted {P} {r} d test = not_from_Decides r d test
+
 -- ---- names
 
 abbrev pub same_octets : List ℕ → List ℕ → Bool
@@ -102,6 +107,12 @@ below_is_ancestor (label ∷ rest) other below = ⊎_elim
     (λ (apart : rest ≢ other). later rest (ancestors rest) other (below_is_ancestor rest other (under, apart)))
     (same_or_not rest other))
     (under_step label rest other below.0)
+
+pub is_among : (name other : List Label) → IsUnder name other → Contains (name ∷ ancestors name) other
+is_among name other under = ⊎_elim
+    (λ same. subst (Contains (name ∷ ancestors name)) same (here name (ancestors name)))
+    (λ (apart : name ≢ other). later name (ancestors name) other (below_is_ancestor name other (under, apart)))
+    (same_or_not name other)
 
 abbrev pub is_below : List Label → List Label → Bool
 is_below name other = any_of (λ above. same_name above other) (ancestors name)
@@ -164,17 +175,17 @@ owner_decides zone owner = Decides-like (is_owner zone owner)
     (any_decides (λ r. same_name r.owner owner) (λ r. r.owner ≡ owner) (λ r. same_name_decides r.owner owner) zone.records)
 
 abbrev pub is_cut : Zone → List Label → Bool
-is_cut zone name = not (same_name name zone.apex) && has_type zone name ns_type
+is_cut zone name = not (same_name name zone.apex) && has_type zone name NS_TYPE
 
 pub cut_decides : (zone : Zone) (name : List Label) → Decides (is_cut zone name) (IsCut zone name)
-cut_decides zone name = Decides-and (not (same_name name zone.apex)) (has_type zone name ns_type)
-    (Decides-not (same_name name zone.apex) (same_name_decides name zone.apex)) (has_type_decides zone name ns_type)
+cut_decides zone name = Decides-and (not (same_name name zone.apex)) (has_type zone name NS_TYPE)
+    (Decides-not (same_name name zone.apex) (same_name_decides name zone.apex)) (has_type_decides zone name NS_TYPE)
 
 abbrev pub is_bar : Zone → List Label → Bool
-is_bar zone name = is_cut zone name || has_type zone name dname_type
+is_bar zone name = is_cut zone name || has_type zone name DNAME_TYPE
 
 pub bar_decides : (zone : Zone) (name : List Label) → Decides (is_bar zone name) (IsBar zone name)
-bar_decides zone name = Decides-or (is_cut zone name) (has_type zone name dname_type) (cut_decides zone name) (has_type_decides zone name dname_type)
+bar_decides zone name = Decides-or (is_cut zone name) (has_type zone name DNAME_TYPE) (cut_decides zone name) (has_type_decides zone name DNAME_TYPE)
 
 abbrev pub is_live : Zone → List Label → Bool
 is_live zone name = is_owner zone name && all_of (λ bar. not (is_bar zone bar)) (ancestors name)

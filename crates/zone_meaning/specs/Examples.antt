@@ -1,23 +1,9 @@
 -- Zones written out, which the laws speak of.
 use Rattle.std.specs.Prelude.{ℕ, List, [], ◌∷◌, length, codes}
 use Rattle.dname.specs.Name.{Label, wire_of, asterisk}
-use Rattle.zone_meaning.specs.Zone.{Zone, ZoneRecord, ns_type, cname_type, dname_type, rrsig_type, nsec_type}
+use Rattle.dname.specs.declared.types.TheConstants.{A_TYPE, CNAME_TYPE, DNAME_TYPE, MX_TYPE, NSEC_TYPE, NS_TYPE, RRSIG_TYPE, SOA_TYPE, SRV_TYPE, TXT_TYPE}
+use Rattle.zone_meaning.specs.Zone.{Zone, ZoneRecord}
 use Rattle.zone_meaning.specs.Consistent.{SetPart, NsecPart}
-
-abbrev pub a_type : ℕ
-a_type = 1
-
-abbrev pub soa_type : ℕ
-soa_type = 6
-
-abbrev pub mx_type : ℕ
-mx_type = 15
-
-abbrev pub txt_type : ℕ
-txt_type = 16
-
-abbrev pub srv_type : ℕ
-srv_type = 33
 
 abbrev pub record_of : List Label → ℕ → List ℕ → ZoneRecord
 record_of owner rtype octets = record { owner = owner; rtype = rtype; octets = octets }
@@ -38,6 +24,12 @@ t_example = codes "t" ∷ example
 abbrev pub sub_example : List Label
 sub_example = codes "sub" ∷ example
 
+abbrev pub w_example : List Label
+w_example = codes "w" ∷ example
+
+abbrev pub star_w_example : List Label
+star_w_example = asterisk ∷ w_example
+
 -- an IPv4 address of the block for documents, 192.0.2.0/24
 abbrev pub address : ℕ → List ℕ
 address n = 192 ∷ 0 ∷ 2 ∷ n ∷ []
@@ -52,18 +44,18 @@ abbrev pub two_hosts : Zone
 two_hosts = record {
   apex = example;
   records =
-      record_of example soa_type soa_data
-      ∷ record_of example ns_type (wire_of a_example)
-      ∷ record_of a_example a_type (address 1)
-      ∷ record_of b_example a_type (address 2)
+      record_of example SOA_TYPE soa_data
+      ∷ record_of example NS_TYPE (wire_of a_example)
+      ∷ record_of a_example A_TYPE (address 1)
+      ∷ record_of b_example A_TYPE (address 2)
       ∷ [];
 }
 
 abbrev pub nsec_at_a : NsecPart
-nsec_at_a = record { zone = example; owner = a_example; next = b_example; types = a_type ∷ rrsig_type ∷ nsec_type ∷ [] }
+nsec_at_a = record { zone = example; owner = a_example; next = b_example; types = A_TYPE ∷ RRSIG_TYPE ∷ NSEC_TYPE ∷ [] }
 
 abbrev pub soa_set : SetPart
-soa_set = record { zone = example; owner = example; rtype = soa_type; items = soa_data ∷ [] }
+soa_set = record { zone = example; owner = example; rtype = SOA_TYPE; items = soa_data ∷ [] }
 
 -- ---- a zone with a cut, with glue at the cut and below it
 
@@ -71,24 +63,24 @@ abbrev pub one_cut : Zone
 one_cut = record {
   apex = example;
   records =
-      record_of example soa_type soa_data
-      ∷ record_of example ns_type (wire_of t_example)
-      ∷ record_of sub_example ns_type (wire_of sub_example)
-      ∷ record_of sub_example ns_type (wire_of (codes "ns" ∷ sub_example))
-      ∷ record_of sub_example a_type (address 1)
-      ∷ record_of (codes "ns" ∷ sub_example) a_type (address 2)
-      ∷ record_of t_example a_type (address 3)
+      record_of example SOA_TYPE soa_data
+      ∷ record_of example NS_TYPE (wire_of t_example)
+      ∷ record_of sub_example NS_TYPE (wire_of sub_example)
+      ∷ record_of sub_example NS_TYPE (wire_of (codes "ns" ∷ sub_example))
+      ∷ record_of sub_example A_TYPE (address 1)
+      ∷ record_of (codes "ns" ∷ sub_example) A_TYPE (address 2)
+      ∷ record_of t_example A_TYPE (address 3)
       ∷ [];
 }
 
 abbrev pub nsec_at_cut : NsecPart
-nsec_at_cut = record { zone = example; owner = sub_example; next = t_example; types = ns_type ∷ rrsig_type ∷ nsec_type ∷ [] }
+nsec_at_cut = record { zone = example; owner = sub_example; next = t_example; types = NS_TYPE ∷ RRSIG_TYPE ∷ NSEC_TYPE ∷ [] }
 
 abbrev pub glue_at_cut : SetPart
-glue_at_cut = record { zone = example; owner = sub_example; rtype = a_type; items = address 1 ∷ [] }
+glue_at_cut = record { zone = example; owner = sub_example; rtype = A_TYPE; items = address 1 ∷ [] }
 
 abbrev pub glue_below_cut : SetPart
-glue_below_cut = record { zone = example; owner = codes "ns" ∷ sub_example; rtype = a_type; items = address 2 ∷ [] }
+glue_below_cut = record { zone = example; owner = codes "ns" ∷ sub_example; rtype = A_TYPE; items = address 2 ∷ [] }
 
 -- ---- the zone of RFC 4592 (section 2.2.1)
 
@@ -123,23 +115,23 @@ abbrev pub wildcards : Zone
 wildcards = record {
   apex = example;
   records =
-      record_of example soa_type soa_data
-      ∷ record_of example ns_type (wire_of (codes "ns" ∷ codes "example" ∷ codes "com" ∷ []))
-      ∷ record_of example ns_type (wire_of (codes "ns" ∷ codes "example" ∷ codes "net" ∷ []))
-      ∷ record_of asterisk_example txt_type wildcard_text
-      ∷ record_of asterisk_example mx_type wildcard_mx
-      ∷ record_of (codes "sub" ∷ asterisk_example) txt_type (text (codes "this is not a wildcard"))
-      ∷ record_of host1_example a_type (address 1)
-      ∷ record_of (codes "_ssh" ∷ tcp_host1_example) srv_type ssh_data
-      ∷ record_of (codes "_ssh" ∷ codes "_tcp" ∷ codes "host2" ∷ example) srv_type ssh_data
-      ∷ record_of subdel_example ns_type (wire_of (codes "ns" ∷ codes "example" ∷ codes "com" ∷ []))
-      ∷ record_of subdel_example ns_type (wire_of (codes "ns" ∷ codes "example" ∷ codes "net" ∷ []))
+      record_of example SOA_TYPE soa_data
+      ∷ record_of example NS_TYPE (wire_of (codes "ns" ∷ codes "example" ∷ codes "com" ∷ []))
+      ∷ record_of example NS_TYPE (wire_of (codes "ns" ∷ codes "example" ∷ codes "net" ∷ []))
+      ∷ record_of asterisk_example TXT_TYPE wildcard_text
+      ∷ record_of asterisk_example MX_TYPE wildcard_mx
+      ∷ record_of (codes "sub" ∷ asterisk_example) TXT_TYPE (text (codes "this is not a wildcard"))
+      ∷ record_of host1_example A_TYPE (address 1)
+      ∷ record_of (codes "_ssh" ∷ tcp_host1_example) SRV_TYPE ssh_data
+      ∷ record_of (codes "_ssh" ∷ codes "_tcp" ∷ codes "host2" ∷ example) SRV_TYPE ssh_data
+      ∷ record_of subdel_example NS_TYPE (wire_of (codes "ns" ∷ codes "example" ∷ codes "com" ∷ []))
+      ∷ record_of subdel_example NS_TYPE (wire_of (codes "ns" ∷ codes "example" ∷ codes "net" ∷ []))
       ∷ [];
 }
 
 -- one of the two records of a set
 abbrev pub ns_set_cut_short : SetPart
-ns_set_cut_short = record { zone = example; owner = example; rtype = ns_type; items = wire_of (codes "ns" ∷ codes "example" ∷ codes "com" ∷ []) ∷ [] }
+ns_set_cut_short = record { zone = example; owner = example; rtype = NS_TYPE; items = wire_of (codes "ns" ∷ codes "example" ∷ codes "com" ∷ []) ∷ [] }
 
 -- ---- a zone with a thing at every turn
 
@@ -172,19 +164,19 @@ abbrev pub turns : Zone
 turns = record {
   apex = example;
   records =
-      record_of example soa_type soa_data
-      ∷ record_of example ns_type (wire_of a_example)
-      ∷ record_of a_example a_type (address 1)
-      ∷ record_of alias_example cname_type (wire_of b_example)
-      ∷ record_of alias_example cname_type (wire_of a_example)
-      ∷ record_of moved_example dname_type (wire_of a_example)
-      ∷ record_of low_moved_example ns_type (wire_of a_example)
-      ∷ record_of both_example ns_type (wire_of a_example)
-      ∷ record_of both_example dname_type (wire_of a_example)
-      ∷ record_of low_both_example ns_type (wire_of a_example)
-      ∷ record_of (asterisk ∷ cut_example) ns_type (wire_of a_example)
-      ∷ record_of (asterisk ∷ dname_example) dname_type (wire_of a_example)
-      ∷ record_of (asterisk ∷ dname_example) a_type (address 2)
+      record_of example SOA_TYPE soa_data
+      ∷ record_of example NS_TYPE (wire_of a_example)
+      ∷ record_of a_example A_TYPE (address 1)
+      ∷ record_of alias_example CNAME_TYPE (wire_of b_example)
+      ∷ record_of alias_example CNAME_TYPE (wire_of a_example)
+      ∷ record_of moved_example DNAME_TYPE (wire_of a_example)
+      ∷ record_of low_moved_example NS_TYPE (wire_of a_example)
+      ∷ record_of both_example NS_TYPE (wire_of a_example)
+      ∷ record_of both_example DNAME_TYPE (wire_of a_example)
+      ∷ record_of low_both_example NS_TYPE (wire_of a_example)
+      ∷ record_of (asterisk ∷ cut_example) NS_TYPE (wire_of a_example)
+      ∷ record_of (asterisk ∷ dname_example) DNAME_TYPE (wire_of a_example)
+      ∷ record_of (asterisk ∷ dname_example) A_TYPE (address 2)
       ∷ [];
 }
 

@@ -1,6 +1,9 @@
-pub mod Arc
 pub mod Consistent
 pub mod Denial
+pub mod DenialExamples
 pub mod Examples
+pub mod Hashed
+pub mod HashedDenial
+pub mod HashedExamples
 pub mod Lookup
 pub mod Zone

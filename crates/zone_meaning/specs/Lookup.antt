@@ -6,7 +6,8 @@ use Rattle.std.specs.Ordering.{nat_cmp}
 use Rattle.std.specs.Cmp.Lexicographic.{slice_cmp}
 use Rattle.std.specs.declared.cmp.Ordering.TheVariants.{Greater}
 use Rattle.dname.specs.Name.{Label, IsUnder, asterisk}
-use Rattle.zone_meaning.specs.Zone.{Zone, HasData, HasType, IsBelow, IsCut, Exists, ns_type, cname_type, dname_type, ds_type}
+use Rattle.dname.specs.declared.types.TheConstants.{CNAME_TYPE, DNAME_TYPE, DS_TYPE, NS_TYPE}
+use Rattle.zone_meaning.specs.Zone.{Zone, HasData, HasType, IsBelow, IsCut, Exists}
 
 -- what a lookup comes to: the data of the name and type; the data of a CNAME in their place; a name without the type;
 -- no name; the cut where another zone goes on; the owner of a DNAME; or what the RFCs leave open
@@ -26,11 +27,11 @@ pub data Looked : Type 0 where
 pub record MeetsCut (zone : Zone) (name : List Label) (rtype : ℕ) (cut : List Label) : Type 0 where
   pub parted : IsCut zone cut
   pub above : IsUnder name cut
-  pub asked : cut ≡ name → rtype ≢ ds_type
+  pub asked : cut ≡ name → rtype ≢ DS_TYPE
 
 -- a DNAME above the name is on the way, and one at the name isn't (RFC 6672, sections 2.3 and 3.2)
 pub record MeetsDname (zone : Zone) (name owner : List Label) : Type 0 where
-  pub there : HasType zone owner dname_type
+  pub there : HasType zone owner DNAME_TYPE
   pub above : IsBelow name owner
 
 -- a cut or a DNAME that is on the way; one name may be both
@@ -56,9 +57,9 @@ AnswersAt zone name rtype (Answer items) =
     × ((octets : List ℕ) → Contains items octets ↔ HasData zone name rtype octets)
 AnswersAt zone name rtype (Alias octets) =
     (HasType zone name rtype → ⊥)
-    × HasData zone name cname_type octets
-    × ((others : List ℕ) → HasData zone name cname_type others → slice_cmp nat_cmp octets others ≢ Greater)
-AnswersAt zone name rtype NoData = (HasType zone name rtype → ⊥) × (HasType zone name cname_type → ⊥)
+    × HasData zone name CNAME_TYPE octets
+    × ((others : List ℕ) → HasData zone name CNAME_TYPE others → slice_cmp nat_cmp octets others ≢ Greater)
+AnswersAt zone name rtype NoData = (HasType zone name rtype → ⊥) × (HasType zone name CNAME_TYPE → ⊥)
 AnswersAt zone name rtype NxDomain = ⊥
 AnswersAt zone name rtype (Referral cut) = ⊥
 AnswersAt zone name rtype (Redirect owner) = ⊥
@@ -77,12 +78,12 @@ pub record IsClosestEncloser (zone : Zone) (name encloser : List Label) : Type 0
 -- (section 4.4; RFC 6672, section 3.3)
 pub data Synthesizes (zone : Zone) (source : List Label) (rtype : ℕ) : Looked → Type 0 where
   by_no_source : (Exists zone source → ⊥) → Synthesizes zone source rtype NxDomain
-  by_its_ns : Exists zone source → HasType zone source ns_type → Synthesizes zone source rtype Undefined
+  by_its_ns : Exists zone source → HasType zone source NS_TYPE → Synthesizes zone source rtype Undefined
   by_its_dname :
-      Exists zone source → HasType zone source dname_type → AnswersAt zone source rtype NoData → Synthesizes zone source rtype Undefined
+      Exists zone source → HasType zone source DNAME_TYPE → AnswersAt zone source rtype NoData → Synthesizes zone source rtype Undefined
   as_itself :
-      (answer : Looked) → Exists zone source → (HasType zone source ns_type → ⊥) → AnswersAt zone source rtype answer
-      → (answer ≡ NoData → HasType zone source dname_type → ⊥) → Synthesizes zone source rtype answer
+      (answer : Looked) → Exists zone source → (HasType zone source NS_TYPE → ⊥) → AnswersAt zone source rtype answer
+      → (answer ≡ NoData → HasType zone source DNAME_TYPE → ⊥) → Synthesizes zone source rtype answer
 
 -- ---- the whole
 
@@ -110,3 +111,9 @@ pub record LooksUp (zone : Zone) (name : List Label) (rtype : ℕ) (answer : Loo
 abbrev pub IsSameAnswer : Looked → Looked → Type 0
 IsSameAnswer (Answer items) (Answer others) = (octets : List ℕ) → Contains items octets ↔ Contains others octets
 IsSameAnswer answer another = answer ≡ another
+
+-- the zone is the one for the question: the name is in it, and is not its apex where DS is asked, which the zone above has
+-- (RFC 4035, sections 2.4 and 3.1.4.1)
+pub record IsZoneFor (zone : Zone) (name : List Label) (qtype : ℕ) : Type 0 where
+  pub above : IsUnder name zone.apex
+  pub of_ds : qtype ≡ DS_TYPE → name ≢ zone.apex

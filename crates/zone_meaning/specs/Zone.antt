@@ -2,28 +2,7 @@
 use Rattle.std.specs.Prelude.{◌≡◌, ◌≢◌, ℕ, ◌⊎◌, ◌↔◌, List}
 use Rattle.std.specs.List.{All, Contains}
 use Rattle.dname.specs.Name.{Label, IsUnder}
-
--- the numbers of the types that a zone's meaning turns on (RFC 1035, section 3.2.2; RFC 6672; RFC 4034; RFC 5155)
-abbrev pub ns_type : ℕ
-ns_type = 2
-
-abbrev pub cname_type : ℕ
-cname_type = 5
-
-abbrev pub dname_type : ℕ
-dname_type = 39
-
-abbrev pub ds_type : ℕ
-ds_type = 43
-
-abbrev pub rrsig_type : ℕ
-rrsig_type = 46
-
-abbrev pub nsec_type : ℕ
-nsec_type = 47
-
-abbrev pub nsec3_type : ℕ
-nsec3_type = 50
+use Rattle.dname.specs.declared.types.TheConstants.{DNAME_TYPE, NSEC3_TYPE, NSEC_TYPE, NS_TYPE, RRSIG_TYPE}
 
 -- a record of a zone: its owner name, its type, and the octets of its data with each name written out
 pub record ZoneRecord : Type 0 where
@@ -45,7 +24,7 @@ pub record IsSameZone (zone other : Zone) : Type 0 where
 -- the types that prove the others, which a zone here is without: signatures and denials (RFC 4035, sections 2.2 and 2.3;
 -- RFC 5155, section 7.1)
 abbrev pub IsProofType : ℕ → Type 0
-IsProofType rtype = (rtype ≡ rrsig_type) ⊎ ((rtype ≡ nsec_type) ⊎ (rtype ≡ nsec3_type))
+IsProofType rtype = (rtype ≡ RRSIG_TYPE) ⊎ ((rtype ≡ NSEC_TYPE) ⊎ (rtype ≡ NSEC3_TYPE))
 
 -- each owner name is the apex or below it (RFC 1034, section 4.2), and no record is a signature or a denial
 pub record IsZone (zone : Zone) : Type 0 where
@@ -70,12 +49,12 @@ IsBelow name other = IsUnder name other × (name ≢ other)
 
 -- a zone cut: a name below the apex with name servers of its own, where another zone begins (RFC 1034, section 4.2.1)
 abbrev pub IsCut : Zone → List Label → Type 0
-IsCut zone name = (name ≢ zone.apex) × HasType zone name ns_type
+IsCut zone name = (name ≢ zone.apex) × HasType zone name NS_TYPE
 
 -- a bar: a cut (RFC 1034, section 4.3.2) or the owner of a DNAME (RFC 6672, sections 2.3 and 2.4), below which the zone
 -- says nothing of its own
 abbrev pub IsBar : Zone → List Label → Type 0
-IsBar zone name = IsCut zone name ⊎ HasType zone name dname_type
+IsBar zone name = IsCut zone name ⊎ HasType zone name DNAME_TYPE
 
 -- an owner name with no bar above it; a bar itself may be live, and glue below one is not
 pub record IsLive (zone : Zone) (name : List Label) : Type 0 where

@@ -85,7 +85,7 @@ fn a_client_with_do_gets_the_proof(rt: HostRuntime) -> Result<(), Fail> {
     Ok(())
 }
 
-// The stored answer with its owner names and the RRSIGs' signers as pointers, and an octet behind it.
+// The stored answer with its owner names and the RRSIGs' signers as pointers, and an octet after it.
 const COMPRESSED_ANSWER: &[u8] = b"\
     \x02\x00;\x9a\xca\x00\x00\x9e\
     \x00\x01\x81\xa0\x00\x01\x00\x00\x00\x04\x00\x00\
@@ -109,7 +109,7 @@ fn a_compressed_answer_is_stored_written_out(rt: HostRuntime) -> Result<(), Fail
 }
 
 // A frame, and the frame that its own octets give: refused upstream answers, faulty queries, and such as get no reply.
-const TOLD: [(&[u8], &[u8]); 10] = [
+const TOLD: [(&[u8], &[u8]); 16] = [
     // An upstream answer of no octets; a pointer to itself in the question's name; the end within the question.
     (
         b"\x02\x00;\x9a\xca\x00\x00\x00",
@@ -122,6 +122,31 @@ const TOLD: [(&[u8], &[u8]); 10] = [
     (
         b"\x02\x00;\x9a\xca\x00\x00\x0f\x00\x01\x81\xa0\x00\x01\x00\x00\x00\x00\x00\x00\x00\x00\x10",
         b"\x04\x00\x00\x00\x00\x00\x00\x01\x01",
+    ),
+    // QR is clear; TC is set; AD is clear; there is no record; RCODE 2, with AD and without.
+    (
+        b"\x02\x00;\x9a\xca\x00\x00\x11\x00\x01\x01\xa0\x00\x01\x00\x00\x00\x00\x00\x00\x00\x00\x10\x00\x01",
+        b"\x04\x00\x00\x00\x00\x00\x00\x01\x02",
+    ),
+    (
+        b"\x02\x00;\x9a\xca\x00\x00\x11\x00\x01\x83\xa0\x00\x01\x00\x00\x00\x00\x00\x00\x00\x00\x10\x00\x01",
+        b"\x04\x00\x00\x00\x00\x00\x00\x01\x03",
+    ),
+    (
+        b"\x02\x00;\x9a\xca\x00\x00\x11\x00\x01\x81\x80\x00\x01\x00\x00\x00\x00\x00\x00\x00\x00\x10\x00\x01",
+        b"\x04\x00\x00\x00\x00\x00\x00\x01\x04",
+    ),
+    (
+        b"\x02\x00;\x9a\xca\x00\x00\x11\x00\x01\x81\xa0\x00\x01\x00\x00\x00\x00\x00\x00\x00\x00\x10\x00\x01",
+        b"\x04\x00\x00\x00\x00\x00\x00\x01\x05",
+    ),
+    (
+        b"\x02\x00;\x9a\xca\x00\x00\x11\x00\x01\x81\xa2\x00\x01\x00\x00\x00\x00\x00\x00\x00\x00\x10\x00\x01",
+        b"\x04\x00\x00\x00\x00\x00\x00\x01\x07",
+    ),
+    (
+        b"\x02\x00;\x9a\xca\x00\x00\x11\x00\x01\x81\x82\x00\x01\x00\x00\x00\x00\x00\x00\x00\x00\x10\x00\x01",
+        b"\x04\x00\x00\x00\x00\x00\x00\x01\x07",
     ),
     // No question; another opcode; a response; eleven octets.
     (
@@ -169,7 +194,7 @@ fn a_frame_without_a_call_is_told_by_its_octets(rt: HostRuntime) -> Result<(), F
         input.extend_from_slice(frame)?;
         expected.extend_from_slice(told)?;
     }
-    // All of them behind one another give all that they give.
+    // All of them one after the other give all that they give.
     let (ended, written) = replayed(alloc, &input, &[], &[])?;
     assert_eq!(rt; ended, Status::Good);
     assert_eq!(rt; written.as_slice(), expected.as_slice());
@@ -206,32 +231,6 @@ fn a_questions_name_has_at_most_255_octets(rt: HostRuntime) -> Result<(), Fail> 
         let (ended, written) = replayed(alloc, &query, &[], &[])?;
         assert_eq!(rt; ended, Status::Good, "{size}");
         assert_eq!(rt; written.as_slice(), expected, "{size}");
-    }
-    Ok(())
-}
-
-// Messages that can be read and aren't plain, as AD or a record is missing, are for later; a bad frame comes before them.
-#[test]
-fn what_is_not_built_comes_after_bad_frames(rt: HostRuntime) -> Result<(), Fail> {
-    let alloc = rt.alloc();
-    let unsigned =
-        b"\x02\x00;\x9a\xca\x00\x00\x11\x00\x01\x81\x80\x00\x01\x00\x00\x00\x00\x00\x00\x00\x00\x10\x00\x01".as_slice();
-    for (behind, status) in [
-        (b"".as_slice(), Status::NotBuilt),
-        (b"\x01".as_slice(), Status::BadFrame),
-        (
-            b"\x01\x01\x00\x00\x00\x00\x00\x00".as_slice(),
-            Status::BadFrame,
-        ),
-        (
-            b"\x01\x00\x00\x00\x00\x00\x00\x00".as_slice(),
-            Status::NotBuilt,
-        ),
-    ] {
-        let input = joined(alloc, &[unsigned, behind])?;
-        let (ended, written) = replayed(alloc, &input, &[], &[])?;
-        assert_eq!(rt; ended, status);
-        assert!(rt; written.is_empty());
     }
     Ok(())
 }

@@ -3,15 +3,101 @@ ghost use Rattle.std.specs.Prelude.{Some, None};
 use super::*;
 use outside_core::{Failed, MemorySink, MemorySource};
 use std::alloc::Global;
+use std::process::ExitCode;
 use std::test::Fail;
 
 // A query for a.example A, at 1,000,000,010 seconds.
-const QUERY: [u8; 35] = [
-    1, 0, 0x3b, 0x9a, 0xca, 0x0a, 0, 27, 0x12, 0x34, 1, 0, 0, 1, 0, 0, 0, 0, 0, 0, 1, b'a', 7,
-    b'e', b'x', b'a', b'm', b'p', b'l', b'e', 0, 0, 1, 0, 1,
+const QUERY: &[u8] = b"\
+    \x01\x00;\x9a\xca\x0a\x00\x1b\
+    \x124\x01\x00\x00\x01\x00\x00\x00\x00\x00\x00\
+    \x01a\x07example\x00\x00\x01\x00\x01";
+
+const FORWARD: &[u8] = b"\x02\x00\x00\x00\x00\x00\x00\x00";
+
+// The octets after a query, which calls of the source and of the sink fail, the status, and what is written.
+const RUNS: [(&str, &[u8], &[u32], &[u32], Status, &[u8]); 9] = [
+    ("a query alone", b"", &[], &[], Status::Good, FORWARD),
+    (
+        "a query that is dropped after it",
+        b"\x01\x00\x00\x00\x00\x00\x00\x00",
+        &[],
+        &[],
+        Status::Good,
+        b"\x02\x00\x00\x00\x00\x00\x00\x00\x05\x00\x00\x00\x00\x00\x00\x00",
+    ),
+    (
+        "a source that fails at once",
+        b"",
+        &[1],
+        &[],
+        Status::ReadFault,
+        b"",
+    ),
+    (
+        "a source that fails at its end",
+        b"",
+        &[2],
+        &[],
+        Status::ReadFault,
+        b"",
+    ),
+    (
+        "a sink that fails at once",
+        b"",
+        &[],
+        &[1],
+        Status::WriteFault,
+        b"",
+    ),
+    (
+        "an octet after it",
+        b"\x01",
+        &[],
+        &[],
+        Status::BadFrame,
+        b"",
+    ),
+    (
+        "a frame that is an octet short",
+        b"\x01\x00\x00\x00\x00\x00\x00\x02\x00",
+        &[],
+        &[],
+        Status::BadFrame,
+        b"",
+    ),
+    (
+        "a frame of another kind",
+        b"\x03\x00\x00\x00\x00\x00\x00\x00",
+        &[],
+        &[],
+        Status::BadFrame,
+        b"",
+    ),
+    (
+        "a frame of another worker",
+        b"\x01\x01\x00\x00\x00\x00\x00\x00",
+        &[],
+        &[],
+        Status::BadFrame,
+        b"",
+    ),
 ];
 
-const FORWARD: [u8; 8] = [2, 0, 0, 0, 0, 0, 0, 0];
+const LINES: [(Status, u8, Option<&str>); 7] = [
+    (Status::Good, 0, None),
+    (
+        Status::Usage,
+        2,
+        Some(
+            "usage: replay --workers N; selfrun --seed S --names M --queries Q; serve --listen P --upstream U --workers N --datagrams D",
+        ),
+    ),
+    (Status::ReadFault, 3, Some("read fault")),
+    (Status::BadFrame, 4, Some("bad frame")),
+    (Status::WriteFault, 5, Some("write fault")),
+    (Status::OutOfMemory, 6, Some("out of memory")),
+    (Status::InputTooLong, 7, Some("input too long")),
+];
 
 fn words_of(alloc: Global, text: &str) -> Result<Vec<String>, Fail> {
     let mut words = Vec::new(alloc);
@@ -38,110 +124,32 @@ pub(super) fn replayed(
     Ok((status, Vec::from_slice(alloc, sink.written())?))
 }
 
-#[test]
-fn queries_are_forwarded(rt: HostRuntime) -> Result<(), Fail> {
-    let alloc = rt.alloc();
-    let mut two = Vec::from_slice(alloc, &QUERY)?;
-    two.extend_from_slice(&QUERY)?;
-    let mut cut = Vec::from_slice(alloc, &two)?;
-    cut.truncate(69);
-    let mut upstream = Vec::from_slice(alloc, &QUERY)?;
-    upstream[0] = 2;
-    let mut other_worker = Vec::from_slice(alloc, &QUERY)?;
-    other_worker[1] = 1;
-    let mut other_kind = Vec::from_slice(alloc, &QUERY)?;
-    other_kind[0] = 3;
+pub(super) fn joined(alloc: Global, parts: &[&[u8]]) -> Result<Vec<u8>, Fail> {
+    let mut octets = Vec::new(alloc);
+    for part in parts {
+        octets.extend_from_slice(part)?;
+    }
+    Ok(octets)
+}
 
-    for (name, input, failing_reads, failing_writes, status, frames) in [
-        (
-            "nothing",
-            [].as_slice(),
-            [].as_slice(),
-            [].as_slice(),
-            Status::Good,
-            0,
-        ),
-        (
-            "one query",
-            QUERY.as_slice(),
-            [].as_slice(),
-            [].as_slice(),
-            Status::Good,
-            1,
-        ),
-        (
-            "two queries",
-            two.as_slice(),
-            [].as_slice(),
-            [].as_slice(),
-            Status::Good,
-            2,
-        ),
-        (
-            "a source that fails at once",
-            two.as_slice(),
-            [1].as_slice(),
-            [].as_slice(),
-            Status::ReadFault,
-            0,
-        ),
-        (
-            "a source that fails at its end",
-            two.as_slice(),
-            [2].as_slice(),
-            [].as_slice(),
-            Status::ReadFault,
-            0,
-        ),
-        (
-            "a sink that fails at once",
-            two.as_slice(),
-            [].as_slice(),
-            [1].as_slice(),
-            Status::WriteFault,
-            0,
-        ),
-        (
-            "a frame cut short",
-            cut.as_slice(),
-            [].as_slice(),
-            [].as_slice(),
-            Status::BadFrame,
-            0,
-        ),
-        (
-            "a query for an upstream answer",
-            upstream.as_slice(),
-            [].as_slice(),
-            [].as_slice(),
-            Status::NotBuilt,
-            0,
-        ),
-        (
-            "a frame of another kind",
-            other_kind.as_slice(),
-            [].as_slice(),
-            [].as_slice(),
-            Status::BadFrame,
-            0,
-        ),
-        (
-            "another worker",
-            other_worker.as_slice(),
-            [].as_slice(),
-            [].as_slice(),
-            Status::BadFrame,
-            0,
-        ),
-    ] {
-        let (ended, written) = replayed(alloc, input, failing_reads, failing_writes)?;
+#[test]
+fn a_run_ends_with_its_status(rt: HostRuntime) -> Result<(), Fail> {
+    let alloc = rt.alloc();
+    for (name, after, failing_reads, failing_writes, status, expected) in RUNS {
+        let input = joined(alloc, &[QUERY, after])?;
+        let (ended, written) = replayed(alloc, &input, failing_reads, failing_writes)?;
         assert_eq!(rt; ended, status, "{name}");
-        assert_eq!(rt; written.len(), 8 * frames, "{name}");
-        for frame in written.chunks_exact(8) {
-            assert_eq!(rt; frame, FORWARD.as_slice(), "{name}");
-        }
+        assert_eq!(rt; written.as_slice(), expected, "{name}");
     }
     Ok(())
+}
+
+#[test]
+fn a_status_has_its_number_and_line(rt: HostRuntime) {
+    for (status, number, line) in LINES {
+        assert_eq!(rt; status.exit_code(), ExitCode::from(number), "{number}");
+        assert_eq!(rt; status.line(), line, "{number}");
+    }
 }
 
 #[test]
@@ -157,13 +165,10 @@ fn other_words_are_refused(rt: HostRuntime) -> Result<(), Fail> {
         "serve --workers 1",
     ] {
         let words = words_of(alloc, text)?;
-        let mut source = MemorySource::of(Vec::from_slice(alloc, &QUERY)?, Vec::new(alloc));
+        let mut source = MemorySource::of(Vec::from_slice(alloc, QUERY)?, Vec::new(alloc));
         let mut sink = MemorySink::with_room(alloc, 8, Vec::new(alloc))?;
-        assert_eq!(rt;
-            run(alloc, &words, &mut source, &mut sink),
-            Status::Usage,
-            "{text}"
-        );
+        let status = run(alloc, &words, &mut source, &mut sink);
+        assert_eq!(rt; status, Status::Usage, "{text}");
         assert!(rt; sink.written().is_empty());
     }
     Ok(())
@@ -200,11 +205,8 @@ fn an_input_may_be_too_long(rt: HostRuntime) -> Result<(), Fail> {
     ] {
         let mut source = Zeros { left };
         let mut sink = MemorySink::with_room(alloc, 8, Vec::new(alloc))?;
-        assert_eq!(rt;
-            run(alloc, &words, &mut source, &mut sink),
-            status,
-            "{left}"
-        );
+        let ended = run(alloc, &words, &mut source, &mut sink);
+        assert_eq!(rt; ended, status, "{left}");
         assert!(rt; sink.written().is_empty());
     }
     Ok(())
@@ -236,117 +238,10 @@ fn pieces_of_one_octet_are_one_input(rt: HostRuntime) -> Result<(), Fail> {
     let alloc = rt.alloc();
     let words = words_of(alloc, "replay --workers 1")?;
     let mut source = Dripping {
-        source: MemorySource::of(Vec::from_slice(alloc, &QUERY)?, Vec::new(alloc)),
+        source: MemorySource::of(Vec::from_slice(alloc, QUERY)?, Vec::new(alloc)),
     };
     let mut sink = MemorySink::with_room(alloc, 8, Vec::new(alloc))?;
     assert_eq!(rt; run(alloc, &words, &mut source, &mut sink), Status::Good);
-    assert_eq!(rt; sink.written(), FORWARD.as_slice());
-    Ok(())
-}
-
-// An upstream answer at 1,000,000,000 seconds, up to its NSEC record's TTL. The NSEC shows that a.example has A alone; the
-// SOA lives for an hour, and its MINIMUM is 300 seconds.
-const UPSTREAM: &[u8] = b"\
-    \x02\x00;\x9a\xca\x00\x00\xd2\
-    \x00\x01\x81\xa0\x00\x01\x00\x00\x00\x04\x00\x00\
-    \x01a\x07example\x00\x00\x10\x00\x01\
-    \x07example\x00\x00\x06\x00\x01\x00\x00\x0e\x10\x00\x16\x00\x00\x00\x00\x00\x01\x00\x00\x0e\x10\x00\x00\x02X\x00\x01Q\x80\x00\x00\x01,\
-    \x07example\x00\x00.\x00\x01\x00\x00\x0e\x10\x00\x1f\x00\x06\x0d\x01\x00\x00\x0e\x10w5\x94\x005\xa4\xe9\x00\x00\x01\x07example\x00ZZZZ\
-    \x01a\x07example\x00\x00/\x00\x01";
-
-// What follows the TTL.
-const BEHIND_TTL: &[u8] = b"\
-    \x00\x13\x01b\x07example\x00\x00\x06@\x00\x00\x00\x00\x03\x01a\
-    \x07example\x00\x00.\x00\x01\x00\x00\x0e\x10\x00\x1f\x00/\x0d\x02\x00\x00\x0e\x10w5\x94\x005\xa4\xe9\x00\x00\x01\x07example\x00ZZZZ";
-
-// A query for A.Example TXT, behind its moment.
-const MIXED_QUERY: &[u8] = b"\
-    \x00\x1b\
-    \x124\x01\x00\x00\x01\x00\x00\x00\x00\x00\x00\
-    \x01A\x07Example\x00\x00\x10\x00\x01";
-
-// The batch is version 1.
-const STORED: &[u8] = b"\
-    \x03\x00\x00\x00\x00\x01\x00\x04\x00\x02\x00\x00";
-
-// The reply, up to its TTL.
-const DENIED: &[u8] = b"\
-    \x01\x00\x00\x00\x00\x01\x00D\
-    \x124\x81\x80\x00\x01\x00\x00\x00\x01\x00\x00\
-    \x01A\x07Example\x00\x00\x10\x00\x01\
-    \x07example\x00\x00\x06\x00\x01";
-
-const BEHIND_REPLY_TTL: &[u8] = b"\
-    \x00\x16\x00\x00\x00\x00\x00\x01\x00\x00\x0e\x10\x00\x00\x02X\x00\x01Q\x80\x00\x00\x01,";
-
-pub(super) fn joined(alloc: Global, parts: &[&[u8]]) -> Result<Vec<u8>, Fail> {
-    let mut octets = Vec::new(alloc);
-    for part in parts {
-        octets.extend_from_slice(part)?;
-    }
-    Ok(octets)
-}
-
-// That answer with this TTL of the NSEC, and the query so many seconds after.
-fn asked_after(alloc: Global, nsec_ttl: u32, seconds: u32) -> Result<Vec<u8>, Fail> {
-    let ttl = nsec_ttl.to_be_bytes();
-    let now = 1_000_000_000_u32.wrapping_add(seconds).to_be_bytes();
-    joined(
-        alloc,
-        &[UPSTREAM, &ttl, BEHIND_TTL, &[1, 0], &now, MIXED_QUERY],
-    )
-}
-
-#[test]
-fn a_type_is_denied_as_long_as_its_records_live(rt: HostRuntime) -> Result<(), Fail> {
-    let alloc = rt.alloc();
-    for (nsec_ttl, seconds, ttl) in [
-        (3600, 10, Some(300)),
-        (3600, 3300, Some(300)),
-        (3600, 3301, Some(299)),
-        (3600, 3599, Some(1)),
-        (3600, 3600, None),
-        // The SOA outlives the NSEC.
-        (1800, 1799, Some(1)),
-        (1800, 1800, None),
-    ] {
-        let input = asked_after(alloc, nsec_ttl, seconds)?;
-        let (ended, written) = replayed(alloc, &input, &[], &[])?;
-        let expected = match ttl {
-            Some(ttl) => joined(
-                alloc,
-                &[STORED, DENIED, &u32::to_be_bytes(ttl), BEHIND_REPLY_TTL],
-            )?,
-            None => joined(alloc, &[STORED, &[2, 0, 0, 0, 0, 1, 0, 0]])?,
-        };
-        assert_eq!(rt; ended, Status::Good, "{nsec_ttl} {seconds}");
-        assert_eq!(rt;
-            written.as_slice(),
-            expected.as_slice(),
-            "{nsec_ttl} {seconds}"
-        );
-    }
-    Ok(())
-}
-
-#[test]
-fn a_failing_sink_gets_nothing(rt: HostRuntime) -> Result<(), Fail> {
-    let alloc = rt.alloc();
-    let input = asked_after(alloc, 3600, 10)?;
-    let (ended, written) = replayed(alloc, &input, &[], &[1])?;
-    assert_eq!(rt; ended, Status::WriteFault);
-    assert!(rt; written.is_empty());
-    Ok(())
-}
-
-#[test]
-fn an_answer_that_is_not_stored_is_not_built(rt: HostRuntime) -> Result<(), Fail> {
-    let alloc = rt.alloc();
-    for nsec_ttl in [0, 0x8000_0000] {
-        let input = asked_after(alloc, nsec_ttl, 10)?;
-        let (ended, written) = replayed(alloc, &input, &[], &[])?;
-        assert_eq!(rt; ended, Status::NotBuilt, "{nsec_ttl}");
-        assert!(rt; written.is_empty());
-    }
+    assert_eq!(rt; sink.written(), FORWARD);
     Ok(())
 }

@@ -4,7 +4,7 @@ use std::test::Fail;
 // What stands before the data: zeros, and at offset 4 a name to point at.
 const BEFORE: &[u8] = b"\x00\x00\x00\x00\x07Example\x00";
 
-const BEHIND: &[u8] = b"!";
+const AFTER: &[u8] = b"!";
 
 // Each type, whether its layout ends with whatever remains, data that begins at offset 13, and what is kept of it. The
 // pointers go to the name at 4, and where they are 13 or 15, to a name in the same data.
@@ -82,14 +82,14 @@ const DATA: [(u16, bool, &[u8], &[u8]); 27] = [
         b"\x04Host\xc0\x04\x00\x06\x40\x01\x00\x00\x00\x03",
         b"\x04Host\x07Example\x00\x00\x06\x40\x01\x00\x00\x00\x03",
     ),
-    // SRV: the target stands behind six octets.
+    // SRV: the target stands after six octets.
     (
         33,
         false,
         b"\x00\x01\x00\x02\x00\x35\x03sRv\xc0\x04",
         b"\x00\x01\x00\x02\x00\x35\x03sRv\x07Example\x00",
     ),
-    // NAPTR: its texts aren't names.
+    // NAPTR: its character strings aren't names.
     (
         35,
         false,
@@ -134,8 +134,8 @@ fn joined(alloc: Global, pieces: &[&[u8]]) -> Result<Vec<u8>, OutOfMemory> {
 fn data_has_the_layout_of_its_type(rt: HostRuntime) -> Result<(), Fail> {
     let alloc = rt.alloc();
     for (rtype, is_open, data, kept) in DATA {
-        let message = joined(alloc, &[BEFORE, data, BEHIND])?;
-        let longer = joined(alloc, &[kept, BEHIND])?;
+        let message = joined(alloc, &[BEFORE, data, AFTER])?;
+        let longer = joined(alloc, &[kept, AFTER])?;
         let shorter = kept.split_last().map_or(kept, |(_, front)| front);
         let ends = [
             (0, is_open, longer.as_slice()),
@@ -163,18 +163,18 @@ fn data_has_the_layout_of_its_type(rt: HostRuntime) -> Result<(), Fail> {
 
 // A type, the octets from offset 13 on, and how many of them, at their end, aren't the data's.
 const NO_DATA: [(u16, &[u8], usize); 18] = [
-    // A pointer to the start of its own run, and one behind a label to itself.
+    // A pointer to the start of its own run, and one after a label to itself.
     (2, b"\xc0\x0d", 0),
     (2, b"\x01a\xc0\x0d", 0),
     (2, b"\x01a\xc0\x0f", 0),
-    // A pointer forward, within the data or behind it.
+    // A pointer forward, within the data or after it.
     (30, b"\xc0\x0f\x00", 0),
     (2, b"\xc0\x0f\x00", 1),
     (14, b"\x00\xc0\x10\x00", 1),
     // A second name that points to its own run.
     (17, b"\x00\xc0\x0e", 0),
     (17, b"\xc0\x04\x01a\xc0\x0f", 0),
-    // A name's end, its label or its pointer's second octet stands behind the data.
+    // A name's end, its label or its pointer's second octet stands after the data.
     (2, b"\x03abc\x00", 1),
     (2, b"\x03abc\x00", 2),
     (2, b"\x01a\xc0\x04", 1),
@@ -182,7 +182,7 @@ const NO_DATA: [(u16, &[u8], usize); 18] = [
     // Length octets that are neither a label's nor a pointer's.
     (2, b"\x40\x00", 0),
     (2, b"\x80\x00", 0),
-    // An octet of a preference, a text's length, an octet of a text, and a name are missing.
+    // An octet of a preference, a character string's length, an octet of one, and a name are missing.
     (15, b"\x00\x00", 1),
     (35, b"\x00\x64\x00\x0a\x00\x00", 0),
     (35, b"\x00\x64\x00\x0a\x00\x00\x03abc\x00", 2),

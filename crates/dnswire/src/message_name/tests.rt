@@ -13,7 +13,7 @@ const AT_40: &[u8] =
 const AT_64: &[u8] =
     b"\xc0\x1a\x00\x00\x00\x00\x00\x00\x00\x00\x00\x00\x00\x00\x00\x00\x00\x00\x00\x00\x00\x00\x00\x00\x00\x00\x00\x00\x00";
 
-// Each offset, the name there as a wire form, and the offset behind it.
+// Each offset, the name there as a wire form, and the offset after it.
 const NAMES: [(usize, &[u8], usize); 4] = [
     (20, b"\x01f\x03isi\x04arpa\x00", 32),
     (40, b"\x03foo\x01f\x03isi\x04arpa\x00", 46),
@@ -28,10 +28,15 @@ fn the_names_of_the_rfc_are_read(rt: HostRuntime) -> Result<(), Fail> {
         message.extend_from_slice(piece)?;
     }
     for (at, wire, end) in NAMES {
+        assert_eq!(rt; skip_name(message.as_slice(), at), Some(end), "{at}");
+        assert_eq!(rt;
+            is_root_at(message.as_slice(), at),
+            wire == b"\x00".as_slice()
+        );
         match read_name(message.as_slice(), at) {
-            Some((name, behind)) => {
+            Some((name, after)) => {
                 assert_eq!(rt; name.wire(), wire, "{at}");
-                assert_eq!(rt; behind, end, "{at}");
+                assert_eq!(rt; after, end, "{at}");
             }
             None => assert_eq!(rt; at, 0),
         }
@@ -39,7 +44,7 @@ fn the_names_of_the_rfc_are_read(rt: HostRuntime) -> Result<(), Fail> {
     Ok(())
 }
 
-// Where no name stands at the place: octets that are missing, other length octets, and pointers not before their run.
+// Where no name stands at the offset: octets that are missing, other length octets, and pointers not before their run.
 const NO_NAME: [(&[u8], usize); 11] = [
     (b"", 0),
     (b"\x00", 1),
@@ -57,7 +62,8 @@ const NO_NAME: [(&[u8], usize); 11] = [
 #[test]
 fn where_no_name_stands_none_is_read(rt: HostRuntime) -> Result<(), Fail> {
     for (i, (message, at)) in NO_NAME.iter().enumerate() {
-        assert_eq!(rt; read_name(message, *at).is_none(), true, "{i}");
+        assert!(rt; read_name(message, *at).is_none(), "{i}");
+        assert_eq!(rt; skip_name(message, *at), None, "{i}");
     }
     Ok(())
 }
@@ -80,6 +86,11 @@ fn a_name_has_at_most_255_octets(rt: HostRuntime) -> Result<(), Fail> {
         message.extend_from_slice(b"\xc0\x00")?;
         assert_eq!(rt;
             read_name(message.as_slice(), 193).is_some(),
+            is_read,
+            "{size}"
+        );
+        assert_eq!(rt;
+            skip_name(message.as_slice(), 193).is_some(),
             is_read,
             "{size}"
         );

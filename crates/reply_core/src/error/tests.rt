@@ -26,16 +26,13 @@ const BADVERS: &[u8] = b"\0\0\x29\x04\xd0\x01\0\0\0\0\0";
 
 const BADVERS_WITH_DO: &[u8] = b"\0\0\x29\x04\xd0\x01\0\x80\0\0\0";
 
-fn question(parts: &[&[u8]], edns: Option<Edns>) -> Question {
+fn question(parts: &[&[u8]], edns: Option<Edns>) -> Result<Question, Fail> {
     let mut asked = ArrayVec::new();
     for part in parts {
-        let _ = asked.try_extend_from_slice(part);
+        asked.try_extend_from_slice(part)?;
     }
-    let name = match Name::read(asked.as_slice()) {
-        Ok((name, _)) => name,
-        Err(_) => Name::root(),
-    };
-    Question {
+    let (name, _) = Name::read(asked.as_slice())?;
+    Ok(Question {
         id: 0x1234,
         rd: true,
         ad: false,
@@ -45,23 +42,24 @@ fn question(parts: &[&[u8]], edns: Option<Edns>) -> Question {
         qtype: 1,
         qclass: 1,
         edns,
-    }
+    })
 }
 
 // Fills the buffer with more octets than any reply below has: a name of 255 octets, and OPT.
-fn fill(out: &mut ReplyBuffer) {
+fn fill(out: &mut ReplyBuffer) -> Result<(), Fail> {
     let edns = Edns {
         size: 512,
         dnssec: true,
     };
-    let longest = question(&[LABEL, LABEL, LABEL, LONGEST_END], Some(edns));
+    let longest = question(&[LABEL, LABEL, LABEL, LONGEST_END], Some(edns))?;
     write_plain(&longest, 2, out);
+    Ok(())
 }
 
 #[test]
-fn the_reply_that_is_a_header_alone(rt: HostRuntime) {
+fn the_reply_that_is_a_header_alone(rt: HostRuntime) -> Result<(), Fail> {
     // ID, opcode, RD and CD of the query, RCODE, the ID and the flags of the reply
-    let cases: [(u16, u8, bool, bool, u8, &[u8]); 6] = [
+    let cases: [(u16, u8, bool, bool, u16, &[u8]); 6] = [
         (0xabcd, 0, true, false, 1, b"\xab\xcd\x81\x81"),
         (0xabcd, 4, true, false, 4, b"\xab\xcd\xa1\x84"),
         (0, 0, false, false, 0, b"\0\0\x80\x80"),
@@ -72,7 +70,7 @@ fn the_reply_that_is_a_header_alone(rt: HostRuntime) {
     let mut out = ReplyBuffer::new();
     for (id, opcode, rd, cd, rcode, front) in cases {
         let head = Head { id, opcode, rd, cd };
-        fill(&mut out);
+        fill(&mut out)?;
         assert_eq!(rt; out.as_slice().len(), 282);
         assert!(rt; opcode <= 15 && rcode <= 15);
         write_error(&head, rcode, &mut out);
@@ -80,28 +78,30 @@ fn the_reply_that_is_a_header_alone(rt: HostRuntime) {
         assert!(rt; out.as_slice().ends_with(b"\0\0\0\0\0\0\0\0"));
         assert_eq!(rt; out.as_slice().len(), 12);
     }
+    Ok(())
 }
 
 #[test]
-fn the_reply_without_records(rt: HostRuntime) {
+fn the_reply_without_records(rt: HostRuntime) -> Result<(), Fail> {
     let edns = Edns {
         size: 1232,
         dnssec: false,
     };
     let mut out = ReplyBuffer::new();
 
-    let with_opt = question(&[EXAMPLE], Some(edns));
+    let with_opt = question(&[EXAMPLE], Some(edns))?;
     assert!(rt; with_opt.edns.is_some());
-    fill(&mut out);
+    fill(&mut out)?;
     write_plain(&with_opt, 16, &mut out);
     let bad_version =
         b"\x12\x34\x81\x80\0\x01\0\0\0\0\0\x01\x07example\0\0\x01\0\x01\0\0\x29\x04\xd0\x01\0\0\0\0\0".as_slice();
     assert_eq!(rt; out.as_slice(), bad_version);
 
-    fill(&mut out);
-    write_plain(&question(&[EXAMPLE], None), 2, &mut out);
+    fill(&mut out)?;
+    write_plain(&question(&[EXAMPLE], None)?, 2, &mut out);
     let server_failure = b"\x12\x34\x81\x82\0\x01\0\0\0\0\0\0\x07example\0\0\x01\0\x01".as_slice();
     assert_eq!(rt; out.as_slice(), server_failure);
+    Ok(())
 }
 
 #[test]
@@ -134,11 +134,11 @@ fn the_flags_and_the_opt_record(rt: HostRuntime) -> Result<(), Fail> {
             Some(dnssec) => (Some(Edns { size: 1232, dnssec }), b"\0\x01\0\0\0\0\0\x01"),
             None => (None, b"\0\x01\0\0\0\0\0\0"),
         };
-        let mut question = question(&[CAPITALS], edns);
+        let mut question = question(&[CAPITALS], edns)?;
         question.rd = rd;
         question.ad = ad;
         question.cd = cd;
-        fill(&mut out);
+        fill(&mut out)?;
         assert!(rt; rcode <= 15 || (rcode == 16 && question.edns.is_some()));
         write_plain(&question, rcode, &mut out);
         let mut wanted = Vec::new(rt.alloc());

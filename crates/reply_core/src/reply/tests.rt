@@ -2,7 +2,7 @@ use super::write_reply;
 use crate::ReplyBuffer;
 use arrayvec::ArrayVec;
 use denial_records::{Denial, Kind, Nsec3Rec, NsecRec, SetRec, TypeSet, Verdict};
-use dname::{Name, Octets, OctetsList, OutOfMemory};
+use dname::{Name, NameFault, Octets, OctetsList, OutOfMemory};
 use dnswire::{Edns, Question};
 use std::alloc::Global;
 use std::test::Fail;
@@ -47,27 +47,25 @@ const OPT: &[u8] = b"\0\0\x29\x04\xd0\0\0\0\0\0\0";
 
 const OPT_WITH_DO: &[u8] = b"\0\0\x29\x04\xd0\0\0\x80\0\0\0";
 
-fn name(octets: &[u8]) -> Name {
-    match Name::read(octets) {
-        Ok((name, _)) => name,
-        Err(_) => Name::root(),
-    }
+fn name(octets: &[u8]) -> Result<Name, NameFault> {
+    let (name, _) = Name::read(octets)?;
+    Ok(name)
 }
 
-fn question(asked_octets: &[u8], edns: Option<Edns>) -> Question {
+fn question(asked_octets: &[u8], edns: Option<Edns>) -> Result<Question, Fail> {
     let mut asked = ArrayVec::new();
-    let _ = asked.try_extend_from_slice(asked_octets);
-    Question {
+    asked.try_extend_from_slice(asked_octets)?;
+    Ok(Question {
         id: 0x1234,
         rd: true,
         ad: false,
         cd: false,
-        name: name(asked_octets),
+        name: name(asked_octets)?,
         asked,
         qtype: 16,
         qclass: 1,
         edns,
-    }
+    })
 }
 
 fn list(alloc: Global, item: &[u8]) -> Result<OctetsList, OutOfMemory> {
@@ -76,10 +74,10 @@ fn list(alloc: Global, item: &[u8]) -> Result<OctetsList, OutOfMemory> {
     Ok(list)
 }
 
-fn set(alloc: Global, rtype: u16, item: &[u8], signature: &[u8]) -> Result<SetRec, OutOfMemory> {
+fn set(alloc: Global, rtype: u16, item: &[u8], signature: &[u8]) -> Result<SetRec, Fail> {
     Ok(SetRec {
-        zone: name(EXAMPLE),
-        owner: name(EXAMPLE),
+        zone: name(EXAMPLE)?,
+        owner: name(EXAMPLE)?,
         rtype,
         life: 3600,
         expiry: 5000,
@@ -129,7 +127,7 @@ fn the_soa_alone(rt: HostRuntime) -> Result<(), Fail> {
     let soa = set(rt.alloc(), 6, SOA, SOA_SIGNATURE)?;
     let mut out = ReplyBuffer::new();
     write_reply(
-        &question(ASKED, None),
+        &question(ASKED, None)?,
         &verdict(Kind::NoData, Some(&soa), None),
         &mut out,
     );
@@ -141,7 +139,7 @@ fn the_soa_alone(rt: HostRuntime) -> Result<(), Fail> {
 }
 
 #[test]
-fn the_flags(rt: HostRuntime) {
+fn the_flags(rt: HostRuntime) -> Result<(), Fail> {
     // the query's RD, AD, CD and DO, the verdict, the flags
     let cases: [(bool, bool, bool, bool, Kind, &[u8]); 8] = [
         (false, false, false, false, Kind::NoData, b"\x80\x80"),
@@ -155,22 +153,23 @@ fn the_flags(rt: HostRuntime) {
     ];
     let mut out = ReplyBuffer::new();
     for (rd, ad, cd, dnssec, kind, flags) in cases {
-        let mut question = question(ASKED, Some(Edns { size: 512, dnssec }));
+        let mut question = question(ASKED, Some(Edns { size: 512, dnssec }))?;
         question.rd = rd;
         question.ad = ad;
         question.cd = cd;
         write_reply(&question, &verdict(kind, None, None), &mut out);
         assert_eq!(rt; &out.as_slice()[2..4], flags);
     }
+    Ok(())
 }
 
 #[test]
 fn the_proof_of_no_data(rt: HostRuntime) -> Result<(), Fail> {
     let soa = set(rt.alloc(), 6, SOA, SOA_SIGNATURE)?;
     let nsec = NsecRec {
-        zone: name(EXAMPLE),
-        owner: name(A_EXAMPLE),
-        next: name(B_EXAMPLE),
+        zone: name(EXAMPLE)?,
+        owner: name(A_EXAMPLE)?,
+        next: name(B_EXAMPLE)?,
         types: TypeSet::read(rt.alloc(), TYPES)?,
         life: 3600,
         expiry: 5000,
@@ -184,7 +183,7 @@ fn the_proof_of_no_data(rt: HostRuntime) -> Result<(), Fail> {
         size: 1232,
         dnssec: true,
     };
-    write_reply(&question(ASKED, Some(with_do)), &verdict, &mut out);
+    write_reply(&question(ASKED, Some(with_do))?, &verdict, &mut out);
     let head = b"\x12\x34\x81\xa0\0\x01\0\0\0\x04\0\x01".as_slice();
     let wanted = joined(
         rt.alloc(),
@@ -206,7 +205,7 @@ fn the_proof_of_no_data(rt: HostRuntime) -> Result<(), Fail> {
         size: 1232,
         dnssec: false,
     };
-    write_reply(&question(ASKED, Some(without_do)), &verdict, &mut out);
+    write_reply(&question(ASKED, Some(without_do))?, &verdict, &mut out);
     let head = b"\x12\x34\x81\x80\0\x01\0\0\0\x01\0\x01".as_slice();
     let wanted = joined(rt.alloc(), &[head, ASKED, SOA_RECORD, OPT])?;
     assert_eq!(rt; out.as_slice(), wanted.as_slice());
@@ -218,7 +217,7 @@ fn the_proof_of_no_data(rt: HostRuntime) -> Result<(), Fail> {
 fn the_owner_of_an_nsec3_record(rt: HostRuntime) -> Result<(), Fail> {
     let hash = *b"\x17\x4e\xb2\x40\x9f\xe2\x8b\xcb\x48\x87\xa1\x83\x6f\x95\x7f\x0a\x84\x25\xe2\x7b";
     let nsec3 = Nsec3Rec {
-        zone: name(EXAMPLE),
+        zone: name(EXAMPLE)?,
         hash,
         next: hash,
         salt: Octets::of(rt.alloc(), b"")?,
@@ -236,7 +235,7 @@ fn the_owner_of_an_nsec3_record(rt: HostRuntime) -> Result<(), Fail> {
     };
     let mut out = ReplyBuffer::new();
     write_reply(
-        &question(ASKED, Some(edns)),
+        &question(ASKED, Some(edns))?,
         &verdict(Kind::NxDomain, None, Some(Denial::Nsec3(&nsec3))),
         &mut out,
     );
@@ -264,12 +263,12 @@ fn the_owner_of_an_answer(rt: HostRuntime) -> Result<(), Fail> {
         size: 1232,
         dnssec: true,
     };
-    write_reply(&question(ASKED, Some(with_do)), &verdict, &mut out);
+    write_reply(&question(ASKED, Some(with_do))?, &verdict, &mut out);
     let head = b"\x12\x34\x81\xa0\0\x01\0\x02\0\0\0\x01".as_slice();
     let wanted = joined(rt.alloc(), &[head, ASKED, record, rrsig, OPT_WITH_DO])?;
     assert_eq!(rt; out.as_slice(), wanted.as_slice());
 
-    write_reply(&question(ASKED, None), &verdict, &mut out);
+    write_reply(&question(ASKED, None)?, &verdict, &mut out);
     let head = b"\x12\x34\x81\x80\0\x01\0\x01\0\0\0\0".as_slice();
     let wanted = joined(rt.alloc(), &[head, ASKED, record])?;
     assert_eq!(rt; out.as_slice(), wanted.as_slice());
@@ -277,9 +276,9 @@ fn the_owner_of_an_answer(rt: HostRuntime) -> Result<(), Fail> {
 }
 
 #[test]
-fn a_reply_over_the_limit_is_cut(rt: HostRuntime) -> Result<(), Fail> {
-    let cut_alone = b"\x12\x34\x83\x80\0\x01\0\0\0\0\0\0\x07example\0\0\x10\0\x01".as_slice();
-    let cut_with_opt =
+fn a_reply_over_the_limit_is_truncated(rt: HostRuntime) -> Result<(), Fail> {
+    let truncated_alone = b"\x12\x34\x83\x80\0\x01\0\0\0\0\0\0\x07example\0\0\x10\0\x01".as_slice();
+    let truncated_with_opt =
         b"\x12\x34\x83\x80\0\x01\0\0\0\0\0\x01\x07example\0\0\x10\0\x01\0\0\x29\x04\xd0\0\0\0\0\0\0".as_slice();
     // the client's OPT size, the octets of the TXT record's data, those of the reply
     let cases: [(Option<u16>, usize, usize); 10] = [
@@ -309,12 +308,12 @@ fn a_reply_over_the_limit_is_cut(rt: HostRuntime) -> Result<(), Fail> {
         };
         let mut verdict = verdict(Kind::Answer, None, None);
         verdict.answer_set = Some(&answer);
-        write_reply(&question(ASKED_AT_APEX, edns), &verdict, &mut out);
+        write_reply(&question(ASKED_AT_APEX, edns)?, &verdict, &mut out);
         assert_eq!(rt; out.as_slice().len(), length, "{size:?} {data}");
         let whole = whole_reply(rt.alloc(), &item, size.is_some())?;
         match length {
-            25 => assert_eq!(rt; out.as_slice(), cut_alone),
-            36 => assert_eq!(rt; out.as_slice(), cut_with_opt),
+            25 => assert_eq!(rt; out.as_slice(), truncated_alone),
+            36 => assert_eq!(rt; out.as_slice(), truncated_with_opt),
             _ => assert_eq!(rt; out.as_slice(), whole.as_slice()),
         }
     }
@@ -322,13 +321,13 @@ fn a_reply_over_the_limit_is_cut(rt: HostRuntime) -> Result<(), Fail> {
 }
 
 #[test]
-fn a_cut_reply_keeps_its_rcode(rt: HostRuntime) -> Result<(), Fail> {
+fn a_truncated_reply_keeps_its_rcode(rt: HostRuntime) -> Result<(), Fail> {
     let mut item = Vec::new(rt.alloc());
     item.resize(1300, 0)?;
     let soa = set(rt.alloc(), 6, &item, b"")?;
     let mut out = ReplyBuffer::new();
     write_reply(
-        &question(ASKED_AT_APEX, None),
+        &question(ASKED_AT_APEX, None)?,
         &verdict(Kind::NxDomain, Some(&soa), None),
         &mut out,
     );

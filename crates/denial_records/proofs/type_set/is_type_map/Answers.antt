@@ -5,8 +5,8 @@ use Rattle.denial_records.proofs.type_set.is_type_map.Goals as goal
 
 pub loop-rest-preserved : goal.loop-rest-preserved
 loop-rest-preserved c =
-    subst (λ n. HasLeft c.args.octets.now (n + 1) c.in-Some.behind.now) (sym c.from-least.ensures)
-    (left_less c.args.octets.now c.loop-rest.least c.loop-rest.rest.now c.in-Some.block.window c.in-Some.block.bitmap.now c.in-Some.behind.now c.loop-rest.invariant c.in-Some.ensures)
+    subst (λ n. HasLeft c.args.octets.now (n + 1) c.in-Some.after.now) (sym c.from-least.ensures)
+    (left_less c.args.octets.now c.loop-rest.least c.loop-rest.rest.now c.in-Some.block.window c.in-Some.block.bitmap.now c.in-Some.after.now c.loop-rest.invariant c.in-Some.ensures)
 
 pub returns-in-None : goal.returns-in-None
 returns-in-None c = (

@@ -1,20 +1,16 @@
-use Rattle.std.proofs.Common.{◌≡◌, ◌≤◌, ◌∙◌, ◌++◌, [], length, drop, sym, arith}
-use Rattle.std.proofs.lemmas.List.{append-nil, drop_all}
-use Rattle.replay_meaning.specs.OutFrame.{outputs_spelling}
-use Rattle.dnsreplay.specs.Outputs.{cache_of, outputs_from}
-use Rattle.dnsreplay.proofs.ReplayLemmas.{outputs_fit}
-use Rattle.dnsreplay.proofs.StepLemmas.{short_at}
+use Rattle.std.proofs.Common.{ap, map, sym, subst}
+use Rattle.std.proofs.lemmas.List.{take_all}
+use Rattle.replay_meaning.specs.Frame.{input_of}
+use Rattle.dnsreplay.proofs.ReplayLemmas.{HasDone, done_first, done_more, done_all}
 use Rattle.dnsreplay.proofs.replay.replay.Goals as goal
 
-pub take_step-requires : goal.take_step-requires
-take_step-requires c =
-    (omega (arith, c.loop-step.invariant.few, c.loop-step-test.true, c.requires.few), short_at c.requires.made.0 c.args.steps.now c.loop-step.step-index c.step-item.result c.requires.made.1 c.loop-step-test.true c.step-item.is)
+pub loop-frame-init : goal.loop-frame-init
+loop-frame-init c = done_first _ _ c.empty-cache.ensures c.new-output.ensures.items
+
+pub loop-frame-preserved : goal.loop-frame-preserved
+loop-frame-preserved c = done_more _ _ _ _ _ _ _ c.loop-frame-test.true c.loop-frame.invariant c.in_ok-one_frame.ensures
 
 pub returns : goal.returns
-returns c inputs each =
-    let all : length c.args.steps.now ≤ c.loop-step.step-index = omega (arith, c.loop-step-test.false) in
-    let none : drop c.loop-step.step-index c.args.steps.now ≡ [] = drop_all c.loop-step.step-index c.args.steps.now all in (
-      outputs_from (cache_of []) c.args.steps.now,
-      sym (append-nil c.loop-step.output.items) ∙ (λ i. c.loop-step.output.items ++ outputs_spelling (outputs_from c.loop-step.cache (sym none i))) ∙ c.loop-step.invariant.goes,
-      outputs_fit inputs c.args.steps.now each,
-    )
+returns c workers octets frames =
+    let all = take_all c.loop-frame.frame-index c.args.frames.now c.loop-frame-test.false in
+    done_all workers octets _ _ _ (subst (λ l. HasDone (map input_of l) c.loop-frame.cache c.loop-frame.output.items) all c.loop-frame.invariant) frames

@@ -1,10 +1,7 @@
-use Rattle.std.proofs.Common.{◌≡◌, ◌≤◌, ◌++◌, [], drop}
-use Rattle.replay_meaning.specs.OutFrame.{outputs_spelling}
-use Rattle.dnsreplay.specs.Outputs.{cache_of, outputs_from}
+use Rattle.std.proofs.Common.{map, take}
+use Rattle.replay_meaning.specs.Frame.{input_of}
+use Rattle.dnsreplay.proofs.ReplayLemmas.{HasDone}
 use Rattle.dnsreplay.proofs.replay.replay.Given as goal
 
-abbrev pub invariant-loop-step : goal.invariant-loop-step
-invariant-loop-step l = record {
-  goes : l.output.items ++ outputs_spelling (outputs_from l.cache (drop l.step-index l.steps)) ≡ outputs_spelling (outputs_from (cache_of []) l.steps);
-  few : l.cache.version ≤ l.step-index;
-}
+abbrev pub invariant-loop-frame : goal.invariant-loop-frame
+invariant-loop-frame l = HasDone (map input_of (take l.frame-index l.frames)) l.cache l.output.items

@@ -1,15 +1,15 @@
 use Rattle.std.proofs.Common.{refl, inr}
 use Rattle.std.proofs.lemmas.List.{drop_more, drop_all}
-use Rattle.dnswire.proofs.DataLemmas.{walk_goes_on, walk_ends, walk_stops}
+use Rattle.dnswire.proofs.DataLemmas.{writes_more, writes_all, writes_no_more}
 use Rattle.dnswire.proofs.data.read_fields.Goals as goal
 
 pub loop-field-preserved : goal.loop-field-preserved
 loop-field-preserved c =
-    walk_goes_on _ _ _ _ _ _ _ _ _ _ _ c.loop-field.invariant (drop_more _ _ _ c.loop-field-test.true) (rw c.in-Ok-Some.field-0-is at c.in-Ok-Some.ensures)
+    writes_more _ _ _ _ _ _ _ _ _ _ _ c.loop-field.invariant (drop_more _ _ _ c.loop-field-test.true) (rw c.in-Ok-Some.field-0-is at c.in-Ok-Some.ensures)
 
 pub returns-in-Ok-None-clause-refused : goal.returns-in-Ok-None-clause-refused
 returns-in-Ok-None-clause-refused c =
-    inr (walk_stops _ _ _ _ _ _ _ _ _ c.loop-field.invariant (drop_more _ _ _ c.loop-field-test.true) (rw c.in-Ok-None.field-0-is at c.in-Ok-None.ensures), refl)
+    inr (writes_no_more _ _ _ _ _ _ _ _ _ c.loop-field.invariant (drop_more _ _ _ c.loop-field-test.true) (rw c.in-Ok-None.field-0-is at c.in-Ok-None.ensures), refl)
 
 pub returns-clause-read : goal.returns-clause-read
-returns-clause-read c = walk_ends _ _ _ _ _ _ _ c.loop-field.invariant (drop_all _ _ c.loop-field-test.false) c.if-here-end.false
+returns-clause-read c = writes_all _ _ _ _ _ _ _ c.loop-field.invariant (drop_all _ _ c.loop-field-test.false) c.if-here-end.false

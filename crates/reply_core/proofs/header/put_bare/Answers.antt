@@ -1,4 +1,4 @@
-use Rattle.reply_core.proofs.PageLemmas.{put-put}
+use Rattle.reply_core.proofs.DraftLemmas.{put-put}
 use Rattle.reply_core.proofs.header.put_bare.Goals as goal
 
 pub returns-clause-value : goal.returns-clause-value

@@ -1,5 +1,5 @@
 use Rattle.std.proofs.Common.{refl}
-use Rattle.reply_core.proofs.PageLemmas.{put-put, put-nil}
+use Rattle.reply_core.proofs.DraftLemmas.{put-put, put-nil}
 use Rattle.reply_core.proofs.header.put_opt.Goals as goal
 
 pub returns-in-Some : goal.returns-in-Some

@@ -1,5 +1,5 @@
 use Rattle.std.proofs.Common.{refl}
-use Rattle.reply_core.proofs.PageLemmas.{put-put}
+use Rattle.reply_core.proofs.DraftLemmas.{put-put}
 use Rattle.reply_core.proofs.owner.put_label.Goals as goal
 
 pub returns : goal.returns

@@ -1,6 +1,6 @@
 use Rattle.std.proofs.Common.{◌≡◌, length}
 use Rattle.byteorder.specs.Endian.{big_bytes}
-use Rattle.reply_core.proofs.PageLemmas.{put-put}
+use Rattle.reply_core.proofs.DraftLemmas.{put-put}
 use Rattle.reply_core.proofs.CountLemmas.{big_bytes-low16}
 use Rattle.reply_core.proofs.records.put_record.Goals as goal
 

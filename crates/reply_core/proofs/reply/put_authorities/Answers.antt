@@ -7,6 +7,6 @@ use Rattle.reply_core.proofs.reply.put_authorities.Goals as goal
 pub returns : goal.returns
 returns c =
     rw (c.put_denial-3.ensures, c.put_denial-2.ensures, c.put_denial.ensures, c.put_soa.ensures, c.wants_dnssec-dnssec.ensures)
-    (put-proof c.args.verdict.now.ttl c.args.page.now (proof_records (wants_dnssec c.args.question.now))
+    (put-proof c.args.verdict.now.ttl c.args.draft.now (proof_records (wants_dnssec c.args.question.now))
     (flat_map (λ set. set_records (wants_dnssec c.args.question.now) set.owner set) (listed (λ set. set_of set.now) c.args.verdict.now.soa))
     (listed denial_of c.args.verdict.now.first) (listed denial_of c.args.verdict.now.second) (listed denial_of c.args.verdict.now.third))

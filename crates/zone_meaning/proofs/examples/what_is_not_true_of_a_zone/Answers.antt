@@ -3,32 +3,33 @@ use Rattle.std.specs.Prelude.{codes}
 use Rattle.std.proofs.lemmas.Bool.Decides.{not_from_Decides}
 use Rattle.std.specs.List.{All, Contains}
 use Rattle.std.proofs.lemmas.List.Elements.{All-head}
-use Rattle.dname.specs.Name.{IsUnder}
-use Rattle.dname.proofs.CommonLemmas.{under_is_longer}
 use Rattle.std.specs.Cmp.Lexicographic.{bytes_decides}
+use Rattle.dname.specs.Name.{IsUnder}
 use Rattle.dname.specs.Name.{wire_of}
-use Rattle.zone_meaning.specs.Zone.{ZoneRecord, IsProofType, IsCut, ns_type, ds_type, rrsig_type, nsec_type, nsec3_type}
-use Rattle.zone_meaning.specs.Examples.{address, record_of, a_type, soa_type, mx_type, example, a_example, b_example, sub_example, two_hosts, one_cut, wildcards, soa_data}
+use Rattle.dname.specs.declared.types.TheConstants.{A_TYPE, DS_TYPE, MX_TYPE, NSEC3_TYPE, NSEC_TYPE, NS_TYPE, RRSIG_TYPE, SOA_TYPE}
+use Rattle.dname.proofs.CommonLemmas.{under_is_longer}
+use Rattle.zone_meaning.specs.Zone.{ZoneRecord, IsProofType, IsCut}
+use Rattle.zone_meaning.specs.Examples.{address, record_of, example, a_example, b_example, sub_example, two_hosts, one_cut, wildcards, soa_data}
 use Rattle.zone_meaning.proofs.ZoneTests.{here, later, nowhere, first_or_later, is_cut, cut_decides, has_type, has_type_decides, has_data, has_data_decides, is_live, live_decides}
 use Rattle.zone_meaning.proofs.ConsistentTests.{is_proof_type, proof_type_decides, inside_decides, lacks, lists}
 use Rattle.zone_meaning.proofs.examples.what_is_not_true_of_a_zone.Goals as goal
 
 pub returns : goal.returns
 returns c = record {
-  owner_outside = λ is. too_short (under_is_longer [] example (only (λ (r : ZoneRecord). IsUnder r.owner example) (record_of [] a_type (address 1)) is.owners));
-  rrsig_kept = λ is. only (λ (r : ZoneRecord). IsProofType r.rtype → ⊥) (record_of example rrsig_type []) is.types (inl refl);
-  nsec_kept = λ is. only (λ (r : ZoneRecord). IsProofType r.rtype → ⊥) (record_of example nsec_type []) is.types (inr (inl refl));
-  nsec3_kept = λ is. only (λ (r : ZoneRecord). IsProofType r.rtype → ⊥) (record_of example nsec3_type []) is.types (inr (inr refl));
+  owner_outside = λ is. too_short (under_is_longer [] example (only (λ (r : ZoneRecord). IsUnder r.owner example) (record_of [] A_TYPE (address 1)) is.owners));
+  rrsig_kept = λ is. only (λ (r : ZoneRecord). IsProofType r.rtype → ⊥) (record_of example RRSIG_TYPE []) is.types (inl refl);
+  nsec_kept = λ is. only (λ (r : ZoneRecord). IsProofType r.rtype → ⊥) (record_of example NSEC_TYPE []) is.types (inr (inl refl));
+  nsec3_kept = λ is. only (λ (r : ZoneRecord). IsProofType r.rtype → ⊥) (record_of example NSEC3_TYPE []) is.types (inr (inr refl));
   next_skipped = λ is. is.none_between b_example ((live_decides two_hosts b_example).0 refl) ((inside_decides a_example example b_example).0 refl);
-  type_missing = λ is. lacks (rrsig_type ∷ nsec_type ∷ []) a_type refl
-      ((is.types_agree a_type (not_from_Decides (is_proof_type a_type) (proof_type_decides a_type) refl) (λ cut. absurd (whole cut))).0 ((has_type_decides two_hosts a_example a_type).0 refl));
-  type_added = λ is. not_from_Decides (has_type two_hosts a_example mx_type) (has_type_decides two_hosts a_example mx_type) refl
-      ((is.types_agree mx_type (not_from_Decides (is_proof_type mx_type) (proof_type_decides mx_type) refl) (λ cut. absurd (whole cut))).1 (lists (a_type ∷ mx_type ∷ rrsig_type ∷ nsec_type ∷ []) mx_type refl));
-  ds_added = λ is. not_from_Decides (has_type one_cut sub_example ds_type) (has_type_decides one_cut sub_example ds_type) refl
-      ((is.types_agree ds_type (not_from_Decides (is_proof_type ds_type) (proof_type_decides ds_type) refl) (λ cut. inr (inl refl))).1 (lists (ns_type ∷ ds_type ∷ rrsig_type ∷ nsec_type ∷ []) ds_type refl));
+  type_missing = λ is. lacks (RRSIG_TYPE ∷ NSEC_TYPE ∷ []) A_TYPE refl
+      ((is.types_agree A_TYPE (not_from_Decides (is_proof_type A_TYPE) (proof_type_decides A_TYPE) refl) (λ cut. absurd (whole cut))).0 ((has_type_decides two_hosts a_example A_TYPE).0 refl));
+  type_added = λ is. not_from_Decides (has_type two_hosts a_example MX_TYPE) (has_type_decides two_hosts a_example MX_TYPE) refl
+      ((is.types_agree MX_TYPE (not_from_Decides (is_proof_type MX_TYPE) (proof_type_decides MX_TYPE) refl) (λ cut. absurd (whole cut))).1 (lists (A_TYPE ∷ MX_TYPE ∷ RRSIG_TYPE ∷ NSEC_TYPE ∷ []) MX_TYPE refl));
+  ds_added = λ is. not_from_Decides (has_type one_cut sub_example DS_TYPE) (has_type_decides one_cut sub_example DS_TYPE) refl
+      ((is.types_agree DS_TYPE (not_from_Decides (is_proof_type DS_TYPE) (proof_type_decides DS_TYPE) refl) (λ cut. inr (inl refl))).1 (lists (NS_TYPE ∷ DS_TYPE ∷ RRSIG_TYPE ∷ NSEC_TYPE ∷ []) DS_TYPE refl));
   next_is_glue = λ is. not_from_Decides (is_live one_cut (codes "ns" ∷ sub_example)) (live_decides one_cut (codes "ns" ∷ sub_example)) refl is.next_live;
-  item_missing = λ is. lacks_item ((is.data_there (wire_of (codes "ns" ∷ codes "example" ∷ codes "net" ∷ []))).1 ((has_data_decides wildcards example ns_type (wire_of (codes "ns" ∷ codes "example" ∷ codes "net" ∷ []))).0 refl));
-  item_added = λ is. not_from_Decides (has_data two_hosts example soa_type []) (has_data_decides two_hosts example soa_type []) refl ((is.data_there []).0 (later soa_data ([] ∷ []) [] (here [] [])));
+  item_missing = λ is. lacks_item ((is.data_there (wire_of (codes "ns" ∷ codes "example" ∷ codes "net" ∷ []))).1 ((has_data_decides wildcards example NS_TYPE (wire_of (codes "ns" ∷ codes "example" ∷ codes "net" ∷ []))).0 refl));
+  item_added = λ is. not_from_Decides (has_data two_hosts example SOA_TYPE []) (has_data_decides two_hosts example SOA_TYPE []) refl ((is.data_there []).0 (later soa_data ([] ∷ []) [] (here [] [])));
   no_items = λ is. is.not_empty refl;
   of_another_zone = λ is. omega (arith, ap length is.apex);
   glue_at_the_cut = λ is. not_ds (is.authority ((cut_decides one_cut sub_example).0 refl));
@@ -44,7 +45,7 @@ returns c = record {
     whole : IsCut two_hosts a_example → ⊥
     whole = not_from_Decides (is_cut two_hosts a_example) (cut_decides two_hosts a_example) refl
 
-    not_ds : a_type ≡ ds_type → ⊥
+    not_ds : A_TYPE ≡ DS_TYPE → ⊥
     not_ds e = omega arith
 
     lacks_item : Contains (wire_of (codes "ns" ∷ codes "example" ∷ codes "com" ∷ []) ∷ []) (wire_of (codes "ns" ∷ codes "example" ∷ codes "net" ∷ [])) → ⊥

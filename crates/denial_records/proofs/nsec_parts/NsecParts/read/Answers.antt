@@ -19,15 +19,15 @@ returns-in-Ok-read-clause-bad_name c = (
 
 pub returns-in-Ok-read-clause-bad_map : goal.returns-in-Ok-read-clause-bad_map
 returns-in-Ok-read-clause-bad_map c =
-    let read = is_read c.args.octets.now c.in-Ok.read c.behind.result.now (λ name taken spells. ok_same _ _ (c.in-Ok.ensures.every_name name taken spells)) c.behind.ensures in (
+    let read = is_read c.args.octets.now c.in-Ok.read c.octets_from.result.now (λ name taken spells. ok_same _ _ (c.in-Ok.ensures.every_name name taken spells)) c.octets_from.ensures in (
       λ is. absurd (ok_is_no_err is),
-      λ bad. absurd (nsec_rest_bad c.args.octets.now c.in-Ok.read.0 c.in-Ok.read.1 c.behind.result.now read bad c.in-Ok-read.types c.in-Ok-read.ensures.read),
+      λ bad. absurd (nsec_rest_bad c.args.octets.now c.in-Ok.read.0 c.in-Ok.read.1 c.octets_from.result.now read bad c.in-Ok-read.types c.in-Ok-read.ensures.read),
     )
 
 pub returns-in-Ok-read-clause-every_nsec : goal.returns-in-Ok-read-clause-every_nsec
 returns-in-Ok-read-clause-every_nsec c parts is =
-    let read = is_read c.args.octets.now c.in-Ok.read c.behind.result.now (λ name taken spells. ok_same _ _ (c.in-Ok.ensures.every_name name taken spells)) c.behind.ensures in
-    inl (ap Ok (one_nsec c.args.octets.now c.in-Ok.read.0 c.in-Ok.read.1 c.behind.result.now c.in-Ok-read.types parts read c.in-Ok-read.ensures.read is))
+    let read = is_read c.args.octets.now c.in-Ok.read c.octets_from.result.now (λ name taken spells. ok_same _ _ (c.in-Ok.ensures.every_name name taken spells)) c.octets_from.ensures in
+    inl (ap Ok (one_nsec c.args.octets.now c.in-Ok.read.0 c.in-Ok.read.1 c.octets_from.result.now c.in-Ok-read.types parts read c.in-Ok-read.ensures.read is))
 
 pub returns-in-Err-BadMap-clause-bad_name : goal.returns-in-Err-BadMap-clause-bad_name
 returns-in-Err-BadMap-clause-bad_name c = (
@@ -37,15 +37,15 @@ returns-in-Err-BadMap-clause-bad_name c = (
 
 pub returns-in-Err-BadMap-clause-bad_map : goal.returns-in-Err-BadMap-clause-bad_map
 returns-in-Err-BadMap-clause-bad_map c = (
-  λ is. nsec_bad c.args.octets.now c.in-Ok.read.0 c.in-Ok.read.1 c.behind.result.now c.in-Ok.ensures.read c.behind.ensures
+  λ is. nsec_bad c.args.octets.now c.in-Ok.read.0 c.in-Ok.read.1 c.octets_from.result.now c.in-Ok.ensures.read c.octets_from.ensures
       (c.in-Err-BadMap.ensures.bad_map.0 (ap Err c.in-Err-BadMap.field-0-is)),
   λ bad. refl,
 )
 
 pub returns-in-Err-BadMap-clause-every_nsec : goal.returns-in-Err-BadMap-clause-every_nsec
 returns-in-Err-BadMap-clause-every_nsec c parts is =
-    let read = is_read c.args.octets.now c.in-Ok.read c.behind.result.now (λ name taken spells. ok_same _ _ (c.in-Ok.ensures.every_name name taken spells)) c.behind.ensures in
-    absurd (nsec_none c.args.octets.now c.in-Ok.read.0 c.in-Ok.read.1 c.behind.result.now parts read (c.in-Err-BadMap.ensures.bad_map.0 (ap Err c.in-Err-BadMap.field-0-is)) is)
+    let read = is_read c.args.octets.now c.in-Ok.read c.octets_from.result.now (λ name taken spells. ok_same _ _ (c.in-Ok.ensures.every_name name taken spells)) c.octets_from.ensures in
+    absurd (nsec_none c.args.octets.now c.in-Ok.read.0 c.in-Ok.read.1 c.octets_from.result.now parts read (c.in-Err-BadMap.ensures.bad_map.0 (ap Err c.in-Err-BadMap.field-0-is)) is)
 
 pub returns-in-Err-OutOfMemory-clause-bad_name : goal.returns-in-Err-OutOfMemory-clause-bad_name
 returns-in-Err-OutOfMemory-clause-bad_name c = (
@@ -55,13 +55,13 @@ returns-in-Err-OutOfMemory-clause-bad_name c = (
 
 pub returns-in-Err-OutOfMemory-clause-bad_map : goal.returns-in-Err-OutOfMemory-clause-bad_map
 returns-in-Err-OutOfMemory-clause-bad_map c =
-    let read = is_read c.args.octets.now c.in-Ok.read c.behind.result.now (λ name taken spells. ok_same _ _ (c.in-Ok.ensures.every_name name taken spells)) c.behind.ensures in (
+    let read = is_read c.args.octets.now c.in-Ok.read c.octets_from.result.now (λ name taken spells. ok_same _ _ (c.in-Ok.ensures.every_name name taken spells)) c.octets_from.ensures in (
       λ is. cc,
       λ bad. absurd (not_bad c.in-Err-OutOfMemory.field-0 c.in-Err-OutOfMemory.field-0-is
-          (err_same _ _ (c.in-Err-OutOfMemory.ensures.bad_map.1 (nsec_rest_bad c.args.octets.now c.in-Ok.read.0 c.in-Ok.read.1 c.behind.result.now read bad)))),
+          (err_same _ _ (c.in-Err-OutOfMemory.ensures.bad_map.1 (nsec_rest_bad c.args.octets.now c.in-Ok.read.0 c.in-Ok.read.1 c.octets_from.result.now read bad)))),
     )
 
 pub returns-in-Err-OutOfMemory-clause-out_of_memory : goal.returns-in-Err-OutOfMemory-clause-out_of_memory
 returns-in-Err-OutOfMemory-clause-out_of_memory c is =
     let map = c.in-Err-OutOfMemory.ensures.out_of_memory (ap Err c.in-Err-OutOfMemory.field-0-is) in
-    nsec_of c.args.octets.now c.in-Ok.read.0 c.in-Ok.read.1 c.behind.result.now map.0 c.in-Ok.ensures.read c.behind.ensures map.1
+    nsec_of c.args.octets.now c.in-Ok.read.0 c.in-Ok.read.1 c.octets_from.result.now map.0 c.in-Ok.ensures.read c.octets_from.ensures map.1

@@ -6,12 +6,12 @@ use Rattle.denial_records.proofs.type_set.TypeSet.has.Goals as goal
 
 pub returns-then-block-window-clause-answer : goal.returns-then-block-window-clause-answer
 returns-then-block-window-clause-answer c =
-    look_here c.args.self.now c.args.rtype c.loop-block.rest.now c.in-Some.block.window c.in-Some.block.bitmap.now c.in-Some.behind.now c.has_bit.result
+    look_here c.args.self.now c.args.rtype c.loop-block.rest.now c.in-Some.block.window c.in-Some.block.bitmap.now c.in-Some.after.now c.has_bit.result
     c.loop-block.invariant c.in-Some.ensures c.if-block-window.true (c.has_bit.ensures ∙ ap (has_bit c.in-Some.block.bitmap.now) c.from-bit.ensures)
 
 pub loop-block-preserved : goal.loop-block-preserved
 loop-block-preserved c =
-    look_past c.args.self.now c.args.rtype c.loop-block.rest.now c.in-Some.block.window c.in-Some.block.bitmap.now c.in-Some.behind.now
+    look_past c.args.self.now c.args.rtype c.loop-block.rest.now c.in-Some.block.window c.in-Some.block.bitmap.now c.in-Some.after.now
     c.loop-block.invariant c.in-Some.ensures c.if-block-window.false
 
 pub returns-clause-answer : goal.returns-clause-answer

@@ -1,4 +1,4 @@
-use Rattle.reply_core.proofs.PageLemmas.{put-put}
+use Rattle.reply_core.proofs.DraftLemmas.{put-put}
 use Rattle.reply_core.proofs.owner.Owner.put.Goals as goal
 
 pub returns-in-Hashed : goal.returns-in-Hashed

@@ -1,0 +1,524 @@
+use crate::{Chain, Place, PlainStore, answer, is_forwarded, prove};
+use denial_records::{
+    Batch, Kind, Nsec3Rec, NsecRec, Record, RecordList, SetRec, TypeSet, Verdict,
+};
+use dname::{Name, NameFault, Octets, OctetsList, OutOfMemory};
+use nsec3_hash::{from_base32hex, hash_name};
+use std::alloc::Global;
+use std::test::Fail;
+
+const THEN: u32 = 1_083_000_000;
+
+const ZONE: &[u8] = b"\x07example\x00";
+
+// The data of the SOA of RFC 4035, appendix A: its MINIMUM is 3,600.
+const SOA_DATA: &[u8] =
+    b"\x03ns1\x07example\x00\x04bugs\x01x\x01w\x07example\x00\x40\x76\xdb\x31\x00\x00\x0e\x10\x00\x00\x01\x2c\x00\x36\xee\x80\x00\x00\x0e\x10";
+
+const SALT: [u8; 4] = [0xAA, 0xBB, 0xCC, 0xDD];
+
+fn name(wire: &[u8]) -> Result<Name, NameFault> {
+    let (name, _) = Name::read(wire)?;
+    Ok(name)
+}
+
+fn list_of(alloc: Global, octets: &[u8]) -> Result<OctetsList, OutOfMemory> {
+    let mut list = OctetsList::empty(alloc);
+    list.push(Octets::of(alloc, octets)?)?;
+    Ok(list)
+}
+
+fn set(
+    alloc: Global,
+    zone: &[u8],
+    owner: &[u8],
+    rtype: u16,
+    life: u32,
+    octets: &[u8],
+) -> Result<Record, Fail> {
+    Ok(Record::Set(SetRec {
+        zone: name(zone)?,
+        owner: name(owner)?,
+        rtype,
+        life,
+        expiry: u64::from(THEN) + u64::from(life),
+        items: list_of(alloc, octets)?,
+        signatures: list_of(alloc, b"")?,
+    }))
+}
+
+fn nsec(alloc: Global, owner: &[u8], next: &[u8], types: &[u8], life: u32) -> Result<Record, Fail> {
+    Ok(Record::Nsec(NsecRec {
+        zone: name(ZONE)?,
+        owner: name(owner)?,
+        next: name(next)?,
+        types: TypeSet::read(alloc, types)?,
+        life,
+        expiry: u64::from(THEN) + u64::from(life),
+        image: Octets::of(alloc, b"")?,
+        signatures: list_of(alloc, b"")?,
+    }))
+}
+
+fn nsec3(
+    alloc: Global,
+    hash: &[u8],
+    next: &[u8],
+    types: &[u8],
+    iterations: u16,
+    opt_out: bool,
+) -> Result<Record, Fail> {
+    Ok(Record::Nsec3(Nsec3Rec {
+        zone: name(ZONE)?,
+        hash: from_base32hex(hash).unwrap_or([0; 20]),
+        next: from_base32hex(next).unwrap_or([0; 20]),
+        salt: Octets::of(alloc, &SALT)?,
+        iterations,
+        opt_out,
+        types: TypeSet::read(alloc, types)?,
+        life: 3600,
+        expiry: u64::from(THEN) + 3600,
+        image: Octets::of(alloc, b"")?,
+        signatures: list_of(alloc, b"")?,
+    }))
+}
+
+fn with(store: &PlainStore, alloc: Global, now: u32, item: Record) -> Result<PlainStore, Fail> {
+    let mut batch = Batch {
+        now,
+        records: RecordList::empty(alloc),
+    };
+    batch.records.push(item)?;
+    Ok(store.with_batch(alloc, &batch)?)
+}
+
+fn denials(verdict: &Verdict<'_>) -> u8 {
+    u8::from(verdict.first.is_some())
+        + u8::from(verdict.second.is_some())
+        + u8::from(verdict.third.is_some())
+}
+
+// What is said, by how many denial records, and the TTL.
+fn said(
+    store: &PlainStore,
+    wire: &[u8],
+    qtype: u16,
+    now: u32,
+) -> Result<Option<(Kind, u8, u32)>, NameFault> {
+    Ok(prove(store, &name(wire)?, qtype, now).map(|verdict| (
+        verdict.kind,
+        denials(&verdict),
+        verdict.ttl,
+    )))
+}
+
+// The zone's SOA.
+fn zone_with_soa(alloc: Global) -> Result<PlainStore, Fail> {
+    let soa = set(alloc, ZONE, ZONE, 6, 3600, SOA_DATA)?;
+    with(&PlainStore::empty(alloc), alloc, THEN, soa)
+}
+
+// The NSEC records of RFC 4035, appendix A.
+const NSECS: [(&[u8], &[u8], &[u8]); 10] = [
+    (
+        ZONE,
+        b"\x01a\x07example\x00",
+        b"\x00\x07\x22\x01\x00\x00\x00\x03\x80",
+    ),
+    (
+        b"\x01a\x07example\x00",
+        b"\x02ai\x07example\x00",
+        b"\x00\x06\x20\x00\x00\x00\x00\x13",
+    ),
+    (
+        b"\x02ai\x07example\x00",
+        b"\x01b\x07example\x00",
+        b"\x00\x06\x40\x04\x00\x08\x00\x03",
+    ),
+    (
+        b"\x01b\x07example\x00",
+        b"\x03ns1\x07example\x00",
+        b"\x00\x06\x20\x00\x00\x00\x00\x03",
+    ),
+    (
+        b"\x03ns1\x07example\x00",
+        b"\x03ns2\x07example\x00",
+        b"\x00\x06\x40\x00\x00\x00\x00\x03",
+    ),
+    (
+        b"\x03ns2\x07example\x00",
+        b"\x01*\x01w\x07example\x00",
+        b"\x00\x06\x40\x00\x00\x00\x00\x03",
+    ),
+    (
+        b"\x01*\x01w\x07example\x00",
+        b"\x01x\x01w\x07example\x00",
+        b"\x00\x06\x00\x01\x00\x00\x00\x03",
+    ),
+    (
+        b"\x01x\x01w\x07example\x00",
+        b"\x01x\x01y\x01w\x07example\x00",
+        b"\x00\x06\x00\x01\x00\x00\x00\x03",
+    ),
+    (
+        b"\x01x\x01y\x01w\x07example\x00",
+        b"\x02xx\x07example\x00",
+        b"\x00\x06\x00\x01\x00\x00\x00\x03",
+    ),
+    (
+        b"\x02xx\x07example\x00",
+        ZONE,
+        b"\x00\x06\x40\x04\x00\x08\x00\x03",
+    ),
+];
+
+// The NSEC records of RFC 4035, appendix A, with its SOA and the MX of its wildcard.
+fn signed_zone(alloc: Global) -> Result<PlainStore, Fail> {
+    let mut store = zone_with_soa(alloc)?;
+    let wildcard = set(alloc, ZONE, b"\x01*\x01w\x07example\x00", 15, 3600, b"")?;
+    store = with(&store, alloc, THEN, wildcard)?;
+    for (owner, next, types) in NSECS {
+        let item = nsec(alloc, owner, next, types, 3600)?;
+        store = with(&store, alloc, THEN, item)?;
+    }
+    Ok(store)
+}
+
+// The answers of RFC 4035, appendix B, as far as kept NSEC records give them: kind, denial records and TTL.
+const ANSWERS: [(&[u8], u16, Option<(Kind, u8, u32)>); 15] = [
+    // A name error (B.2).
+    (b"\x02ml\x07example\x00", 1, Some((Kind::NxDomain, 2, 3600))),
+    // No data (B.3), in any case of letters.
+    (b"\x03ns1\x07example\x00", 15, Some((Kind::NoData, 1, 3600))),
+    (b"\x03NS1\x07eXample\x00", 15, Some((Kind::NoData, 1, 3600))),
+    (b"\x03ns1\x07example\x00", 1, None),
+    // Below a signed and an unsigned cut (B.4, B.5); no DS at the latter, and no more is known there.
+    (b"\x02mc\x01a\x07example\x00", 15, None),
+    (b"\x02mc\x01b\x07example\x00", 15, None),
+    (b"\x01b\x07example\x00", 43, Some((Kind::NoData, 1, 3600))),
+    (b"\x01b\x07example\x00", 1, None),
+    // A wildcard answers (B.6), and has no such data (B.7).
+    (
+        b"\x01a\x01z\x01w\x07example\x00",
+        15,
+        Some((Kind::Answer, 1, 3600)),
+    ),
+    (
+        b"\x01a\x01z\x01w\x07example\x00",
+        28,
+        Some((Kind::NoData, 2, 3600)),
+    ),
+    // The DS of the apex is its parent's (B.8).
+    (b"\x07example\x00", 43, None),
+    (b"\x07example\x00", 1, Some((Kind::NoData, 1, 3600))),
+    // A name that exists without records, a name behind the last one, and one of no zone.
+    (
+        b"\x01y\x01w\x07example\x00",
+        1,
+        Some((Kind::NoData, 1, 3600)),
+    ),
+    (b"\x01z\x07example\x00", 1, Some((Kind::NxDomain, 2, 3600))),
+    (b"\x03com\x00", 1, None),
+];
+
+#[test]
+fn the_zone_of_rfc_4035(rt: HostRuntime) -> Result<(), Fail> {
+    let store = signed_zone(rt.alloc())?;
+    assert_eq!(rt; store.len(), 12);
+    for (wire, qtype, expected) in ANSWERS {
+        assert_eq!(rt;
+            said(&store, wire, qtype, THEN)?,
+            expected,
+            "{wire:?} {qtype}"
+        );
+    }
+    Ok(())
+}
+
+// The NSEC3 records of RFC 5155, appendix A: hash, next hash and types.
+const NSEC3S: [(&[u8], &[u8], &[u8]); 12] = [
+    (
+        b"0p9mhaveqvm6t7vbl5lop2u3t2rp3tom",
+        b"2t7b4g4vsa5smi47k61mv5bv1a22bojr",
+        b"\x00\x07\x22\x01\x00\x00\x00\x02\x90",
+    ),
+    (
+        b"2t7b4g4vsa5smi47k61mv5bv1a22bojr",
+        b"2vptu5timamqttgl4luu9kg21e0aor3s",
+        b"\x00\x06\x40\x00\x00\x00\x00\x02",
+    ),
+    (
+        b"2vptu5timamqttgl4luu9kg21e0aor3s",
+        b"35mthgpgcu1qg68fab165klnsnk3dpvl",
+        b"\x00\x06\x00\x01\x00\x00\x00\x02",
+    ),
+    (
+        b"35mthgpgcu1qg68fab165klnsnk3dpvl",
+        b"b4um86eghhds6nea196smvmlo4ors995",
+        b"\x00\x06\x20\x00\x00\x00\x00\x12",
+    ),
+    (
+        b"b4um86eghhds6nea196smvmlo4ors995",
+        b"gjeqe526plbf1g8mklp59enfd789njgi",
+        b"\x00\x06\x00\x01\x00\x00\x00\x02",
+    ),
+    (
+        b"gjeqe526plbf1g8mklp59enfd789njgi",
+        b"ji6neoaepv8b5o6k4ev33abha8ht9fgc",
+        b"\x00\x06\x40\x04\x00\x08\x00\x02",
+    ),
+    (
+        b"ji6neoaepv8b5o6k4ev33abha8ht9fgc",
+        b"k8udemvp1j2f7eg6jebps17vp3n8i58h",
+        b"",
+    ),
+    (
+        b"k8udemvp1j2f7eg6jebps17vp3n8i58h",
+        b"kohar7mbb8dc2ce8a9qvl8hon4k53uhi",
+        b"",
+    ),
+    (
+        b"kohar7mbb8dc2ce8a9qvl8hon4k53uhi",
+        b"q04jkcevqvmu85r014c7dkba38o0ji5r",
+        b"\x00\x06\x40\x00\x00\x00\x00\x02",
+    ),
+    (
+        b"q04jkcevqvmu85r014c7dkba38o0ji5r",
+        b"r53bq7cc2uvmubfu5ocmm6pers9tk9en",
+        b"\x00\x06\x40\x00\x00\x00\x00\x02",
+    ),
+    (
+        b"r53bq7cc2uvmubfu5ocmm6pers9tk9en",
+        b"t644ebqk9bibcna874givr6joj62mlhv",
+        b"\x00\x06\x00\x01\x00\x00\x00\x02",
+    ),
+    (
+        b"t644ebqk9bibcna874givr6joj62mlhv",
+        b"0p9mhaveqvm6t7vbl5lop2u3t2rp3tom",
+        b"\x00\x06\x40\x04\x00\x08\x00\x02",
+    ),
+];
+
+// The zone of RFC 5155 with the Opt-Out flag as given.
+fn hashed_zone(alloc: Global, opt_out: bool) -> Result<PlainStore, Fail> {
+    let mut store = zone_with_soa(alloc)?;
+    let wildcard = set(alloc, ZONE, b"\x01*\x01w\x07example\x00", 15, 3600, b"")?;
+    store = with(&store, alloc, THEN, wildcard)?;
+    for (hash, next, types) in NSEC3S {
+        let item = nsec3(alloc, hash, next, types, 12, opt_out)?;
+        store = with(&store, alloc, THEN, item)?;
+    }
+    Ok(store)
+}
+
+// The answers of RFC 5155, appendix B, and whether they rest on a covered name.
+const HASHED_ANSWERS: [(&[u8], u16, Option<(Kind, u8, u32)>, bool); 7] = [
+    // A name error (B.1).
+    (
+        b"\x01a\x01c\x01x\x01w\x07example\x00",
+        1,
+        Some((Kind::NxDomain, 3, 3600)),
+        true,
+    ),
+    // No data (B.2), and a name without records (B.2.1).
+    (
+        b"\x03ns1\x07example\x00",
+        15,
+        Some((Kind::NoData, 1, 3600)),
+        false,
+    ),
+    (
+        b"\x01y\x01w\x07example\x00",
+        1,
+        Some((Kind::NoData, 1, 3600)),
+        false,
+    ),
+    // A wildcard answers (B.4), and has no such data (B.5).
+    (
+        b"\x01a\x01z\x01w\x07example\x00",
+        15,
+        Some((Kind::Answer, 1, 3600)),
+        true,
+    ),
+    (
+        b"\x01a\x01z\x01w\x07example\x00",
+        28,
+        Some((Kind::NoData, 3, 3600)),
+        true,
+    ),
+    // The DS of the apex is its parent's (B.6).
+    (b"\x07example\x00", 43, None, true),
+    // Below a signed cut.
+    (b"\x02mc\x01a\x07example\x00", 15, None, true),
+];
+
+// The answers of RFC 5155, appendix B. With the flag as there, what rests on a covered name is forwarded (RFC 8198, section
+// 5.2); with the flag clear the same records prove it.
+#[test]
+fn the_zone_of_rfc_5155(rt: HostRuntime) -> Result<(), Fail> {
+    let published = hashed_zone(rt.alloc(), true)?;
+    let clear = hashed_zone(rt.alloc(), false)?;
+    assert_eq!(rt; published.len(), 14);
+    for (wire, qtype, expected, by_cover) in HASHED_ANSWERS {
+        assert_eq!(rt;
+            said(&clear, wire, qtype, THEN)?,
+            expected,
+            "{wire:?} {qtype}"
+        );
+        let spanned = if by_cover { None } else { expected };
+        assert_eq!(rt;
+            said(&published, wire, qtype, THEN)?,
+            spanned,
+            "{wire:?} {qtype}"
+        );
+    }
+    Ok(())
+}
+
+#[test]
+fn a_ttl_is_the_least_that_is_left(rt: HostRuntime) -> Result<(), Fail> {
+    let alloc = rt.alloc();
+    let host = b"\x03ns1\x07example\x00".as_slice();
+    // What remains, of an SOA's life, an SOA's MINIMUM and an NSEC's life.
+    for (soa_life, minimum, nsec_life, after, expected) in [
+        (3600, 3600, 3600, 0, Some(3600)),
+        (3600, 3600, 3600, 3599, Some(1)),
+        (3600, 3600, 3600, 3600, None),
+        (7200, 7200, 3600, 3600, None),
+        (3600, 7200, 7200, 3600, None),
+        (7200, 300, 3600, 3200, Some(300)),
+        (7200, 300, 3600, 3400, Some(200)),
+        (7200, 0, 3600, 0, Some(0)),
+        (900, 3600, 3600, 100, Some(800)),
+    ] {
+        let mut octets = [0_u8; 22];
+        octets[18..].copy_from_slice(&u32::to_be_bytes(minimum));
+        let soa = set(alloc, ZONE, ZONE, 6, soa_life, &octets)?;
+        let mut store = with(&PlainStore::empty(alloc), alloc, THEN, soa)?;
+        let item = nsec(
+            alloc,
+            host,
+            b"\x03ns2\x07example\x00",
+            b"\x00\x01\x40",
+            nsec_life,
+        )?;
+        store = with(&store, alloc, THEN, item)?;
+        let ttl = said(&store, host, 15, THEN + after)?.map(|said| said.2);
+        assert_eq!(rt; ttl, expected, "{soa_life} {minimum} {nsec_life} {after}");
+    }
+    Ok(())
+}
+
+// A zone goes from NSEC to NSEC3, and then changes its iterations: the third chain goes with its record.
+#[test]
+fn a_zone_keeps_its_two_newest_chains(rt: HostRuntime) -> Result<(), Fail> {
+    let alloc = rt.alloc();
+    let first = b"0p9mhaveqvm6t7vbl5lop2u3t2rp3tom".as_slice();
+    let mut store = zone_with_soa(alloc)?;
+    let own = nsec(alloc, ZONE, b"\x01a\x07example\x00", b"\x00\x01\x40", 3600)?;
+    store = with(&store, alloc, THEN, own)?;
+    for iterations in [12, 11] {
+        let item = nsec3(alloc, first, first, b"", iterations, false)?;
+        store = with(&store, alloc, THEN, item)?;
+        assert_eq!(rt; store.len(), 3);
+    }
+    let Some(zone) = store.zone_for(&name(b"\x01a\x07example\x00")?, 1) else {
+        panic!(rt; "no zone");
+    };
+    assert_eq!(rt; zone.apex(), &name(ZONE)?);
+    for (chain, expected) in zone.chains().iter().zip([11, 12].iter()) {
+        match chain {
+            Chain::Nsec3 { salt, iterations } => {
+                assert_eq!(rt; (*salt, iterations), (SALT.as_slice(), expected));
+            }
+            _ => panic!(rt; "not an NSEC3 chain"),
+        }
+    }
+    assert!(rt; zone.nsec_at(&name(ZONE)?).is_none());
+    Ok(())
+}
+
+#[test]
+fn what_a_zone_lends(rt: HostRuntime) -> Result<(), Fail> {
+    let store = signed_zone(rt.alloc())?;
+    // Expired records are lent too. A DS is asked of the zone above.
+    let Some(zone) = store.zone_for(&name(b"\x01b\x07example\x00")?, 43) else {
+        panic!(rt; "no zone");
+    };
+    assert!(rt; matches!(zone.chains(), [Chain::Nsec, Chain::Bare]));
+    let wildcard = name(b"\x01*\x01w\x07example\x00")?;
+    for (rtype, expected) in [(15, true), (1, false)] {
+        assert_eq!(rt;
+            zone.set_at(&wildcard, rtype).is_some(),
+            expected,
+            "{rtype}"
+        );
+    }
+    for (wire, place) in [
+        (b"\x01b\x07example\x00".as_slice(), Place::Start),
+        (b"\x01c\x07example\x00".as_slice(), Place::Inside),
+    ] {
+        let Some((found, at)) = zone.nsec_at(&name(wire)?) else {
+            panic!(rt; "no record");
+        };
+        assert_eq!(rt;
+            (&found.owner, at),
+            (&name(b"\x01b\x07example\x00")?, place)
+        );
+    }
+    assert!(rt; store.zone_for(&name(ZONE)?, 43).is_none());
+    Ok(())
+}
+
+#[test]
+fn what_a_hashed_zone_lends(rt: HostRuntime) -> Result<(), Fail> {
+    let store = hashed_zone(rt.alloc(), false)?;
+    let Some(zone) = store.zone_for(&name(ZONE)?, 1) else {
+        panic!(rt; "no zone");
+    };
+    for (wire, iterations, expected) in [
+        (b"\x03ns1\x07example\x00".as_slice(), 12, Some(Place::Start)),
+        (
+            b"\x01c\x01x\x01w\x07example\x00".as_slice(),
+            12,
+            Some(Place::Inside),
+        ),
+        // Of no chain that is held.
+        (b"\x03ns1\x07example\x00".as_slice(), 11, None),
+    ] {
+        let hash = hash_name(&name(wire)?, &SALT, iterations);
+        let place = zone.nsec3_at(&SALT, iterations, &hash).map(|found| found.1);
+        assert_eq!(rt; place, expected, "{wire:?}");
+    }
+    Ok(())
+}
+
+#[test]
+fn some_queries_are_forwarded(rt: HostRuntime) -> Result<(), Fail> {
+    // Where it isn't forwarded the same records answer, in class IN alone.
+    let store = signed_zone(rt.alloc())?;
+    for (qclass, expected) in [(1, true), (0, false), (3, false), (255, false)] {
+        let verdict = answer(&store, &name(b"\x03ns1\x07example\x00")?, 15, qclass, THEN);
+        assert_eq!(rt; verdict.is_some(), expected, "{qclass}");
+    }
+    for (qtype, expected) in [
+        (0, true),
+        (1, false),
+        (41, true),
+        (43, false),
+        (46, true),
+        (47, true),
+        (48, false),
+        (50, true),
+        (51, false),
+        (127, false),
+        (128, true),
+        (250, true),
+        (255, true),
+        (256, false),
+        (257, false),
+    ] {
+        assert_eq!(rt; is_forwarded(qtype), expected, "{qtype}");
+    }
+    Ok(())
+}

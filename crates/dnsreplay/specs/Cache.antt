@@ -1,0 +1,18 @@
+-- What the calls of a cache say and leave.
+use Rattle.std.specs.Prelude.{◌≡◌, ℕ, ◌+◌, List, Some, None}
+use Rattle.dnswire.specs.declared.question.Question.{Question}
+use Rattle.denial_records.specs.declared.batch.Batch.{Batch}
+use Rattle.cache_meaning.specs.Held.{held_after}
+use Rattle.replay_meaning.specs.Outcome.{reply_in}
+use Rattle.replay_meaning.specs.Version.{Version}
+use Rattle.dnsreplay.specs.declared.cache.Outcome.{Outcome}
+use Rattle.dnsreplay.specs.declared.cache.Outcome.TheVariants.{Answered, Forward}
+
+-- a query at the version has the outcome; the octets are its reply, where it is answered
+abbrev pub IsOutcome : Version → Question → ℕ → Outcome → List ℕ → Type 0
+IsOutcome version question now (Answered number) octets = (number ≡ version.number) × (reply_in version.held question now ≡ Some octets)
+IsOutcome version question now (Forward number) octets = (number ≡ version.number) × (reply_in version.held question now ≡ None)
+
+-- the version that the batch makes
+abbrev pub with_batch : Version → Batch → Version
+with_batch version batch = record { held = held_after version.held batch; number = version.number + 1 }

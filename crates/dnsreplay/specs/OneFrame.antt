@@ -1,0 +1,22 @@
+-- What one frame does to the cache and writes at the end of the output.
+use Rattle.std.specs.Prelude.{◌≡◌, ℕ, List, ◌++◌}
+use Rattle.replay_meaning.specs.Frame.{Input}
+use Rattle.replay_meaning.specs.OutFrame.{Output, IsOutput, output_spelling}
+use Rattle.replay_meaning.specs.Version.{Version, IsOneFrame}
+use Rattle.replay_meaning.specs.declared.frame.Frame.{Frame}
+use Rattle.replay_meaning.specs.declared.out_frame.OutKind.{OutKind}
+
+-- an output frame for the frame's worker
+abbrev pub output_for : Frame → OutKind → ℕ → List ℕ → Output
+output_for frame kind version body = record { kind = kind; worker = frame.worker; version = version; body = body }
+
+-- the octets have got the frame at their end
+pub record Writes (output : Output) (before after : List ℕ) : Type 0 where
+  pub valid : IsOutput output
+  pub written : after ≡ before ++ output_spelling output
+
+-- the frame, at the version, leaves the version after it, and the octets have got its output
+pub record WritesOneFrame (version : Version) (input : Input) (next : Version) (before after : List ℕ) : Type 0 where
+  pub output : Output
+  pub frame : IsOneFrame version input output next
+  pub writes : Writes output before after

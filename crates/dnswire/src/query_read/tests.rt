@@ -1,0 +1,311 @@
+use super::*;
+use crate::Head;
+use dname::Name;
+use std::test::Fail;
+
+// What octets are read as; of a question the table tells what its OPT record says.
+#[derive(Clone, Copy, Debug, PartialEq, Eq)]
+enum Outcome {
+    Dropped,
+    NotImp(Head),
+    FormErr(Head),
+    BadVers,
+    Query(Option<Edns>),
+}
+
+fn outcome_of(read: QueryRead) -> Outcome {
+    match read {
+        QueryRead::Dropped => Outcome::Dropped,
+        QueryRead::NotImp(head) => Outcome::NotImp(head),
+        QueryRead::FormErr(head) => Outcome::FormErr(head),
+        QueryRead::BadVers(_) => Outcome::BadVers,
+        QueryRead::Query(question) => Outcome::Query(question.edns),
+    }
+}
+
+const NOTIFY: Outcome = Outcome::NotImp(Head {
+    id: 0xabcd,
+    opcode: 4,
+    rd: true,
+    cd: false,
+});
+
+const EMPTY: Outcome = Outcome::FormErr(Head {
+    id: 0xabcd,
+    opcode: 0,
+    rd: true,
+    cd: false,
+});
+
+const EMPTY_CD: Outcome = Outcome::FormErr(Head {
+    id: 0xabcd,
+    opcode: 0,
+    rd: false,
+    cd: true,
+});
+
+const FAULT: Outcome = Outcome::FormErr(Head {
+    id: 0x1234,
+    opcode: 0,
+    rd: true,
+    cd: false,
+});
+
+const NO_EDNS: Outcome = Outcome::Query(None);
+
+const SIZE_512: Outcome = Outcome::Query(Some(Edns {
+    size: 512,
+    dnssec: false,
+}));
+
+const SIZE_513: Outcome = Outcome::Query(Some(Edns {
+    size: 513,
+    dnssec: false,
+}));
+
+const SIZE_1232: Outcome = Outcome::Query(Some(Edns {
+    size: 1232,
+    dnssec: false,
+}));
+
+const SIZE_1232_DO: Outcome = Outcome::Query(Some(Edns {
+    size: 1232,
+    dnssec: true,
+}));
+
+const READS: [(&[u8], Outcome); 36] = [
+    // Fewer than 12 octets, and responses, the second with another opcode.
+    (b"", Outcome::Dropped),
+    (
+        b"\xab\xcd\x01\x00\x00\x00\x00\x00\x00\x00\x00",
+        Outcome::Dropped,
+    ),
+    (
+        b"\xab\xcd\x81\x00\x00\x00\x00\x00\x00\x00\x00\x00",
+        Outcome::Dropped,
+    ),
+    (
+        b"\xab\xcd\xa1\x00\x00\x00\x00\x00\x00\x00\x00\x00",
+        Outcome::Dropped,
+    ),
+    (
+        b"\x12\x34\x81\x00\x00\x01\x00\x00\x00\x00\x00\x00\x07example\x00\x00\x01\x00\x01",
+        Outcome::Dropped,
+    ),
+    // Another opcode, with or without a question.
+    (b"\xab\xcd\x21\x00\x00\x00\x00\x00\x00\x00\x00\x00", NOTIFY),
+    (
+        b"\xab\xcd\x21\x00\x00\x01\x00\x00\x00\x00\x00\x00\x07example\x00\x00\x01\x00\x01",
+        NOTIFY,
+    ),
+    // No question by the header, and with CD.
+    (b"\xab\xcd\x01\x00\x00\x00\x00\x00\x00\x00\x00\x00", EMPTY),
+    (
+        b"\xab\xcd\x00\x10\x00\x00\x00\x00\x00\x00\x00\x00",
+        EMPTY_CD,
+    ),
+    (
+        b"\x12\x34\x01\x00\x00\x00\x00\x00\x00\x00\x00\x00\x07example\x00\x00\x01\x00\x01",
+        FAULT,
+    ),
+    // Two questions; no octets of a question; a type that is truncated; a name with a pointer to the root.
+    (
+        b"\x12\x34\x01\x00\x00\x02\x00\x00\x00\x00\x00\x00\x07example\x00\x00\x01\x00\x01\x07example\x00\x00\x01\x00\x01",
+        FAULT,
+    ),
+    (b"\x12\x34\x01\x00\x00\x01\x00\x00\x00\x00\x00\x00", FAULT),
+    (
+        b"\x12\x34\x01\x00\x00\x01\x00\x00\x00\x00\x00\x00\x07example\x00\x00\x01\x00",
+        FAULT,
+    ),
+    (
+        b"\x12\x34\x01\x00\x00\x01\x00\x00\x00\x00\x00\x00\x01a\xc0\x04\x00\x01\x00\x01",
+        FAULT,
+    ),
+    // Without OPT records: octets after the question; a record whose owner is a pointer.
+    (
+        b"\x12\x34\x01\x00\x00\x01\x00\x00\x00\x00\x00\x00\x07example\x00\x00\x01\x00\x01",
+        NO_EDNS,
+    ),
+    (
+        b"\x12\x34\x01\x00\x00\x01\x00\x00\x00\x00\x00\x00\x07example\x00\x00\x01\x00\x01\xff",
+        NO_EDNS,
+    ),
+    (
+        b"\x12\x34\x01\x00\x00\x01\x00\x01\x00\x00\x00\x00\x07example\x00\x00\x01\x00\x01\xc0\x0c\x00\x01\x00\x01\x00\x00\x00\x05\x00\x04\xc0\x00\x02\x01",
+        NO_EDNS,
+    ),
+    // The data of a record isn't read: an A record of one octet.
+    (
+        b"\x12\x34\x01\x00\x00\x01\x00\x00\x00\x01\x00\x00\x07example\x00\x00\x01\x00\x01\x00\x00\x01\x00\x01\x00\x00\x00\x05\x00\x01\xff",
+        NO_EDNS,
+    ),
+    // An OPT record: with DO; with all other flags, an upper part of the RCODE, and octets after it; its owner a pointer to
+    // the root.
+    (
+        b"\x12\x34\x01\x00\x00\x01\x00\x00\x00\x00\x00\x01\x07example\x00\x00\x01\x00\x01\x00\x00\x29\x04\xd0\x00\x00\x80\x00\x00\x00",
+        SIZE_1232_DO,
+    ),
+    (
+        b"\x12\x34\x01\x00\x00\x01\x00\x00\x00\x00\x00\x01\x07example\x00\x00\x01\x00\x01\x00\x00\x29\x04\xd0\x01\x00\x7f\xff\x00\x00\x00",
+        SIZE_1232,
+    ),
+    (
+        b"\x12\x34\x01\x00\x00\x01\x00\x00\x00\x00\x00\x01\x07example\x00\x00\x01\x00\x01\xc0\x14\x00\x29\x04\xd0\x00\x00\x00\x00\x00\x00",
+        SIZE_1232,
+    ),
+    // Sizes of 100, 511, 512 and 513 octets.
+    (
+        b"\x12\x34\x01\x00\x00\x01\x00\x00\x00\x00\x00\x01\x07example\x00\x00\x01\x00\x01\x00\x00\x29\x00\x64\x00\x00\x00\x00\x00\x00",
+        SIZE_512,
+    ),
+    (
+        b"\x12\x34\x01\x00\x00\x01\x00\x00\x00\x00\x00\x01\x07example\x00\x00\x01\x00\x01\x00\x00\x29\x01\xff\x00\x00\x00\x00\x00\x00",
+        SIZE_512,
+    ),
+    (
+        b"\x12\x34\x01\x00\x00\x01\x00\x00\x00\x00\x00\x01\x07example\x00\x00\x01\x00\x01\x00\x00\x29\x02\x00\x00\x00\x00\x00\x00\x00",
+        SIZE_512,
+    ),
+    (
+        b"\x12\x34\x01\x00\x00\x01\x00\x00\x00\x00\x00\x01\x07example\x00\x00\x01\x00\x01\x00\x00\x29\x02\x01\x00\x00\x00\x00\x00\x00",
+        SIZE_513,
+    ),
+    // Version 1, also beside an upper part of the RCODE.
+    (
+        b"\x12\x34\x01\x00\x00\x01\x00\x00\x00\x00\x00\x01\x07example\x00\x00\x01\x00\x01\x00\x00\x29\x04\xd0\x00\x01\x00\x00\x00\x00",
+        Outcome::BadVers,
+    ),
+    (
+        b"\x12\x34\x01\x00\x00\x01\x00\x00\x00\x00\x00\x01\x07example\x00\x00\x01\x00\x01\x00\x00\x29\x04\xd0\x01\x01\x00\x00\x00\x00",
+        Outcome::BadVers,
+    ),
+    // Two OPT records, of version 0 and 1; one with the owner a.; one of version 1 before a record that is truncated.
+    (
+        b"\x12\x34\x01\x00\x00\x01\x00\x00\x00\x00\x00\x02\x07example\x00\x00\x01\x00\x01\x00\x00\x29\x04\xd0\x00\x00\x00\x00\x00\x00\x00\x00\x29\x04\xd0\x00\x00\x00\x00\x00\x00",
+        FAULT,
+    ),
+    (
+        b"\x12\x34\x01\x00\x00\x01\x00\x00\x00\x00\x00\x02\x07example\x00\x00\x01\x00\x01\x00\x00\x29\x04\xd0\x00\x01\x00\x00\x00\x00\x00\x00\x29\x04\xd0\x00\x00\x00\x00\x00\x00",
+        FAULT,
+    ),
+    (
+        b"\x12\x34\x01\x00\x00\x01\x00\x00\x00\x00\x00\x01\x07example\x00\x00\x01\x00\x01\x01a\x00\x00\x29\x04\xd0\x00\x00\x00\x00\x00\x00",
+        FAULT,
+    ),
+    (
+        b"\x12\x34\x01\x00\x00\x01\x00\x00\x00\x00\x00\x02\x07example\x00\x00\x01\x00\x01\x00\x00\x29\x04\xd0\x00\x01\x00\x00\x00\x00\x00",
+        FAULT,
+    ),
+    // OPT records in the other sections are passed over, whatever they say.
+    (
+        b"\x12\x34\x01\x00\x00\x01\x00\x01\x00\x00\x00\x00\x07example\x00\x00\x01\x00\x01\x01a\x00\x00\x29\x04\xd0\x00\x00\x00\x00\x00\x00",
+        NO_EDNS,
+    ),
+    (
+        b"\x12\x34\x01\x00\x00\x01\x00\x00\x00\x01\x00\x00\x07example\x00\x00\x01\x00\x01\x00\x00\x29\x04\xd0\x00\x01\x00\x00\x00\x00",
+        NO_EDNS,
+    ),
+    (
+        b"\x12\x34\x01\x00\x00\x01\x00\x00\x00\x01\x00\x01\x07example\x00\x00\x01\x00\x01\x00\x00\x29\x02\x01\x00\x01\x00\x00\x00\x00\x00\x00\x29\x04\xd0\x00\x00\x00\x00\x00\x00",
+        SIZE_1232,
+    ),
+    // An OPT record after another record of the additional section.
+    (
+        b"\x12\x34\x01\x00\x00\x01\x00\x00\x00\x00\x00\x02\x07example\x00\x00\x01\x00\x01\xc0\x0c\x00\x01\x00\x01\x00\x00\x00\x05\x00\x04\xc0\x00\x02\x01\x00\x00\x29\x04\xd0\x00\x00\x00\x00\x00\x00",
+        SIZE_1232,
+    ),
+    (
+        b"\x12\x34\x01\x00\x00\x01\x00\x00\x00\x00\x00\x02\x07example\x00\x00\x01\x00\x01\x00\x00\x29\x04\xd0\x00\x00\x00\x00\x00\x00\xc0\x0c\x00\x01\x00\x01\x00\x00\x00\x05\x00\x04\xc0\x00\x02\x01",
+        SIZE_1232,
+    ),
+];
+
+#[test]
+fn each_is_read_as_it_should_be(rt: HostRuntime) {
+    for (i, (octets, wanted)) in READS.iter().enumerate() {
+        assert_eq!(rt; outcome_of(read_query(octets)), *wanted, "{i}");
+    }
+}
+
+// The octets of flags, and RD, AD and CD.
+const FLAGS: [(&[u8], bool, bool, bool); 5] = [
+    (b"\x01\x30", true, true, true),
+    (b"\x00\x00", false, false, false),
+    (b"\x01\x00", true, false, false),
+    (b"\x00\x20", false, true, false),
+    (b"\x00\x10", false, false, true),
+];
+
+// A question in capitals.
+const CAPITALS: &[u8] = b"\x07exAMple\x00\x00\x1c\x00\x03";
+
+#[test]
+fn what_a_query_asks_is_read(rt: HostRuntime) -> Result<(), Fail> {
+    let (name, _) = Name::read(b"\x07example\x00")?;
+    for (i, (flags, rd, ad, cd)) in FLAGS.iter().enumerate() {
+        let mut message = Vec::new(rt.alloc());
+        message.extend_from_slice(b"\x12\x34")?;
+        message.extend_from_slice(flags)?;
+        message.extend_from_slice(b"\x00\x01\x00\x00\x00\x00\x00\x00")?;
+        message.extend_from_slice(CAPITALS)?;
+        let QueryRead::Query(question) = read_query(message.as_slice()) else {
+            return Err("not a query")?;
+        };
+        assert_eq!(rt;
+            (question.rd, question.ad, question.cd),
+            (*rd, *ad, *cd),
+            "{i}"
+        );
+        assert_eq!(rt;
+            (question.id, question.qtype, question.qclass),
+            (0x1234, 28, 3)
+        );
+        assert!(rt; question.name == name);
+        assert_eq!(rt; question.asked.as_slice(), CAPITALS);
+    }
+    Ok(())
+}
+
+// A header of four records, a question, and a record for each section: A with its owner by a pointer, NS with a pointer
+// in its data, A and OPT.
+const WHOLE: &[u8] =
+    b"\x12\x34\x01\x00\x00\x01\x00\x01\x00\x01\x00\x02\x07example\x00\x00\x01\x00\x01\xc0\x0c\x00\x01\x00\x01\x00\x00\x00\x05\x00\x04\xc0\x00\x02\x01\xc0\x0c\x00\x02\x00\x01\x00\x00\x00\x05\x00\x05\x02ns\xc0\x0c\x02ns\xc0\x0c\x00\x01\x00\x01\x00\x00\x00\x05\x00\x04\xc0\x00\x02\x02\x00\x00\x29\x04\xd0\x00\x00\x00\x00\x00\x02\x00\x00";
+
+#[test]
+fn a_truncated_query_is_refused(rt: HostRuntime) {
+    assert_eq!(rt; outcome_of(read_query(WHOLE)), SIZE_1232);
+    for k in 0..WHOLE.len() {
+        let wanted = if k < 12 { Outcome::Dropped } else { FAULT };
+        assert_eq!(rt;
+            outcome_of(read_query(&WHOLE[..k])),
+            wanted,
+            "truncated after {k} octets"
+        );
+    }
+}
+
+// A label of 63 octets.
+const LONG: &[u8] = b"\x3fabcdefgabcdefgabcdefgabcdefgabcdefgabcdefgabcdefgabcdefgabcdefg";
+
+#[test]
+fn a_questions_name_has_at_most_255_octets(rt: HostRuntime) -> Result<(), Fail> {
+    for (size, wanted) in [(61usize, NO_EDNS), (62, FAULT)] {
+        let mut message = Vec::new(rt.alloc());
+        message.extend_from_slice(b"\x12\x34\x01\x00\x00\x01\x00\x00\x00\x00\x00\x00")?;
+        for _ in 0..3 {
+            message.extend_from_slice(LONG)?;
+        }
+        message.push(size as u8)?;
+        for _ in 0..size {
+            message.push(b'a')?;
+        }
+        message.extend_from_slice(b"\x00\x00\x01\x00\x01")?;
+        assert_eq!(rt;
+            outcome_of(read_query(message.as_slice())),
+            wanted,
+            "{size}"
+        );
+    }
+    Ok(())
+}

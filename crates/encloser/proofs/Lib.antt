@@ -1,0 +1,3 @@
+pub mod AncestorLemmas
+pub mod EncloserLemmas
+pub mod UnderLemmas

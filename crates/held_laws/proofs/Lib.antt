@@ -1,0 +1,9 @@
+pub mod ApartLemmas
+pub mod KeptLemmas
+pub mod LimitLemmas
+pub mod ListLemmas
+pub mod ListedLemmas
+pub mod OnceLemmas
+pub mod RankLemmas
+pub mod SameLemmas
+pub mod UsableLemmas

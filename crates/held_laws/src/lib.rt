@@ -1,0 +1,10 @@
+//! What holds of every state that batches of records make, as laws of the definitions of `cache_meaning`: functions with
+//! an empty body. Read `specs/HeldLaws.antt`, and of `cache_meaning` first `specs/Held.antt` and `specs/Zones.antt`.
+#![tactic(auto)]
+
+mod laws;
+
+pub use laws::{
+    at_most_two_chains, each_chain_has_a_record, no_two_of_one_key, none_has_expired,
+    order_means_nothing, within_the_limit,
+};

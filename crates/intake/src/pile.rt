@@ -1,0 +1,41 @@
+ghost use Rattle.std.specs.Prelude.{◌≡◌, OnOk};
+ghost use Rattle.intake.specs.Signed.{counted_ttl};
+ghost use Rattle.intake.specs.Pile.{joined, with_signature};
+
+use dname::{Name, Octets, OctetsList, OutOfMemory};
+
+/// The records of a group as they are collected, equal data as often as it comes.
+#[derive(Drop)]
+pub(crate) struct Pile {
+    pub(crate) owner: Name,
+    pub(crate) class: u16,
+    pub(crate) rtype: u16,
+    /// The least TTL, in seconds.
+    pub(crate) ttl: u32,
+    pub(crate) items: OctetsList,
+    pub(crate) signatures: OctetsList,
+}
+
+impl Pile {
+    /// Takes in the TTL and data of a further record.
+    pub(crate) fn join(&mut self, ttl: u32, octets: Octets) -> Result<(), OutOfMemory>
+        ensures { OnOk result (self.new ≡ joined self.old ttl octets) }
+    {
+        self.ttl = self.ttl.min(counted_ttl(ttl));
+        self.items.push(octets)
+    }
+
+    /// Takes in the data of a further signature.
+    pub(crate) fn sign(&mut self, octets: Octets) -> Result<(), OutOfMemory>
+        ensures { OnOk result (self.new ≡ with_signature self.old octets) }
+    {
+        self.signatures.push(octets)
+    }
+}
+
+/// A TTL with its top bit set counts as 0 (RFC 2181, section 8).
+pub(crate) fn counted_ttl(ttl: u32) -> u32
+    ensures { result ≡ counted_ttl ttl }
+{
+    if ttl < 1 << 31 { ttl } else { 0 }
+}

@@ -1,0 +1,179 @@
+use Rattle.std.proofs.Common.{◌≡◌, ℕ, zero, suc, ◌+◌, ◌-◌, ◌<◌, ◌≤◌, List, [], ◌∷◌, ◌++◌, length, get_or, take, drop, map, reverse, refl, sym, ◌∙◌, ap, append_assoc, length-append, add-zero, inl, inr, arith}
+use Rattle.std.proofs.lemmas.List.{append-nil, map-append, length-map, take_more, drop_more, take-append-drop, get_or-map, get_or_default, get_or_push, get_or_append_left, length_push, length-take, take-append-le, drop-append-le, take_all, reverse-append}
+use Rattle.std.proofs.lemmas.List.Concat.{flat_map-append, get_or-flat_map}
+use Rattle.std.proofs.lemmas.Bool.{cases_lt}
+use Rattle.std.proofs.Math.Seq.{take-append-add, drop-append-add}
+use Rattle.std.specs.List.{flat_map}
+use Rattle.page_list.specs.Rows.{IsEnds, IsPlace, IsSeam}
+
+-- the ends of the blocks so far, and the last of them
+pub record HasEnds {X A : Type 0} (f : X → List A) (xs : List X) (ends : List ℕ) (end : ℕ) : Type 0 where
+  pub all : IsEnds f xs ends
+  pub last : end ≡ length (flat_map f xs)
+
+HasEnds-push : {X A : Type 0} (f : X → List A) (xs : List X) (ends : List ℕ) (end k m : ℕ) (x : X) → k ≡ length (f x) → m ≡ end + k → HasEnds f xs ends end → HasEnds f (xs ++ x ∷ []) (ends ++ m ∷ []) m
+HasEnds-push f xs ends end k m x kk mm was =
+    let long : length ends ≡ length xs = was.all.one_each in
+    let last : m ≡ length (flat_map f (xs ++ x ∷ [])) =
+    omega (arith, was.last, ap length (flat_map-append f xs (x ∷ [])), length-append (flat_map f xs) (f x ++ []), length-append (f x) []) in
+    record {
+      all = record {
+        one_each = length_push ends m ∙ (ap (λ n. n + 1) long ∙ sym (length_push xs x));
+        sums = λ j h. elim (cases_lt j (length xs)) [
+          | inl in_xs ↦ get_or_append_left ends (m ∷ []) 0 j (omega arith) ∙ (was.all.sums j in_xs ∙ ap (λ z. length (flat_map f z)) (sym (take-append-le (j + 1) xs (x ∷ []) (omega arith))))
+          | inr past ↦
+              let same : length ends ≡ j = omega (arith, length_push xs x) in
+              get_or_push ends m 0 j same ∙ (last ∙ ap (λ z. length (flat_map f z)) (sym (take_all (j + 1) (xs ++ x ∷ []) (omega (arith, length_push xs x)))))
+        ];
+      };
+      last = last;
+    }
+
+-- what `xs[i]` reads, seen through v
+pub at_mapped : {X Y : Type 0} (v : X → Y) (xs : List X) (i : ℕ) (x : X) (y : Y) → i < length xs → x ≡ get_or xs i x → y ≡ v x → (d : Y) → get_or (map v xs) i d ≡ y
+at_mapped v xs i x y h e s d = get_or-map v xs i x d h ∙ (sym (ap v e) ∙ sym s)
+
+pub shared_more : {X Y : Type 0} (v : X → Y) (os os' : List X) (base : List Y) (from : List X) (i : ℕ) (x y : X) → i < length from → x ≡ get_or from i x → v y ≡ v x → os' ≡ os ++ y ∷ [] → map v os ≡ base ++ take i (map v from) → map v os' ≡ base ++ take (i + 1) (map v from)
+shared_more v os os' base from i x y h e s new inv =
+    let k : i < length (map v from) = rw (length-map from v) h in
+    let t : take (i + 1) (map v from) ≡ take i (map v from) ++ v x ∷ [] =
+    take_more (map v from) i (v x) k ∙ ap (λ z. take i (map v from) ++ z ∷ []) (at_mapped v from i x (v x) h e refl (v x)) in
+    ap (map v) new ∙ (map-append v os (y ∷ []) ∙ (ap (λ z. z ++ v y ∷ []) inv ∙ (ap (λ z. (base ++ take i (map v from)) ++ z ∷ []) s ∙ (append_assoc base (take i (map v from)) (v x ∷ []) ∙ ap (λ z. base ++ z) (sym t)))))
+
+-- the entries of one more block
+pub flat_more : {Y A : Type 0} (f : Y → List A) (ys : List Y) (i : ℕ) (y : Y) → i < length ys → get_or ys i y ≡ y → flat_map f (take (i + 1) ys) ≡ flat_map f (take i ys) ++ f y
+flat_more f ys i y h e =
+    ap (flat_map f) (take_more ys i y h)
+    ∙ (flat_map-append f (take i ys) (get_or ys i y ∷ []) ∙ (ap (λ z. flat_map f (take i ys) ++ z) (append-nil (f (get_or ys i y))) ∙ ap (λ z. flat_map f (take i ys) ++ f z) e))
+
+pub length_more : {Y A : Type 0} (f : Y → List A) (ys : List Y) (i : ℕ) (y : Y) → i < length ys → get_or ys i y ≡ y → length (flat_map f (take (i + 1) ys)) ≡ length (flat_map f (take i ys)) + length (f y)
+length_more f ys i y h e = ap length (flat_more f ys i y h e) ∙ length-append (flat_map f (take i ys)) (f y)
+
+pub flat_split : {Y A : Type 0} (f : Y → List A) (ys : List Y) (p : ℕ) (d : Y) → p < length ys → flat_map f ys ≡ flat_map f (take p ys) ++ (f (get_or ys p d) ++ flat_map f (drop (p + 1) ys))
+flat_split f ys p d h =
+    ap (flat_map f) (sym (take-append-drop p ys))
+    ∙ (flat_map-append f (take p ys) (drop p ys) ∙ ap (λ z. flat_map f (take p ys) ++ flat_map f z) (drop_more ys p d h))
+
+take_within : {A : Type 0} (xs ys zs : List A) (n k : ℕ) → length xs + k ≡ n → k ≤ length ys → take n (xs ++ (ys ++ zs)) ≡ xs ++ take k ys
+take_within xs ys zs n k e h =
+    ap (λ z. take z (xs ++ (ys ++ zs))) (sym e) ∙ (take-append-add xs (ys ++ zs) k ∙ ap (λ z. xs ++ z) (take-append-le k ys zs h))
+
+drop_within : {A : Type 0} (xs ys zs : List A) (n k : ℕ) → length xs + k ≡ n → k ≤ length ys → drop n (xs ++ (ys ++ zs)) ≡ drop k ys ++ zs
+drop_within xs ys zs n k e h =
+    ap (λ z. drop z (xs ++ (ys ++ zs))) (sym e) ∙ (drop-append-add xs (ys ++ zs) k ∙ drop-append-le k ys zs h)
+
+pub mapped_in : {X Y : Type 0} (v : X → Y) (xs : List X) (i : ℕ) → i < length xs → i < length (map v xs)
+mapped_in v xs i h = rw (length-map xs v) h
+
+-- the ends of one more block
+pub IsEnds-more : {X Y A : Type 0} (v : X → Y) (f : Y → List A) (xs : List X) (i k m end : ℕ) (ends ends' : List ℕ) (x : X) (y : Y) → i < length xs → x ≡ get_or xs i x → y ≡ v x → k ≡ length (f y) → m ≡ end + k → ends' ≡ ends ++ m ∷ [] → HasEnds f (take i (map v xs)) ends end → HasEnds f (take (i + 1) (map v xs)) ends' m
+IsEnds-more v f xs i k m end ends ends' x y h e s kk mm new was =
+    let more : take (i + 1) (map v xs) ≡ take i (map v xs) ++ y ∷ [] =
+    take_more (map v xs) i y (mapped_in v xs i h) ∙ ap (λ z. take i (map v xs) ++ z ∷ []) (at_mapped v xs i x y h e s y) in
+    rw (more, new) (HasEnds-push f (take i (map v xs)) ends end k m y kk mm was)
+
+-- up to a later block there are no fewer entries
+pub length_along : {X A : Type 0} (f : X → List A) (xs : List X) (i j : ℕ) → i ≤ j → length (flat_map f (take i xs)) ≤ length (flat_map f (take j xs))
+length_along f xs zero j le = omega arith
+length_along f [] (suc i) j le = omega arith
+length_along f (x ∷ xs) (suc i) zero le = absurd (omega arith)
+length_along f (x ∷ xs) (suc i) (suc j) le =
+    omega (arith, length_along f xs i j (omega arith), length-append (f x) (flat_map f (take i xs)), length-append (f x) (flat_map f (take j xs)))
+
+pub length_all : {X A : Type 0} (f : X → List A) (xs : List X) (n : ℕ) → length xs ≤ n → length (flat_map f (take n xs)) ≡ length (flat_map f xs)
+length_all f xs n le = ap (λ z. length (flat_map f z)) (take_all n xs le)
+
+-- there is a block where there is an entry
+pub some_block : {X A : Type 0} (f : X → List A) (xs : List X) → 0 < length (flat_map f xs) → 0 < length xs
+some_block f [] h = absurd (omega arith)
+some_block f (x ∷ xs) h = omega arith
+
+pub IsPlace-between : {X A : Type 0} (f : X → List A) (xs : List X) (at low high : ℕ) → low < high → high ≤ length xs → high - low ≤ 1 → length (flat_map f (take low xs)) ≤ at → at < length (flat_map f (take high xs)) → IsPlace f xs at low (at - length (flat_map f (take low xs)))
+IsPlace-between f xs at low high lt le one below above =
+    let next : high ≡ low + 1 = omega arith in
+    record {
+      in_range = omega arith;
+      before = omega arith;
+      within = λ d. let more = length_more f xs low (get_or xs low d) (omega arith) (get_or_default xs low (get_or xs low d) d (omega arith)) in
+          let top : length (flat_map f (take high xs)) ≡ length (flat_map f (take (low + 1) xs)) = ap (λ z. length (flat_map f (take z xs))) next in
+          omega arith;
+    }
+
+pub IsSeam-from_place : {X A : Type 0} (f : X → List A) (xs : List X) (at p x : ℕ) → p < length xs → length (flat_map f (take p xs)) + x ≡ at → ((d : X) → x ≤ length (f (get_or xs p d))) → IsSeam f xs at p x
+IsSeam-from_place f xs at p x h before within = record {
+  in_range = h;
+  within = within;
+  left = λ d. ap (take at) (flat_split f xs p d h) ∙ take_within _ _ _ at x before (within d);
+  right = λ d. ap (drop at) (flat_split f xs p d h) ∙ drop_within _ _ _ at x before (within d);
+}
+
+pub IsSeam-at : {X A : Type 0} (f : X → List A) (xs : List X) (at p x : ℕ) → IsPlace f xs at p x → IsSeam f xs at p x
+IsSeam-at f xs at p x place =
+    IsSeam-from_place f xs at p x place.in_range place.before (λ d. omega (arith, place.within d))
+
+pub IsSeam-behind : {X A : Type 0} (f : X → List A) (xs : List X) (at p x : ℕ) → IsPlace f xs (at - 1) p x → 0 < at → IsSeam f xs at p (x + 1)
+IsSeam-behind f xs at p x place pos =
+    IsSeam-from_place f xs at p (x + 1) place.in_range (omega (arith, place.before)) (λ d. omega (arith, place.within d))
+
+pub IsSeam-at_zero : {X A : Type 0} (f : X → List A) (xs : List X) (at : ℕ) → at ≡ 0 → 0 < length xs → IsSeam f xs at 0 0
+IsSeam-at_zero f xs at z h = IsSeam-from_place f xs at 0 0 h (sym z) (λ d. omega arith)
+
+-- what a page has from a place on
+pub page_at : {X A : Type 0} (f : X → List A) (xs : List X) (at p x n : ℕ) (b : X) (page : List A) → IsPlace f xs at p x → b ≡ get_or xs p b → page ≡ take n (drop x (f b)) → n ≡ length page → page ≡ take n (drop at (flat_map f xs))
+page_at f xs at p x n b page place is e len =
+    let seam = IsSeam-at f xs at p x place in
+    let right : drop at (flat_map f xs) ≡ drop x (f b) ++ flat_map f (drop (p + 1) xs) = seam.right b ∙ ap (λ z. drop x (f z) ++ flat_map f (drop (p + 1) xs)) (sym is) in
+    let short : n ≤ length (drop x (f b)) = omega (arith, ap length e, length-take n (drop x (f b))) in
+    e ∙ sym (ap (take n) right ∙ take-append-le n (drop x (f b)) (flat_map f (drop (p + 1) xs)) short)
+
+-- an entry of a block, among all
+pub entry_at : {X A : Type 0} (f : X → List A) (xs : List X) (p n j : ℕ) (b : X) (d : A) → p < length xs → b ≡ get_or xs p b → n ≡ length (flat_map f (take p xs)) → j < length (f b) → get_or (flat_map f xs) (n + j) d ≡ get_or (f b) j d
+entry_at f xs p n j b d h is start lt =
+    ap (λ m. get_or (flat_map f xs) (m + j) d) start ∙ (get_or-flat_map f xs p j b d h (rw (← is) lt) ∙ ap (λ z. get_or (f z) j d) (sym is))
+
+-- the first entry of a block, among all
+pub first_at : {X A : Type 0} (f : X → List A) (xs : List X) (p : ℕ) (b : X) (a : A) → p < length xs → b ≡ get_or xs p b → 0 < length (f b) → a ≡ get_or (f b) 0 a → (length (flat_map f (take p xs)) < length (flat_map f xs)) × (a ≡ get_or (flat_map f xs) (length (flat_map f (take p xs))) a)
+first_at f xs p b a h is some e =
+    (omega (arith, length_more f xs p b h (sym is), length_along f xs (p + 1) (length xs) (omega arith), length_all f xs (length xs) (omega arith)), e ∙ (sym (entry_at f xs p _ 0 b a h is refl some) ∙ ap (λ n. get_or (flat_map f xs) n a) (add-zero (length (flat_map f (take p xs))))))
+
+-- one more part cut off the end
+pub cut_more : {X : Type 0} (rest rest' : List X) (parts parts' : List (List X)) (part : List X) (at : ℕ) (goal : List X) → rest' ≡ take at rest → part ≡ drop at rest → parts' ≡ parts ++ part ∷ [] → rest ++ flat_map (λ p. p) (reverse parts) ≡ goal → rest' ++ flat_map (λ p. p) (reverse parts') ≡ goal
+cut_more rest rest' parts parts' part at goal h k new inv =
+    let e : rest' ++ part ≡ rest = rw (h, k) (take-append-drop at rest) in
+    ap (λ z. rest' ++ flat_map (λ p. p) (reverse z)) new
+    ∙ (ap (λ z. rest' ++ flat_map (λ p. p) z) (reverse-append parts (part ∷ []))
+    ∙ (sym (append_assoc rest' part (flat_map (λ p. p) (reverse parts))) ∙ (ap (λ z. z ++ flat_map (λ p. p) (reverse parts)) e ∙ inv)))
+
+-- the block before the place p is taken into what stands there
+pub joined_left : {X A : Type 0} (f : X → List A) (left : List X) (p : ℕ) (x : X) (made both rest : List A) → 0 < p → p < length left → x ≡ get_or left (p - 1) x → both ≡ f x ++ made → flat_map f (take (p - 1) left) ++ both ++ rest ≡ flat_map f (take p left) ++ made ++ rest
+joined_left f left p x made both rest pos lt is b =
+    let back : p - 1 + 1 ≡ p = omega arith in
+    let whole : flat_map f (take p left) ≡ flat_map f (take (p - 1) left) ++ f x =
+    ap (λ z. flat_map f (take z left)) (sym back) ∙ flat_more f left (p - 1) x (omega arith) (sym is) in
+    ap (λ z. flat_map f (take (p - 1) left) ++ z ++ rest) b
+    ∙ (ap (λ z. z ++ rest) (sym (append_assoc (flat_map f (take (p - 1) left)) (f x) made)) ∙ ap (λ z. z ++ made ++ rest) (sym whole))
+
+-- the same on the right
+pub joined_right : {X A : Type 0} (f : X → List A) (right : List X) (q : ℕ) (x : X) (made both first : List A) → q + 1 < length right → x ≡ get_or right (q + 1) x → both ≡ made ++ f x → first ++ both ++ flat_map f (drop (q + 1 + 1) right) ≡ first ++ made ++ flat_map f (drop (q + 1) right)
+joined_right f right q x made both first h is b =
+    let whole : flat_map f (drop (q + 1) right) ≡ f x ++ flat_map f (drop (q + 1 + 1) right) =
+    ap (flat_map f) (drop_more right (q + 1) x h) ∙ ap (λ z. f z ++ flat_map f (drop (q + 1 + 1) right)) (sym is) in
+    ap (λ z. first ++ z ++ flat_map f (drop (q + 1 + 1) right)) b
+    ∙ (ap (λ z. z ++ flat_map f (drop (q + 1 + 1) right)) (sym (append_assoc first made (f x)))
+    ∙ (append_assoc (first ++ made) (f x) (flat_map f (drop (q + 1 + 1) right)) ∙ ap (λ z. first ++ made ++ z) (sym whole)))
+
+-- the blocks that stand at last, after the joins
+pub spliced_whole : {X A : Type 0} (f : X → List A) (left right made made' all front back : List X) (items : List A) (from to p x q y p' q' : ℕ) (l r : X) → IsSeam f left from p x → IsSeam f right to q y → l ≡ get_or left p l → r ≡ get_or right q r → flat_map f made ≡ take x (f l) ++ items ++ drop y (f r) → flat_map f (take p' left) ++ flat_map f made' ++ flat_map f (drop (q' + 1) right) ≡ flat_map f (take p left) ++ flat_map f made ++ flat_map f (drop (q + 1) right) → front ≡ take p' left → back ≡ drop (q' + 1) right → all ≡ front ++ made' ++ back → flat_map f all ≡ take from (flat_map f left) ++ items ++ drop to (flat_map f right)
+spliced_whole f left right made made' all front back items from to p x q y p' q' l r first second is_l is_r new same e_front e_back whole =
+    let start : take from (flat_map f left) ≡ flat_map f (take p left) ++ take x (f l) = first.left l ∙ ap (λ z. flat_map f (take p left) ++ take x (f z)) (sym is_l) in
+    let end : drop to (flat_map f right) ≡ drop y (f r) ++ flat_map f (drop (q + 1) right) = second.right r ∙ ap (λ z. drop y (f z) ++ flat_map f (drop (q + 1) right)) (sym is_r) in
+    rw (whole, flat_map-append, flat_map-append, e_front, e_back, same, new, start, end) (simp append_assoc refl)
+
+-- the blocks that stand at last, where whole blocks stay and none come in between
+pub clean_whole : {X A : Type 0} (f : X → List A) (left right none all front back : List X) (items : List A) (from to p x q y : ℕ) (l : X) → IsSeam f left from p x → IsSeam f right to q y → l ≡ get_or left p l → items ≡ [] → none ≡ [] → x ≡ length (f l) → y ≡ 0 → front ≡ take (p + 1) left → back ≡ drop q right → all ≡ front ++ none ++ back → flat_map f all ≡ take from (flat_map f left) ++ items ++ drop to (flat_map f right)
+clean_whole f left right none all front back items from to p x q y l first second is_l no_items is_none whole start e_front e_back e_all =
+    let at_l : take from (flat_map f left) ≡ flat_map f (take (p + 1) left) =
+    first.left l ∙ (ap (λ z. flat_map f (take p left) ++ take x (f z)) (sym is_l) ∙ (ap (λ z. flat_map f (take p left) ++ z) (take_all x (f l) (omega arith)) ∙ sym (flat_more f left p l first.in_range (sym is_l)))) in
+    let at_r : drop to (flat_map f right) ≡ flat_map f (drop q right) =
+    second.right l ∙ (ap (λ n. drop n (f (get_or right q l)) ++ flat_map f (drop (q + 1) right)) start ∙ sym (ap (flat_map f) (drop_more right q l second.in_range))) in
+    rw (e_all, e_front, e_back, is_none, flat_map-append, flat_map-append, at_l, at_r, no_items) refl

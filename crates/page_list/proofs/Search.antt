@@ -1,0 +1,77 @@
+use Rattle.std.proofs.Common.{◌≡◌, ℕ, ◌+◌, ◌-◌, ◌<◌, ◌≤◌, Bool, true, false, List, [], ◌∷◌, length, get_or, take, inl, inr, arith, refl, sym, ap, ◌∙◌}
+use denote.Ref.{Bor}
+use denote.Param.Members.{Shared}
+use Rattle.std.specs.Fn.{FnReturnsAt}
+use Rattle.std.proofs.lemmas.Fn.{says_at}
+use Rattle.std.proofs.lemmas.List.{get_or_read}
+use Rattle.std.specs.List.{flat_map, prefix_len}
+use Rattle.std.specs.List.Sorted.{IsPartitionedBy}
+use Rattle.page_list.proofs.Rows.{length_more, entry_at}
+use Rattle.page_list.specs.Search.{HasNarrowed}
+use Rattle.std.proofs.lemmas.List.Sums.{prefix_len_is, prefix_len_passes, prefix_len_stops}
+use Rattle.std.proofs.lemmas.Bool.{cases_lt}
+
+-- what a call at the entry `middle` tells of any test that the calls compute
+pub answered : {X F : Type 0} (g : Shared F (Bor X × Unit {0}) Bool) (f : F) (xs : List X) (middle : ℕ) (y : Bor X) (r b : Bool) → middle < length xs → y.now ≡ get_or xs middle y.now → g.post f (y, tt) r → r ≡ b → (p : X → Bool) → ((x : X) (s : Bool) → FnReturnsAt g f x s → s ≡ p x) → (d : X) → p (get_or xs middle d) ≡ b
+answered g f xs middle y r b h e post eq p test d =
+    sym (test y.now b (says_at g {f = f} {y = y} {r = r} {v = b} post eq) ∙ ap p (get_or_read xs middle y.now h e d))
+
+pub HasNarrowed-start : {X : Type 0} (xs : List X) (IsTest : (X → Bool) → Type 0) → HasNarrowed xs IsTest 0 (length xs)
+HasNarrowed-start xs IsTest = record {
+  order = omega arith;
+  in_range = omega arith;
+  below = λ p test parted k d lt. absurd (omega arith);
+  above = λ p test parted k d le lt. absurd (omega arith);
+}
+
+-- the entry `middle` passes: so does all before it
+pub HasNarrowed-up : {X : Type 0} (xs : List X) (IsTest : (X → Bool) → Type 0) (low high middle low' : ℕ) → HasNarrowed xs IsTest low high → low' ≤ high → low' ≤ middle + 1 → middle < length xs → ((p : X → Bool) → IsTest p → (d : X) → p (get_or xs middle d) ≡ true) → HasNarrowed xs IsTest low' high
+HasNarrowed-up xs IsTest low high middle low' was le up lt passes = record {
+  order = le;
+  in_range = was.in_range;
+  below = λ p test parted k d lt'. parted k middle d (omega arith) lt (passes p test d);
+  above = was.above;
+}
+
+false_from : (b : Bool) → (b ≡ true → ⊥) → b ≡ false
+false_from true h = absurd (h refl)
+false_from false h = refl
+
+-- the entry `middle` fails: so does all behind it
+pub HasNarrowed-down : {X : Type 0} (xs : List X) (IsTest : (X → Bool) → Type 0) (low high middle : ℕ) → HasNarrowed xs IsTest low high → low ≤ middle → middle < length xs → ((p : X → Bool) → IsTest p → (d : X) → p (get_or xs middle d) ≡ false) → HasNarrowed xs IsTest low middle
+HasNarrowed-down xs IsTest low high middle was up lt fails = record {
+  order = up;
+  in_range = omega arith;
+  below = was.below;
+  above = λ p test parted k d le lt'.
+      false_from (p (get_or xs k d)) (λ passes. let t : p (get_or xs middle d) ≡ true = parted middle k d le lt' passes in let f : p (get_or xs middle d) ≡ false = fails p test d in cc);
+}
+
+-- `prefix_len_is`, at any default
+prefix_len_at : {X : Type 0} (p : X → Bool) (xs : List X) (n : ℕ) → n ≤ length xs → ((k : ℕ) (d : X) → k < n → p (get_or xs k d) ≡ true) → ((d : X) → n < length xs → p (get_or xs n d) ≡ false) → n ≡ prefix_len p xs
+prefix_len_at p [] n le passes stops = omega arith
+prefix_len_at p (x ∷ xs) n le passes stops = sym (prefix_len_is p (x ∷ xs) n x le (λ k lt. passes k x lt) (stops x))
+
+pub HasNarrowed-done : {X : Type 0} (xs : List X) (IsTest : (X → Bool) → Type 0) (low high : ℕ) → HasNarrowed xs IsTest low high → high ≤ low → (p : X → Bool) → IsTest p → IsPartitionedBy p xs → low ≡ prefix_len p xs
+HasNarrowed-done xs IsTest low high was le p test parted =
+    prefix_len_at p xs low (omega (arith, was.order, was.in_range)) (λ k d lt. was.below p test parted k d lt) (λ d lt. was.above p test parted low d le lt)
+
+-- what a block tells of all entries, where they part in it
+pub found_within : {X A : Type 0} (f : X → List A) (xs : List X) (IsTest : (A → Bool) → Type 0) (p n r : ℕ) (b : X) → p < length xs → b ≡ get_or xs p b → n ≡ length (flat_map f (take p xs)) → HasNarrowed (flat_map f xs) IsTest n (length (flat_map f (take (p + 1) xs))) → r ≤ length (f b) → ((q : A → Bool) → IsTest q → IsPartitionedBy q (f b) → r ≡ prefix_len q (f b)) → (q : A → Bool) → IsTest q → IsPartitionedBy q (flat_map f xs) → n + r ≡ prefix_len q (flat_map f xs)
+found_within f xs IsTest p n r b h is start was short found q test parted =
+    let next : length (flat_map f (take (p + 1) xs)) ≡ n + length (f b) = length_more f xs p b h (sym is) ∙ ap (λ m. m + length (f b)) (sym start) in
+    let same : (j : ℕ) (d : _) → j < length (f b) → get_or (flat_map f xs) (n + j) d ≡ get_or (f b) j d = λ j d lt. entry_at f xs p n j b d h is start lt in
+    let inner : IsPartitionedBy q (f b) = λ i j d le lt e.
+    ap q (sym (same i d (omega arith))) ∙ parted (n + i) (n + j) d (omega arith) (omega (arith, was.in_range)) (ap q (same j d lt) ∙ e) in
+    let r_is : r ≡ prefix_len q (f b) = found q test inner in
+    prefix_len_at q (flat_map f xs) (n + r) (omega (arith, was.in_range))
+    (λ k d lt. elim (cases_lt k n) [
+      | inl before ↦ was.below q test parted k d before
+      | inr from ↦
+          let at : k ≡ n + (k - n) = omega arith in
+          ap (λ m. q (get_or (flat_map f xs) m d)) at ∙ (ap q (same (k - n) d (omega arith)) ∙ prefix_len_passes q (f b) (k - n) d (omega arith))
+    ])
+    (λ d lt. elim (cases_lt r (length (f b))) [
+      | inl inside ↦ ap q (same r d inside) ∙ (ap (λ m. q (get_or (f b) m d)) r_is ∙ prefix_len_stops q (f b) d (omega arith))
+      | inr past ↦ was.above q test parted (n + r) d (omega arith) lt
+    ])

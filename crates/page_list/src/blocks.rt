@@ -1,0 +1,111 @@
+//! A block of blocks: one to `MOST` of them.
+ghost use Rattle.std.specs.Prelude.{◌≡◌, ◌≤◌, ◌++◌, length, take, drop, map, IfOk};
+ghost use Rattle.std.specs.List.{flat_map};
+ghost use Rattle.std.specs.Arc.{arc_value};
+
+use crate::cut::cut;
+use crate::row::Row;
+use crate::short::{MOST, Short};
+use crate::splice::spliced_row;
+use crate::{Block, OutOfMemory};
+use std::alloc::Global;
+use std::marker::Model;
+use std::sync::Arc;
+
+#[derive(Drop)]
+pub(crate) struct Blocks<T: Drop, B: Block<T>> {
+    row: Row<T, B>,
+}
+
+impl<T: Drop, B: Block<T>> Model for Blocks<T, B> {
+    ghost use Rattle.std.specs.Prelude.{◌<◌, ◌≤◌, List, length};
+    ghost use Rattle.std.specs.List.{flat_map};
+    ghost use Rattle.page_list.specs.declared.short.TheConstants.{MOST};
+
+    ghost Value = { List T };
+
+    ghost view = { λ b. flat_map B.entries b.row };
+
+    ghost invariant = { λ b. (0 < length b.row) × (length b.row ≤ MOST) };
+}
+
+impl<T: Drop, B: Block<T>> Blocks<T, B> {
+    fn of(alloc: Global, part: Short<Arc<B>>) -> Result<Blocks<T, B>, OutOfMemory>
+        ensures { IfOk result (λ b. b ≡ flat_map B.entries (map arc_value part)) }
+    {
+        let row = Row::of(alloc, part.into_vec())?;
+        Ok(Blocks { row })
+    }
+}
+
+#[cfg(test)]
+impl<T: Drop, B: Block<T>> Blocks<T, B> {
+    pub(crate) fn blocks(&self) -> &[Arc<B>] {
+        self.row.blocks()
+    }
+}
+
+// The blocks in even blocks of blocks.
+fn blocks_of<T: Drop, B: Block<T>>(
+    alloc: Global,
+    shares: Vec<Arc<B>>,
+) -> Result<Vec<Arc<Blocks<T, B>>>, OutOfMemory>
+    ensures { IfOk result (λ made. flat_map (λ block. block) (map arc_value made.items)
+        ≡ flat_map B.entries (map arc_value shares.items)) }
+{
+    let mut made = Vec::new(alloc);
+    for part in cut(alloc, shares)? {
+        made.push(Arc::new(alloc, Blocks::of(alloc, part)?)?)?;
+    }
+    Ok(made)
+}
+
+impl<T: Drop, B: Block<T>> Block<T> for Blocks<T, B> {
+    ghost entries = { λ block. block };
+
+    fn made(alloc: Global, items: Vec<Arc<T>>) -> Result<Vec<Arc<Blocks<T, B>>>, OutOfMemory>
+        ensures { IfOk result (λ made. flat_map (λ block. block) (map arc_value made.items)
+            ≡ map arc_value items.items) }
+    {
+        blocks_of(alloc, B::made(alloc, items)?)
+    }
+
+    fn len(&self) -> usize {
+        self.row.total()
+    }
+
+    fn is_small(&self) -> bool {
+        self.row.count() < MOST / 2
+    }
+
+    fn first(&self) -> &Arc<T> {
+        self.row.block(0).first()
+    }
+
+    fn page_from(&self, i: usize) -> &[Arc<T>] {
+        self.row.page_from(i)
+    }
+
+    fn find<F: Fn(&T) -> bool>(&self, before: &F) -> usize {
+        self.row.find(before)
+    }
+
+    fn spliced(
+        alloc: Global,
+        left: &Self,
+        from: usize,
+        items: Vec<Arc<T>>,
+        right: &Self,
+        to: usize,
+    ) -> Result<Vec<Arc<Self>>, OutOfMemory>
+        requires from_in { from ≤ length left.now }
+        requires to_in { to ≤ length right.now }
+        ensures { IfOk result (λ made. flat_map (λ block. block) (map arc_value made.items)
+            ≡ take from left.now ++ map arc_value items.items ++ drop to right.now) }
+    {
+        blocks_of(
+            alloc,
+            spliced_row(alloc, &left.row, from, items, &right.row, to)?,
+        )
+    }
+}

@@ -1,0 +1,49 @@
+//! One to `MOST` values.
+ghost use Rattle.std.specs.Prelude.{◌≡◌, ◌<◌, ◌≤◌, length};
+
+use std::marker::Model;
+
+/// How many entries a page may have, and how many blocks a block of blocks.
+pub(crate) const MOST: usize = 32;
+
+#[derive(Drop)]
+pub(crate) struct Short<X> {
+    items: Vec<X>,
+}
+
+impl<X> Model for Short<X> {
+    ghost use Rattle.std.specs.Prelude.{List, length, ◌<◌, ◌≤◌};
+    ghost use Rattle.page_list.specs.declared.short.TheConstants.{MOST};
+
+    ghost Value = { List X };
+
+    ghost view = { λ s. s.items.items };
+
+    ghost invariant = { λ s. (0 < length s.items.items) × (length s.items.items ≤ MOST) };
+}
+
+impl<X> Short<X> {
+    pub(crate) fn of(items: Vec<X>) -> Short<X>
+        requires some { 0 < length items.items }
+        requires few { length items.items ≤ MOST }
+        ensures { result ≡ items.items }
+    {
+        Short { items }
+    }
+
+    pub(crate) fn as_slice(&self) -> &[X]
+        ensures values { result.now ≡ self.now }
+        ensures some { 0 < length self.now }
+    {
+        self.items.as_slice()
+    }
+
+    pub(crate) fn into_vec(self) -> Vec<X>
+        ensures values { result.items ≡ self }
+        ensures some { 0 < length self }
+        ensures few { length self ≤ MOST }
+    {
+        let Short { items } = self;
+        items
+    }
+}

@@ -1,0 +1,142 @@
+//! Rows made of parts of two rows.
+ghost use Rattle.std.specs.Prelude.{[], ◌≡◌, ◌<◌, ◌≤◌, ◌+◌, ◌++◌, length, take, drop, map, IfOk, IsTrue};
+ghost use Rattle.std.specs.List.{flat_map};
+ghost use Rattle.std.specs.Arc.{arc_value};
+ghost use Rattle.page_list.specs.Rows.{IsSeam};
+
+use crate::row::Row;
+use crate::share::shared_round;
+use crate::{Block, OutOfMemory};
+use std::alloc::Global;
+use std::sync::Arc;
+
+// The block before whose end, and the place in it before which, the first `at` entries end.
+fn seam<T: Drop, B: Block<T>>(row: &Row<T, B>, at: usize) -> (usize, usize)
+    requires some { 0 < length row.now }
+    requires in_range { at ≤ length (flat_map B.entries row.now) }
+    ensures { IsSeam B.entries row.now at result.0 result.1 }
+{
+    if at == 0 {
+        return (0, 0);
+    }
+    let (p, x) = row.place(at - 1);
+    (p, x + 1)
+}
+
+// The same, but at the start of the block that has the entry `at` where `inner` says that there is one.
+fn first_seam<T: Drop, B: Block<T>>(row: &Row<T, B>, at: usize, inner: bool) -> (usize, usize)
+    requires some { 0 < length row.now }
+    requires in_range { at ≤ length (flat_map B.entries row.now) }
+    requires inner { IsTrue inner → at < length (flat_map B.entries row.now) }
+    ensures { IsSeam B.entries row.now at result.0 result.1 }
+{
+    if inner { row.place(at) } else { seam(row, at) }
+}
+
+// The blocks that go in between, joined with a neighbour where they are one small block: those blocks,
+// how many of `left` stand before them, and the last block of `right` that they replace.
+fn joined<T: Drop, B: Block<T>>(
+    alloc: Global,
+    left: &Row<T, B>,
+    p: usize,
+    made: Vec<Arc<B>>,
+    right: &Row<T, B>,
+    q: usize,
+) -> Result<(Vec<Arc<B>>, usize, usize), OutOfMemory>
+    requires left_in { p < length left.now }
+    requires right_in { q < length right.now }
+    ensures right_in { IfOk result (λ w. w.2 < length right.now) }
+    ensures same { IfOk result (λ w.
+        flat_map B.entries (take w.1 left.now) ++ flat_map B.entries (map arc_value w.0.items)
+        ++ flat_map B.entries (drop (w.2 + 1) right.now)
+        ≡ flat_map B.entries (take p left.now) ++ flat_map B.entries (map arc_value made.items)
+        ++ flat_map B.entries (drop (q + 1) right.now)) }
+{
+    if made.len() == 1 && made[0].is_small() {
+        if p > 0 {
+            let made = with_left::<T, B>(alloc, left.block(p - 1), made.as_slice())?;
+            return Ok((made, p - 1, q));
+        }
+        if q < right.count() - 1 {
+            let made = with_right::<T, B>(alloc, made.as_slice(), right.block(q + 1))?;
+            return Ok((made, p, q + 1));
+        }
+    }
+    Ok((made, p, q))
+}
+
+// A block and the one block that `made` has, in new blocks.
+fn with_left<T: Drop, B: Block<T>>(
+    alloc: Global,
+    block: &B,
+    made: &[Arc<B>],
+) -> Result<Vec<Arc<B>>, OutOfMemory>
+    requires { length made.now ≡ 1 }
+    ensures { IfOk result (λ both. flat_map B.entries (map arc_value both.items)
+        ≡ B.entries block.now ++ flat_map B.entries (map arc_value made.now)) }
+{
+    B::spliced(alloc, block, block.len(), Vec::new(alloc), &made[0], 0)
+}
+
+// The one block that `made` has and a block, in new blocks.
+fn with_right<T: Drop, B: Block<T>>(
+    alloc: Global,
+    made: &[Arc<B>],
+    block: &B,
+) -> Result<Vec<Arc<B>>, OutOfMemory>
+    requires { length made.now ≡ 1 }
+    ensures { IfOk result (λ both. flat_map B.entries (map arc_value both.items)
+        ≡ flat_map B.entries (map arc_value made.now) ++ B.entries block.now) }
+{
+    B::spliced(alloc, &made[0], made[0].len(), Vec::new(alloc), block, 0)
+}
+
+// Whether no entry comes in, and whole blocks stay on both sides, neither of them small.
+fn is_clean_cut<T: Drop, B: Block<T>>(
+    first: &B,
+    x: usize,
+    items: &[Arc<T>],
+    last: &B,
+    y: usize,
+) -> bool
+    ensures none { IsTrue result → items.now ≡ [] }
+    ensures whole_first { IsTrue result → x ≡ length (B.entries first.now) }
+    ensures whole_last { IsTrue result → y ≡ 0 }
+{
+    items.is_empty() && x == first.len() && y == 0 && !first.is_small() && !last.is_small()
+}
+
+/// The entries of `left` before `from`, `items`, and the entries of `right` from `to` on.
+pub(crate) fn spliced_row<T: Drop, B: Block<T>>(
+    alloc: Global,
+    left: &Row<T, B>,
+    from: usize,
+    items: Vec<Arc<T>>,
+    right: &Row<T, B>,
+    to: usize,
+) -> Result<Vec<Arc<B>>, OutOfMemory>
+    requires left_some { 0 < length left.now }
+    requires right_some { 0 < length right.now }
+    requires from_in { from ≤ length (flat_map B.entries left.now) }
+    requires to_in { to ≤ length (flat_map B.entries right.now) }
+    ensures { IfOk result (λ made. flat_map B.entries (map arc_value made.items)
+        ≡ take from (flat_map B.entries left.now) ++ map arc_value items.items
+        ++ drop to (flat_map B.entries right.now)) }
+{
+    let inner = from < to && from < left.total();
+    let (p, x) = first_seam(left, from, inner);
+    let (q, y) = seam(right, to);
+    let first = left.block(p);
+    let last = right.block(q);
+    if is_clean_cut(first, x, items.as_slice(), last, y) {
+        return shared_round(
+            alloc,
+            left.blocks_through(p),
+            Vec::new(alloc),
+            right.blocks_from(q),
+        );
+    }
+    let made = B::spliced(alloc, first, x, items, last, y)?;
+    let (made, p, q) = joined(alloc, left, p, made, right, q)?;
+    shared_round(alloc, left.blocks_before(p), made, right.blocks_after(q))
+}

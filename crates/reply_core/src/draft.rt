@@ -1,0 +1,107 @@
+ghost use Rattle.std.specs.Prelude.{◌≡◌, ◌≤◌, length, is_none};
+ghost use Rattle.byteorder.specs.Endian.{big_bytes};
+ghost use Rattle.reply_core.specs.Draft.{put, blank, octets_of};
+ghost use Rattle.reply_core.specs.declared.draft.TheConstants.{MAX_REPLY};
+
+use arrayvec::ArrayVec;
+use std::marker::Model;
+
+/// The octets of the longest reply, and the UDP payload that a reply says it takes.
+pub const MAX_REPLY: usize = 1232;
+
+/// Octets that are put one after the other, up to a limit. Once they would go beyond it, there are none, and nothing
+/// that is put changes that.
+#[derive(Debug, Drop)]
+pub(crate) struct Draft {
+    octets: ArrayVec<u8, MAX_REPLY>,
+    limit: usize,
+    over: bool,
+}
+
+impl Model for Draft {
+    ghost use Rattle.std.specs.Prelude.{◌≡◌, ◌≤◌, true, [], length, if◌then◌else◌, Some, None};
+    ghost use Rattle.reply_core.specs.Draft.{Contents};
+    ghost use Rattle.reply_core.specs.declared.draft.TheConstants.{MAX_REPLY};
+
+    ghost Value = { Contents };
+
+    ghost view = { λ d. record {
+      limit = d.limit;
+      written = (if d.over then None else Some d.octets.items);
+    } };
+
+    ghost invariant = { λ d. (d.limit ≤ MAX_REPLY) × (d.over ≡ true → d.octets.items ≡ [])
+        × (length d.octets.items ≤ d.limit) };
+}
+
+impl Draft {
+    /// A draft with nothing in it.
+    pub(crate) fn new(limit: usize) -> Draft
+        requires { limit ≤ MAX_REPLY }
+        ensures { result ≡ blank limit }
+    {
+        Draft {
+            octets: ArrayVec::new(),
+            limit,
+            over: false,
+        }
+    }
+
+    /// Clears the draft for another limit.
+    pub(crate) fn restart(&mut self, limit: usize)
+        requires { limit ≤ MAX_REPLY }
+        ensures { self.new ≡ blank limit }
+    {
+        self.octets.clear();
+        self.limit = limit;
+        self.over = false;
+    }
+
+    /// Puts the octets after those that there are.
+    pub(crate) fn put(&mut self, octets: &[u8])
+        ensures { self.new ≡ put self.old octets.now }
+    {
+        if self.over {
+            return;
+        }
+        if self.octets.len() + octets.len() > self.limit {
+            self.octets.clear();
+            self.over = true;
+            return;
+        }
+        let fitted = self.octets.try_extend_from_slice(octets).is_ok();
+        prove!(fitted);
+    }
+
+    pub(crate) fn put_u8(&mut self, number: u8)
+        ensures { self.new ≡ put self.old (big_bytes 1 number) }
+    {
+        self.put(&number.to_be_bytes());
+    }
+
+    pub(crate) fn put_u16(&mut self, number: u16)
+        ensures { self.new ≡ put self.old (big_bytes 2 number) }
+    {
+        self.put(&number.to_be_bytes());
+    }
+
+    pub(crate) fn put_u32(&mut self, number: u32)
+        ensures { self.new ≡ put self.old (big_bytes 4 number) }
+    {
+        self.put(&number.to_be_bytes());
+    }
+
+    /// Whether more was put than the limit.
+    pub(crate) fn is_over(&self) -> bool
+        ensures { result ≡ is_none self.now.written }
+    {
+        self.over
+    }
+
+    pub(crate) fn as_slice(&self) -> &[u8]
+        ensures value { result.now ≡ octets_of self.now.written }
+        ensures fits { length result.now ≤ MAX_REPLY }
+    {
+        self.octets.as_slice()
+    }
+}

@@ -1,0 +1,10 @@
+pub mod ExampleLemmas
+mod FoundLemmas
+mod HashFacts
+mod NsecLemmas
+mod Nsec3Lemmas
+mod OnceLemmas
+pub mod QueryLemmas
+pub mod SoundLemmas
+mod TestLemmas
+mod TypeLemmas
