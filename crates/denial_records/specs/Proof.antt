@@ -1,5 +1,5 @@
 -- A proof by kept records of what a zone answers to a name and a type (RFC 8198, section 5), and the verdict that shows it.
-use Rattle.std.specs.Prelude.{◌≡◌, ℕ, ◌≤◌, List, ◌++◌, length, Option, slice_get}
+use Rattle.std.specs.Prelude.{◌≡◌, ◌≤◌, List, ◌++◌, length, Option, slice_get}
 use Rattle.std.specs.Option.{option_map, option_copied, option_to_list}
 use Rattle.denial_records.specs.declared.set_rec.SetRec.{SetRec}
 use Rattle.denial_records.specs.declared.record.Record.{Record}

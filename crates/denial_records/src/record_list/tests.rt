@@ -77,8 +77,10 @@ fn records_are_copied_and_listed(rt: HostRuntime) -> Result<(), Fail> {
         batch.records.push(record.copy(alloc)?)?;
     }
     assert_eq!(rt; batch.records.len(), 3);
-    for record in batch.records.as_slice() {
-        assert_eq!(rt; life_and_signatures(record), (3600, 2));
+    for i in 0..batch.records.len() {
+        assert_eq!(rt; life_and_signatures(batch.records.get(i)), (3600, 2));
     }
+    let set = batch.records.share(0)?;
+    assert_eq!(rt; life_and_signatures(&set), (3600, 2));
     Ok(())
 }
