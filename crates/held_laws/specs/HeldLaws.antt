@@ -3,7 +3,7 @@ use Rattle.std.specs.Prelude.{◌≡◌, ◌↔◌, IsTrue, ℕ, false, List, So
 use Rattle.std.specs.List.{Contains, AllPairs}
 use Rattle.std.specs.Ordering.{nat_cmp}
 use Rattle.std.specs.Cmp.Lexicographic.{slice_cmp}
-use Rattle.dname.specs.Name.{canonical_cmp}
+use Rattle.dname.specs.Name.{Label, canonical_cmp}
 use Rattle.dname.specs.Arc.{arcs_meet}
 use Rattle.denial_records.specs.declared.set_rec.SetRec.{SetRec}
 use Rattle.denial_records.specs.declared.nsec_rec.NsecRec.{NsecRec}
@@ -11,6 +11,7 @@ use Rattle.denial_records.specs.declared.nsec3_rec.Nsec3Rec.{Nsec3Rec}
 use Rattle.denial_records.specs.declared.record.Record.{Record}
 use Rattle.denial_records.specs.declared.record.Record.TheVariants.{Set, Nsec, Nsec3}
 use Rattle.cache_meaning.specs.Held.{Held, ZoneChain, same_zone_chain, chain_of, parameters_of, is_usable, displaces}
+use Rattle.cache_meaning.specs.Zones.{chains_of}
 
 -- the record hasn't expired
 abbrev pub IsUsableAt : ℕ → Record → Type 0
@@ -62,7 +63,7 @@ Nsec3sOnce records =
 abbrev pub EachListedOnce : List ZoneChain → Type 0
 EachListedOnce chains = AllPairs (λ one other. same_zone_chain one other ≡ false) chains
 
--- the other state holds the same records, whatever their order, and lists the same chains in the same order
+-- the other state holds the same records, whatever their order, and lists each zone's chains in the same order
 pub record IsReordered (held other : Held) : Type 0 where
   pub records : (item : Record) → Contains held.records item ↔ Contains other.records item
-  pub chains : held.chains ≡ other.chains
+  pub chains : (zone : List Label) → chains_of held zone ≡ chains_of other zone
