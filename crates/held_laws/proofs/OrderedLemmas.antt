@@ -1,9 +1,9 @@
 -- The order of keys keeps what is held, after each batch too.
-use Rattle.std.proofs.Common.{◌≡◌, ◌≤◌, Bool, true, false, true≢false, List, length, refl, sym, ◌∙◌, subst, arith}
+use Rattle.std.proofs.Common.{◌≡◌, ◌≤◌, Bool, true, false, true≢false, List, length, refl, sym, ◌∙◌, subst, arith, [], ◌∷◌, ◌++◌, All, get_or}
 use Rattle.denial_records.specs.declared.batch.Batch.{Batch}
 use Rattle.cache_meaning.specs.Held.{Held, ZoneChain, key_cmp, same_zone_chain, nothing_held, most_records, held_after, held_of}
 use Rattle.cache_meaning.specs.Zones.{TwoChains}
-use Rattle.held_laws.specs.HeldLaws.{IsApart, NoneDisplaces, EachListedOnce, EachChainHasARecord, EachRecordIsListed, IsReordered}
+use Rattle.held_laws.specs.HeldLaws.{IsUsableAt, IsApart, NoneDisplaces, EachListedOnce, EachChainHasARecord, EachRecordIsListed, IsReordered}
 use Rattle.held_laws.specs.KeyOrder.{zone_cmp, IsInKeyOrder, IsInZoneOrder, in_key_order, kept_after, kept_of}
 use Rattle.held_laws.proofs.ApartLemmas.{after_apart}
 use Rattle.held_laws.proofs.KeptLemmas.{fold_keeps, two_chains}
@@ -13,6 +13,8 @@ use Rattle.held_laws.proofs.OnceLemmas.{after_once}
 use Rattle.held_laws.proofs.RankLemmas.{all_within}
 use Rattle.held_laws.proofs.ReorderLemmas.{Alike, fold_both, list_alike, reordered, same_listed, after_alike}
 use Rattle.held_laws.proofs.SortLemmas.{sorted_members, sorted_pairs}
+use Rattle.held_laws.proofs.UsableLemmas.{last_usable}
+use Rattle.std.proofs.lemmas.List.Elements.{All-contains, Contains-get_or}
 
 -- ---- one state
 
@@ -100,3 +102,9 @@ pub kept_within : (batches : List Batch) → length (kept_of batches).records �
 kept_within batches =
     let alike = all_alike batches in
     subst (λ n. n ≤ most_records) (length_alike _ _ alike.apart alike.others_apart alike.order.records) (all_within batches)
+
+pub kept_usable : (batches : List Batch) (batch : Batch) → All (IsUsableAt batch.now) batch.records → All (IsUsableAt batch.now) (kept_of (batches ++ batch ∷ [])).records
+kept_usable batches batch each k d within =
+    let kept = (kept_of (batches ++ batch ∷ [])).records in
+    All-contains (IsUsableAt batch.now) (held_of (batches ++ batch ∷ [])).records (get_or kept k d) (last_usable batches batch each)
+    (((all_alike (batches ++ batch ∷ [])).order.records (get_or kept k d)).1 (Contains-get_or kept k d within))

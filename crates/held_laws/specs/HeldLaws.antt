@@ -10,8 +10,8 @@ use Rattle.denial_records.specs.declared.nsec_rec.NsecRec.{NsecRec}
 use Rattle.denial_records.specs.declared.nsec3_rec.Nsec3Rec.{Nsec3Rec}
 use Rattle.denial_records.specs.declared.record.Record.{Record}
 use Rattle.denial_records.specs.declared.record.Record.TheVariants.{Set, Nsec, Nsec3}
-use Rattle.cache_meaning.specs.Held.{Held, ZoneChain, same_zone_chain, chain_of, parameters_of, is_usable, displaces}
-use Rattle.cache_meaning.specs.Zones.{chains_of}
+use Rattle.cache_meaning.specs.Held.{Held, HashParameters, ZoneChain, same_zone_chain, chain_of, parameters_of, is_usable, displaces}
+use Rattle.cache_meaning.specs.Zones.{zone_for, chains_of, set_at, nsec_at, nsec3_at}
 
 -- the record hasn't expired
 abbrev pub IsUsableAt : ℕ → Record → Type 0
@@ -67,3 +67,15 @@ EachListedOnce chains = AllPairs (λ one other. same_zone_chain one other ≡ fa
 pub record IsReordered (held other : Held) : Type 0 where
   pub records : (item : Record) → Contains held.records item ↔ Contains other.records item
   pub chains : (zone : List Label) → chains_of held zone ≡ chains_of other zone
+
+-- whatever is looked up in the one state and the other, they give the same
+pub record SameLookups (held other : Held) : Type 0 where
+  pub zone : (name : List Label) (qtype : ℕ) → zone_for held name qtype ≡ zone_for other name qtype
+  pub chains : (zone : List Label) → chains_of held zone ≡ chains_of other zone
+  pub set :
+      (zone owner : List Label) (rtype : ℕ)
+      → set_at held zone owner rtype ≡ set_at other zone owner rtype
+  pub nsec : (zone name : List Label) → nsec_at held zone name ≡ nsec_at other zone name
+  pub nsec3 :
+      (zone : List Label) (parameters : HashParameters) (hash : List ℕ)
+      → nsec3_at held zone parameters hash ≡ nsec3_at other zone parameters hash

@@ -1,8 +1,9 @@
-ghost use Rattle.std.specs.Prelude.{◌≡◌, ◌≤◌, length, List};
+ghost use Rattle.std.specs.Prelude.{◌≡◌, ◌≤◌, length, List, [], ◌∷◌, ◌++◌};
+ghost use Rattle.std.specs.List.{All};
 ghost use Rattle.denial_records.specs.declared.batch.Batch.{Batch};
 ghost use Rattle.cache_meaning.specs.Held.{Held, most_records, held_after, held_of};
 ghost use Rattle.cache_meaning.specs.Zones.{TwoChains};
-ghost use Rattle.held_laws.specs.HeldLaws.{IsReordered, EachChainHasARecord, EachRecordIsListed, EachListedOnce, NoneDisplaces};
+ghost use Rattle.held_laws.specs.HeldLaws.{IsUsableAt, IsReordered, EachChainHasARecord, EachRecordIsListed, EachListedOnce, NoneDisplaces};
 ghost use Rattle.held_laws.specs.KeyOrder.{IsInKeyOrder, IsInZoneOrder, in_key_order, kept_of};
 
 /// A batch reads no order: of two states that hold the same records, of which none displaces another, and list each zone's
@@ -44,5 +45,8 @@ pub fn kept_in_key_order()
     ensures has_record { (batches : List Batch) → EachChainHasARecord (kept_of batches) }
     ensures is_listed { (batches : List Batch) → EachRecordIsListed (kept_of batches) }
     ensures once { (batches : List Batch) → EachListedOnce (kept_of batches).chains }
+    ensures usable { (batches : List Batch) (batch : Batch)
+        → All (IsUsableAt batch.now) batch.records
+        → All (IsUsableAt batch.now) (kept_of (batches ++ batch ∷ [])).records }
     ensures within { (batches : List Batch) → length (kept_of batches).records ≤ most_records }
 {}

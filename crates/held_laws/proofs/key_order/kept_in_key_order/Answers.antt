@@ -1,4 +1,4 @@
-use Rattle.held_laws.proofs.OrderedLemmas.{all_alike, kept_in_order, kept_in_zones, kept_two, kept_has_record, kept_is_listed, kept_once, kept_within}
+use Rattle.held_laws.proofs.OrderedLemmas.{all_alike, kept_in_order, kept_in_zones, kept_two, kept_has_record, kept_is_listed, kept_once, kept_usable, kept_within}
 use Rattle.held_laws.proofs.key_order.kept_in_key_order.Goals as goal
 
 pub returns : goal.returns
@@ -11,5 +11,6 @@ returns c = record {
   has_record = kept_has_record;
   is_listed = kept_is_listed;
   once = kept_once;
+  usable = kept_usable;
   within = kept_within;
 }
