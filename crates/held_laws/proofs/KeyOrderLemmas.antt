@@ -1,5 +1,5 @@
 -- Records of which none displaces another have one order by their keys, and chains one by their zones.
-use Rattle.std.proofs.Common.{◌≡◌, ◌≢◌, ◌⊎◌, ◌↔◌, ℕ, ◌||◌, inl, inr, Bool, true, false, true≢false, List, [], ◌∷◌, length, get_or, cond, Contains, filter, count_by, refl, sym, ◌∙◌, ap, subst}
+use Rattle.std.proofs.Common.{◌≡◌, ◌≢◌, ◌⊎◌, ◌↔◌, ℕ, ◌||◌, inl, inr, Bool, true, false, true≢false, List, [], ◌∷◌, length, get_or, cond, Contains, filter, count_by, refl, sym, ◌∙◌, ap, subst, ◌++◌, All, ⊎_elim}
 use Rattle.std.specs.List.{AllPairs}
 use Rattle.std.specs.Ordering.{nat_cmp, is_lt, is_le, is_gt, ordering_then, ordering_reverse}
 use Rattle.std.specs.Cmp.{IsTotalOrder}
@@ -9,7 +9,9 @@ use Rattle.std.specs.declared.cmp.Ordering.{Ordering}
 use Rattle.std.specs.declared.cmp.Ordering.TheVariants.{Less, Equal, Greater}
 use Rattle.std.proofs.lemmas.Bool.Decides.{Decides-eqb}
 use Rattle.std.proofs.lemmas.Cmp.{on_total, tied_itself, nat_list_cmp_total}
-use Rattle.std.proofs.lemmas.List.Elements.{All-contains}
+use Rattle.std.proofs.lemmas.List.Elements.{All-contains, Contains-push, Contains-append_left, Contains-push_cases}
+use Rattle.std.proofs.lemmas.List.Kept.{AllPairs-cons, AllPairs-filter}
+use Rattle.std.proofs.lemmas.List.Quantifiers.{all_pairs_push}
 use Rattle.dname.specs.Arc.{arc_has}
 use Rattle.dname.specs.Name.{Label, canonical_cmp}
 use Rattle.dname.specs.Order.{canonical_total, canonical_equal, canonical_same}
@@ -17,9 +19,9 @@ use Rattle.dname.specs.Tests.{same_name}
 use Rattle.denial_records.specs.declared.record.Record.{Record}
 use Rattle.denial_records.specs.declared.record.Record.TheVariants.{Set, Nsec, Nsec3}
 use Rattle.cache_meaning.specs.Held.{ZoneChain, same_parameters, parameters_of, key_cmp, displaces}
-use Rattle.held_laws.specs.HeldLaws.{NoneDisplaces}
-use Rattle.held_laws.specs.KeyOrder.{sorted, zone_cmp, IsInKeyOrder, IsInZoneOrder}
-use Rattle.held_laws.proofs.ListLemmas.{here, here_or_there, nothing_in, kept, was_kept}
+use Rattle.held_laws.specs.HeldLaws.{IsApart, NoneDisplaces}
+use Rattle.held_laws.specs.KeyOrder.{placed, sorted, zone_cmp, IsInKeyOrder, IsInZoneOrder}
+use Rattle.held_laws.proofs.ListLemmas.{filtered, there, here, here_or_there, nothing_in, kept, was_kept}
 use Rattle.held_laws.proofs.ListedLemmas.{name_equal, name_itself, parameters_itself}
 use Rattle.held_laws.proofs.RankLemmas.{key_total}
 use Rattle.held_laws.proofs.SameLemmas.{one_of_key, all_true, same_names}
@@ -119,6 +121,26 @@ count_alike p xs ys apart apart' same = sym (sorted_count key_cmp p xs) ∙ ap (
 pub length_alike : (xs ys : List Record) → NoneDisplaces xs → NoneDisplaces ys → ((x : Record) → Contains xs x ↔ Contains ys x) → length xs ≡ length ys
 length_alike xs ys apart apart' same = sym (sorted_length key_cmp xs) ∙ ap length (sorted_alike xs ys apart apart' same) ∙ sorted_length key_cmp ys
 
+-- what is in the order of keys is sorted
+pub sorted_already : (xs : List Record) → NoneDisplaces xs → IsInKeyOrder xs → sorted key_cmp xs ≡ xs
+sorted_already xs apart rising = sorted_is xs xs apart rising (λ x. (λ has. has, λ has. has))
+
+-- it may be filtered before it is sorted, or after
+pub sorted_filtered : (p : Record → Bool) (xs : List Record) → NoneDisplaces xs → sorted key_cmp (filter p xs) ≡ filter p (sorted key_cmp xs)
+sorted_filtered p xs apart =
+    sorted_is (filter p xs) (filter p (sorted key_cmp xs)) (AllPairs-filter IsApart p xs apart) (AllPairs-filter (λ one other. key_cmp one other ≡ Less) p (sorted key_cmp xs) (sorted_in_key_order xs apart))
+    (filtered p p (λ x. refl) xs (sorted key_cmp xs) (sorted_members key_cmp xs))
+
+-- what is put last is placed
+pub sorted_pushed : (xs : List Record) (new : Record) → NoneDisplaces xs → All (IsApart new) xs → sorted key_cmp (xs ++ new ∷ []) ≡ placed key_cmp new (sorted key_cmp xs)
+sorted_pushed xs new apart from_all =
+    sorted_alike (xs ++ new ∷ []) (new ∷ xs)
+    (all_pairs_push IsApart xs new apart (λ k d within. let one = from_all k d within in (one.1, one.0)))
+    (AllPairs-cons IsApart new xs from_all apart) (λ x. (
+      λ has. ⊎_elim (there new xs x) (λ same. subst (Contains (new ∷ xs)) same (here new xs)) (Contains-push_cases xs new x has),
+      λ has. ⊎_elim (λ same. subst (Contains (xs ++ new ∷ [])) same (Contains-push xs new)) (Contains-append_left xs (new ∷ []) x) (here_or_there new xs x has),
+    ))
+
 -- ---- chains of one order
 
 abbrev pub in_zone : List Label → ZoneChain → Bool
@@ -196,3 +218,6 @@ grouped_is xs ys up alike = grouped_one (sorted zone_cmp xs) ys (grouped_in_zone
 
 pub grouped_alike : (xs ys : List ZoneChain) → ListAlike xs ys → sorted zone_cmp xs ≡ sorted zone_cmp ys
 grouped_alike xs ys alike = grouped_is xs (sorted zone_cmp ys) (grouped_in_zone_order ys) (λ zone. alike zone ∙ sym (grouped_keeps ys zone))
+
+pub grouped_already : (xs : List ZoneChain) → IsInZoneOrder xs → sorted zone_cmp xs ≡ xs
+grouped_already xs up = grouped_is xs xs up (λ zone. refl)

@@ -1,17 +1,19 @@
 -- The order of keys keeps what is held, after each batch too.
-use Rattle.std.proofs.Common.{◌≡◌, ◌≤◌, Bool, true, false, true≢false, List, length, refl, sym, ◌∙◌, subst, arith, [], ◌∷◌, ◌++◌, All, get_or}
+use Rattle.std.proofs.Common.{◌≡◌, ◌≤◌, Bool, true, false, true≢false, List, length, refl, sym, ◌∙◌, subst, arith, [], ◌∷◌, ◌++◌, All, get_or, filter}
+use Rattle.std.specs.Ordering.{is_gt}
+use Rattle.std.proofs.lemmas.List.Kept.{AllPairs-filter}
 use Rattle.denial_records.specs.declared.batch.Batch.{Batch}
 use Rattle.cache_meaning.specs.Held.{Held, ZoneChain, key_cmp, same_zone_chain, nothing_held, most_records, held_after, held_of}
 use Rattle.cache_meaning.specs.Zones.{TwoChains}
 use Rattle.held_laws.specs.HeldLaws.{IsUsableAt, IsApart, NoneDisplaces, EachListedOnce, EachChainHasARecord, EachRecordIsListed, IsReordered}
-use Rattle.held_laws.specs.KeyOrder.{zone_cmp, IsInKeyOrder, IsInZoneOrder, in_key_order, kept_after, kept_of}
+use Rattle.held_laws.specs.KeyOrder.{sorted, zone_cmp, IsInKeyOrder, IsInZoneOrder, in_key_order, kept_after, kept_of}
 use Rattle.held_laws.proofs.ApartLemmas.{after_apart}
 use Rattle.held_laws.proofs.KeptLemmas.{fold_keeps, two_chains}
-use Rattle.held_laws.proofs.KeyOrderLemmas.{sorted_in_key_order, sorted_alike, length_alike, grouped_keeps, grouped_in_zone_order, grouped_alike}
+use Rattle.held_laws.proofs.KeyOrderLemmas.{sorted_in_key_order, sorted_alike, length_alike, grouped_is, grouped_keeps, grouped_in_zone_order, grouped_alike}
 use Rattle.held_laws.proofs.ListedLemmas.{equal, itself, all_are_listed}
 use Rattle.held_laws.proofs.OnceLemmas.{after_once}
 use Rattle.held_laws.proofs.RankLemmas.{all_within}
-use Rattle.held_laws.proofs.ReorderLemmas.{Alike, fold_both, list_alike, reordered, same_listed, after_alike}
+use Rattle.held_laws.proofs.ReorderLemmas.{alike_filtered, Alike, fold_both, list_alike, reordered, same_listed, after_alike}
 use Rattle.held_laws.proofs.SortLemmas.{sorted_members, sorted_pairs}
 use Rattle.held_laws.proofs.UsableLemmas.{last_usable}
 use Rattle.std.proofs.lemmas.List.Elements.{All-contains, Contains-get_or}
@@ -44,6 +46,12 @@ one_in_key_order held other apart apart' order =
       records = sorted_alike held.records other.records apart apart' order.records i;
       chains = grouped_alike held.chains other.chains (list_alike held other order) i;
     }
+
+-- chains may be filtered before they are grouped, or after
+pub grouped_filtered : (p : ZoneChain → Bool) (xs : List ZoneChain) → sorted zone_cmp (filter p xs) ≡ filter p (sorted zone_cmp xs)
+grouped_filtered p xs =
+    grouped_is (filter p xs) (filter p (sorted zone_cmp xs)) (AllPairs-filter (λ one other. is_gt (zone_cmp one other) ≡ false) p (sorted zone_cmp xs) (grouped_in_zone_order xs))
+    (alike_filtered p p (λ chain. refl) xs (sorted zone_cmp xs) (λ zone. sym (grouped_keeps xs zone)))
 
 -- ---- after each batch
 

@@ -1,36 +1,18 @@
 -- A batch reads no order: of two states that hold the same, whatever their order, it makes two that hold the same.
-use Rattle.std.proofs.Common.{◌≡◌, ◌↔◌, ◌-◌, nat_lt, Bool, true, false, not, ⊎_elim, List, [], ◌∷◌, ◌++◌, cond, Contains, filter, map, fold, Option, Some, None, refl, sym, ◌∙◌, ap, subst}
+use Rattle.std.proofs.Common.{◌≡◌, ◌-◌, nat_lt, Bool, true, false, not, List, [], ◌∷◌, cond, Contains, filter, map, fold, Option, Some, None, refl, sym, ◌∙◌, ap, subst}
 use Rattle.std.specs.List.{list_any}
-use Rattle.std.proofs.lemmas.List.Elements.{Contains-push, Contains-append_left, Contains-push_cases, filter_agree}
+use Rattle.std.proofs.lemmas.List.Elements.{filter_agree}
 use Rattle.std.proofs.lemmas.List.Kept.{AllPairs-filter}
 use Rattle.dname.specs.Name.{Label}
 use Rattle.denial_records.specs.declared.batch.Batch.{Batch}
 use Rattle.denial_records.specs.declared.record.Record.{Record}
 use Rattle.cache_meaning.specs.Held.{Held, ZoneChain, Chain, same_zone_chain, chain_of, is_of_chain, is_usable, displaces, third_of, goes_before, goes, most_records, held_where, without_third, with_new_chain, with_chain, held_with, within_limit, held_after}
 use Rattle.held_laws.specs.HeldLaws.{IsApart, NoneDisplaces, IsReordered}
-use Rattle.held_laws.proofs.ListLemmas.{kept, was_kept}
+use Rattle.held_laws.proofs.ListLemmas.{SameMembers, filtered, pushed, kept, was_kept}
 use Rattle.held_laws.proofs.ListedLemmas.{name_equal, name_itself}
 use Rattle.held_laws.proofs.SameLemmas.{same_any}
 use Rattle.held_laws.proofs.ApartLemmas.{with_apart, after_apart}
 use Rattle.held_laws.proofs.KeyOrderLemmas.{in_zone, ListAlike, count_alike, length_alike}
-
--- ---- records
-
-abbrev pub SameMembers : {X : Type 0} → List X → List X → Type 0
-SameMembers {X} xs ys = (x : X) → Contains xs x ↔ Contains ys x
-
-filtered : {X : Type 0} (p q : X → Bool) → ((x : X) → p x ≡ q x) → (xs ys : List X) → SameMembers xs ys → SameMembers (filter p xs) (filter q ys)
-filtered p q agree xs ys same x = (
-  λ has. let was = was_kept p xs x has in kept q ys x ((same x).0 was.0) (sym (agree x) ∙ was.1),
-  λ has. let was = was_kept q ys x has in kept p xs x ((same x).1 was.0) (agree x ∙ was.1),
-)
-
-pushed_there : {X : Type 0} (xs ys : List X) → ((x : X) → Contains xs x → Contains ys x) → (new x : X) → Contains (xs ++ new ∷ []) x → Contains (ys ++ new ∷ []) x
-pushed_there xs ys more new x has =
-    ⊎_elim (λ h. Contains-append_left ys (new ∷ []) x (more x h)) (λ same. subst (Contains (ys ++ new ∷ [])) same (Contains-push ys new)) (Contains-push_cases xs new x has)
-
-pushed : {X : Type 0} (xs ys : List X) → SameMembers xs ys → (new : X) → SameMembers (xs ++ new ∷ []) (ys ++ new ∷ [])
-pushed xs ys same new x = (pushed_there xs ys (λ y. (same y).0) new x, pushed_there ys xs (λ y. (same y).1) new x)
 
 -- ---- chains
 
@@ -70,7 +52,7 @@ filter_twice {X} p q (x ∷ xs) = by (p x) (q x) refl refl (filter_twice p q xs)
     by false true is are h = rw is h
     by false false is are h = h
 
-alike_filtered : (p q : ZoneChain → Bool) → ((chain : ZoneChain) → p chain ≡ q chain) → (xs ys : List ZoneChain) → ListAlike xs ys → ListAlike (filter p xs) (filter q ys)
+pub alike_filtered : (p q : ZoneChain → Bool) → ((chain : ZoneChain) → p chain ≡ q chain) → (xs ys : List ZoneChain) → ListAlike xs ys → ListAlike (filter p xs) (filter q ys)
 alike_filtered p q agree xs ys alike zone =
     filter_twice (in_zone zone) p xs ∙ ap (filter p) (alike zone) ∙ filter_agree p q agree (filter (in_zone zone) ys) ∙ filter_twice q (in_zone zone) ys
 
