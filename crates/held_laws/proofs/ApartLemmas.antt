@@ -53,7 +53,7 @@ displaces_either_way (Nsec3 one) (Nsec3 other) = λ i. names one.zone other.zone
 
 -- ---- the steps
 
-with_apart : (held : Held) (new : Record) → NoneDisplaces held.records → NoneDisplaces (held_with held new).records
+pub with_apart : (held : Held) (new : Record) → NoneDisplaces held.records → NoneDisplaces (held_with held new).records
 with_apart held new apart =
     with_chain_keeps NoneDisplaces (λ test records h. AllPairs-filter IsApart test records h) (chain_of new) _
     (all_pairs_push IsApart (filter stays held.records) new (AllPairs-filter IsApart stays held.records apart) (λ k d within.
@@ -68,7 +68,7 @@ with_apart held new apart =
     not_true true h = absurd (true≢false (sym h))
     not_true false h = refl
 
-after_apart : (held : Held) (batch : Batch) → NoneDisplaces held.records → NoneDisplaces (held_after held batch).records
+pub after_apart : (held : Held) (batch : Batch) → NoneDisplaces held.records → NoneDisplaces (held_after held batch).records
 after_apart held batch apart =
     AllPairs-filter IsApart _ _
     (fold_keeps (λ (h : Held). NoneDisplaces h.records) held_with with_apart (held_where (is_usable batch.now) held) batch.records

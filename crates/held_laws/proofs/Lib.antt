@@ -1,9 +1,14 @@
+pub mod AnswerLemmas
 pub mod ApartLemmas
 pub mod KeptLemmas
+pub mod KeyOrderLemmas
 pub mod LimitLemmas
 pub mod ListLemmas
 pub mod ListedLemmas
 pub mod OnceLemmas
+pub mod OrderedLemmas
 pub mod RankLemmas
+pub mod ReorderLemmas
 pub mod SameLemmas
+pub mod SortLemmas
 pub mod UsableLemmas

@@ -1,7 +1,7 @@
 -- What a list contains, where it is filtered or asked.
-use Rattle.std.proofs.Common.{◌≡◌, zero, suc, ◌⊎◌, ◌||◌, inl, inr, ⊎_elim, Bool, true, false, true≢false, List, [], ◌∷◌, cond, Contains, All, filter, refl, sym, ◌∙◌, ap, subst, arith}
+use Rattle.std.proofs.Common.{◌≡◌, zero, suc, ◌⊎◌, ◌||◌, inl, inr, ⊎_elim, Bool, true, false, true≢false, List, [], ◌∷◌, cond, Contains, All, filter, refl, sym, ◌∙◌, ap, subst, arith, ◌↔◌, ◌++◌}
 use Rattle.std.specs.List.{list_any}
-use Rattle.std.proofs.lemmas.List.Elements.{All-nil, All-cons}
+use Rattle.std.proofs.lemmas.List.Elements.{All-nil, All-cons, Contains-push, Contains-append_left, Contains-push_cases}
 
 pub here : {X : Type 0} (x : X) (xs : List X) → Contains (x ∷ xs) x
 here x xs = (zero, omega arith, refl)
@@ -64,3 +64,21 @@ module _ {X : Type 0} (p : X → Bool) where
       by : (b : Bool) → p x ≡ b → All (λ y. p y ≡ true) (filter p xs) → All (λ y. p y ≡ true) (cond b (x ∷ filter p xs) (filter p xs))
       by true is rest = All-cons (λ y. p y ≡ true) x (filter p xs) is rest
       by false is rest = rest
+
+-- ---- lists with the same items
+
+abbrev pub SameMembers : {X : Type 0} → List X → List X → Type 0
+SameMembers {X} xs ys = (x : X) → Contains xs x ↔ Contains ys x
+
+pub filtered : {X : Type 0} (p q : X → Bool) → ((x : X) → p x ≡ q x) → (xs ys : List X) → SameMembers xs ys → SameMembers (filter p xs) (filter q ys)
+filtered p q agree xs ys same x = (
+  λ has. let was = was_kept p xs x has in kept q ys x ((same x).0 was.0) (sym (agree x) ∙ was.1),
+  λ has. let was = was_kept q ys x has in kept p xs x ((same x).1 was.0) (agree x ∙ was.1),
+)
+
+pushed_there : {X : Type 0} (xs ys : List X) → ((x : X) → Contains xs x → Contains ys x) → (new x : X) → Contains (xs ++ new ∷ []) x → Contains (ys ++ new ∷ []) x
+pushed_there xs ys more new x has =
+    ⊎_elim (λ h. Contains-append_left ys (new ∷ []) x (more x h)) (λ same. subst (Contains (ys ++ new ∷ [])) same (Contains-push ys new)) (Contains-push_cases xs new x has)
+
+pub pushed : {X : Type 0} (xs ys : List X) → SameMembers xs ys → (new : X) → SameMembers (xs ++ new ∷ []) (ys ++ new ∷ [])
+pushed xs ys same new x = (pushed_there xs ys (λ y. (same y).0) new x, pushed_there ys xs (λ y. (same y).1) new x)

@@ -45,12 +45,12 @@ chain_itself : (chain : Chain) → same_chain chain chain ≡ true
 chain_itself NsecChain = refl
 chain_itself (Nsec3Chain parameters) = parameters_itself parameters
 
-equal : (x y : ZoneChain) → same_zone_chain x y ≡ true → x ≡ y
+pub equal : (x y : ZoneChain) → same_zone_chain x y ≡ true → x ≡ y
 equal x y same =
     let parts = both _ _ same in
     λ i. record { zone = name_equal x.zone y.zone parts.0 i; chain = chain_equal x.chain y.chain parts.1 i }
 
-itself : (chain : ZoneChain) → same_zone_chain chain chain ≡ true
+pub itself : (chain : ZoneChain) → same_zone_chain chain chain ≡ true
 itself chain = rw (name_itself chain.zone, chain_itself chain.chain)
 
 of_chain : (chain : ZoneChain) (item : Record) → is_of_chain chain item ≡ true → chain_of item ≡ Some chain

@@ -27,7 +27,7 @@ with_once (Some new) held once = by (list_any (same_zone_chain new) held.chains)
     by true is = once
     by false is = third _ (AllPairs-cons (λ one other. same_zone_chain one other ≡ false) new held.chains (none_passes (same_zone_chain new) held.chains is) once)
 
-after_once : (held : Held) (batch : Batch) → EachListedOnce held.chains → EachListedOnce (held_after held batch).chains
+pub after_once : (held : Held) (batch : Batch) → EachListedOnce held.chains → EachListedOnce (held_after held batch).chains
 after_once held batch once =
     AllPairs-filter (λ one other. same_zone_chain one other ≡ false) _ _
     (fold_keeps (λ (h : Held). EachListedOnce h.chains) held_with (λ h new all. with_once (chain_of new) _ all) (held_where (is_usable batch.now) held) batch.records

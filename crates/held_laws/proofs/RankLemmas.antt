@@ -1,5 +1,5 @@
 -- Which of two records goes first is an order, and so no more are held than the limit.
-use Rattle.std.proofs.Common.{◌≡◌, ℕ, ◌≤◌, true, false, true≢false, List, [], length, fold, refl, sym, ◌∙◌, ap, arith}
+use Rattle.std.proofs.Common.{◌≡◌, ℕ, ◌≤◌, true, false, true≢false, List, [], length, fold, refl, sym, ◌∙◌, ap, subst, arith}
 use Rattle.std.specs.Ordering.{nat_cmp, is_lt, ordering_then, then_cmp, on}
 use Rattle.std.specs.Cmp.{IsTotalOrder}
 use Rattle.std.specs.Cmp.Lexicographic.{slice_cmp}
@@ -75,6 +75,9 @@ key_parts (Nsec one) (Nsec3 other) = refl
 key_parts (Nsec3 one) (Set other) = refl
 key_parts (Nsec3 one) (Nsec other) = refl
 key_parts (Nsec3 one) (Nsec3 other) = refl
+
+pub key_total : IsTotalOrder key_cmp
+key_total = subst IsTotalOrder (λ i one other. sym (key_parts one other) i) parts_total
 
 -- ---- which goes first
 

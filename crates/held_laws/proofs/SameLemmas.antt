@@ -1,5 +1,5 @@
 -- What is looked up is the same for another order of the records.
-use Rattle.std.proofs.Common.{◌≡◌, ◌⊎◌, ◌↔◌, ℕ, inl, inr, Bool, true, false, true≢false, ◌&&◌, suc, zero, List, [], ◌∷◌, cond, All, Contains, find, filter, map, Option, Some, None, refl, sym, ◌∙◌, ap, subst, arith}
+use Rattle.std.proofs.Common.{◌≡◌, ◌⊎◌, ◌↔◌, ℕ, inl, inr, Bool, true, false, true≢false, ◌&&◌, suc, zero, List, [], ◌∷◌, cond, All, Contains, find, Option, Some, None, refl, sym, ◌∙◌, ap, subst, arith}
 use Rattle.std.specs.List.{list_any}
 use Rattle.std.specs.Option.{option_or}
 use Rattle.std.specs.Ordering.{nat_cmp}
@@ -20,7 +20,7 @@ use Rattle.denial_records.specs.declared.nsec3_rec.Nsec3Rec.{Nsec3Rec}
 use Rattle.denial_records.specs.declared.record.Record.{Record}
 use Rattle.denial_records.specs.declared.record.Record.TheVariants.{Set, Nsec, Nsec3}
 use Rattle.cache_meaning.specs.Held.{Held, HashParameters, same_parameters, parameters_of, displaces}
-use Rattle.cache_meaning.specs.Zones.{zone_for, candidates, chains_of, first_of, as_set_at, as_nsec_at, as_nsec3_at, set_at, nsec_at, nsec3_at}
+use Rattle.cache_meaning.specs.Zones.{zone_for, candidates, first_of, as_set_at, as_nsec_at, as_nsec3_at, set_at, nsec_at, nsec3_at}
 use Rattle.held_laws.specs.HeldLaws.{IsApart, NoneDisplaces, SetsOnce, NsecsOnce, Nsec3sOnce, IsReordered}
 use Rattle.held_laws.proofs.ListLemmas.{here, there, here_or_there, nothing_in, found, is_found}
 use Rattle.held_laws.proofs.ListedLemmas.{both, name_equal, name_itself, parameters_equal, parameters_itself, none_some, some_same}
@@ -114,10 +114,10 @@ nsec3_chosen zone parameters hash (Nsec3 nsec3) a is =
     let second = both _ _ first.1 in
     (ap (λ s. Nsec3 s) chosen.1, ap (λ s. s.zone) (sym chosen.1) ∙ name_equal _ _ first.0, ap parameters_of (sym chosen.1) ∙ parameters_equal _ _ second.0, subst (λ s. arc_has (slice_cmp nat_cmp) s.hash s.next hash ≡ true) chosen.1 second.1)
 
-all_true : (a b : Bool) → a ≡ true → b ≡ true → (a && b) ≡ true
+pub all_true : (a b : Bool) → a ≡ true → b ≡ true → (a && b) ≡ true
 all_true a b is are = rw (is, are) refl
 
-same_names : (x y : List Label) → x ≡ y → same_name x y ≡ true
+pub same_names : (x y : List Label) → x ≡ y → same_name x y ≡ true
 same_names x y same = subst (λ z. same_name x z ≡ true) same (name_itself x)
 
 abbrev set_of : Record → SetRec → SetRec
@@ -181,10 +181,7 @@ same_nsec3 held other apart order zone parameters hash =
     (arcs_of_one_key (slice_cmp nat_cmp) nat_list_cmp_total a.hash a.next b.hash b.next hash one.3 two.3))
     order.records
 
-pub same_chains : (held other : Held) → IsReordered held other → (zone : List Label) → chains_of held zone ≡ chains_of other zone
-same_chains held other order zone = ap (λ chains. map (λ each. each.chain) (filter (λ each. same_name each.zone zone) chains)) order.chains
-
-same_any : {X : Type 0} (p : X → Bool) (xs ys : List X) → ((x : X) → Contains xs x ↔ Contains ys x) → list_any p xs ≡ list_any p ys
+pub same_any : {X : Type 0} (p : X → Bool) (xs ys : List X) → ((x : X) → Contains xs x ↔ Contains ys x) → list_any p xs ≡ list_any p ys
 same_any p xs ys same = by (list_any p xs) (list_any p ys) refl refl
   where
     by : (b d : Bool) → list_any p xs ≡ b → list_any p ys ≡ d → b ≡ d

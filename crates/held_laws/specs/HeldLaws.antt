@@ -3,14 +3,15 @@ use Rattle.std.specs.Prelude.{◌≡◌, ◌↔◌, IsTrue, ℕ, false, List, So
 use Rattle.std.specs.List.{Contains, AllPairs}
 use Rattle.std.specs.Ordering.{nat_cmp}
 use Rattle.std.specs.Cmp.Lexicographic.{slice_cmp}
-use Rattle.dname.specs.Name.{canonical_cmp}
+use Rattle.dname.specs.Name.{Label, canonical_cmp}
 use Rattle.dname.specs.Arc.{arcs_meet}
 use Rattle.denial_records.specs.declared.set_rec.SetRec.{SetRec}
 use Rattle.denial_records.specs.declared.nsec_rec.NsecRec.{NsecRec}
 use Rattle.denial_records.specs.declared.nsec3_rec.Nsec3Rec.{Nsec3Rec}
 use Rattle.denial_records.specs.declared.record.Record.{Record}
 use Rattle.denial_records.specs.declared.record.Record.TheVariants.{Set, Nsec, Nsec3}
-use Rattle.cache_meaning.specs.Held.{Held, ZoneChain, same_zone_chain, chain_of, parameters_of, is_usable, displaces}
+use Rattle.cache_meaning.specs.Held.{Held, HashParameters, ZoneChain, same_zone_chain, chain_of, parameters_of, is_usable, displaces}
+use Rattle.cache_meaning.specs.Zones.{zone_for, chains_of, set_at, nsec_at, nsec3_at}
 
 -- the record hasn't expired
 abbrev pub IsUsableAt : ℕ → Record → Type 0
@@ -62,7 +63,19 @@ Nsec3sOnce records =
 abbrev pub EachListedOnce : List ZoneChain → Type 0
 EachListedOnce chains = AllPairs (λ one other. same_zone_chain one other ≡ false) chains
 
--- the other state holds the same records, whatever their order, and lists the same chains in the same order
+-- the other state holds the same records, whatever their order, and lists each zone's chains in the same order
 pub record IsReordered (held other : Held) : Type 0 where
   pub records : (item : Record) → Contains held.records item ↔ Contains other.records item
-  pub chains : held.chains ≡ other.chains
+  pub chains : (zone : List Label) → chains_of held zone ≡ chains_of other zone
+
+-- whatever is looked up in the one state and the other, they give the same
+pub record SameLookups (held other : Held) : Type 0 where
+  pub zone : (name : List Label) (qtype : ℕ) → zone_for held name qtype ≡ zone_for other name qtype
+  pub chains : (zone : List Label) → chains_of held zone ≡ chains_of other zone
+  pub set :
+      (zone owner : List Label) (rtype : ℕ)
+      → set_at held zone owner rtype ≡ set_at other zone owner rtype
+  pub nsec : (zone name : List Label) → nsec_at held zone name ≡ nsec_at other zone name
+  pub nsec3 :
+      (zone : List Label) (parameters : HashParameters) (hash : List ℕ)
+      → nsec3_at held zone parameters hash ≡ nsec3_at other zone parameters hash
