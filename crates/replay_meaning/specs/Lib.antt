@@ -1,4 +1,3 @@
-pub mod Finding
 pub mod Fits
 pub mod Frame
 pub mod Laws

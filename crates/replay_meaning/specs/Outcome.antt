@@ -10,12 +10,12 @@ use Rattle.intake.specs.declared.intake_fault.IntakeFault.{IntakeFault}
 use Rattle.intake.specs.declared.intake_fault.IntakeFault.TheVariants.{Malformed, NotResponse, Truncated, Rcode, NotAuthentic, Nothing, OutOfMemory}
 use Rattle.cache_meaning.specs.Held.{Held, held_of}
 use Rattle.cache_meaning.specs.Prove.{outcome_of}
+use Rattle.cache_meaning.specs.Ttl.{ttl_of}
 use Rattle.reply_core.specs.Reply.{reply_octets}
-use Rattle.replay_meaning.specs.Finding.{finding_of}
 
--- the reply to the question that a proof gives at a moment
+-- the reply to the question that a proof gives at a moment, with the TTL that it then has
 abbrev pub proof_octets : Question → ℕ → Proof → List ℕ
-proof_octets question now proof = reply_octets question (finding_of now proof)
+proof_octets question now proof = reply_octets question proof (ttl_of now proof)
 
 -- the proof that held records have for the question at the moment
 abbrev pub proof_in : Held → Question → ℕ → Option Proof
@@ -29,8 +29,8 @@ reply_in held question now = option_map (proof_octets question now) (proof_in he
 abbrev pub stored_octets : Taken → List ℕ
 stored_octets taken = big_bytes 2 (length taken.batch.records) ++ big_bytes 2 taken.skipped
 
--- why an upstream answer was refused. Code 6 is kept for a cache that refuses when it is full, and code 8 for one that has
--- no number for another version; want of memory is no outcome and has no code
+-- why an upstream answer was refused. Code 6 is kept for a cache that refuses when it is full, and code
+-- 8 for one that has no number for another version; want of memory is no outcome and has no code
 abbrev pub refusal_code : IntakeFault → ℕ
 refusal_code (Malformed fault) = 1
 refusal_code NotResponse = 2

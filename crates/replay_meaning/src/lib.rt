@@ -1,6 +1,6 @@
 //! What a replay means: the frames of its input and output, which outputs fit an input for any number of workers, and what a
 //! reply says of the zones. Read `specs/Frame.antt`, `OutFrame`, `Step`, `Outcome`, `Fits`, `Sound` and `Replay`, in this
-//! order; `Finding` is how `Outcome` has a proof written, and `Spelling` and `Laws` are the laws.
+//! order; `Spelling` and `Laws` are the laws.
 #![tactic(auto)]
 
 mod frame;

@@ -2,3 +2,4 @@ pub mod CountLemmas
 pub mod DraftLemmas
 pub mod RecordLemmas
 pub mod ReplyLemmas
+pub mod ShownLemmas

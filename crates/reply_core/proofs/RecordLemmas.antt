@@ -5,7 +5,7 @@ use Rattle.std.proofs.lemmas.Grind.{flat_map-append}
 use Rattle.std.proofs.lemmas.List.{map-append, take-append-drop, take_more}
 use Rattle.dname.specs.Name.{Label}
 use Rattle.reply_core.specs.Draft.{Contents, put}
-use Rattle.reply_core.specs.View.{SignedSet}
+use Rattle.denial_records.specs.declared.record.Record.{Record}
 use Rattle.reply_core.specs.Reply.{ReplyRecord, record_octets, records_of, proof_records}
 use Rattle.reply_core.proofs.DraftLemmas.{put-put, put-lost}
 
@@ -44,11 +44,11 @@ put-stopped ttl owner rtype items i start now was lost =
     ∙ ap (λ records. put start (flat_map (record_octets ttl) records)) (records-split owner rtype items i)
 
 -- the records of the SOA set, and those of three places of a proof
-pub proof-records : (f : SignedSet → List ReplyRecord) (soa : List ReplyRecord) (first second third : List SignedSet) → ((soa ++ flat_map f first) ++ flat_map f second) ++ flat_map f third ≡ soa ++ flat_map f (first ++ second ++ third)
+pub proof-records : (f : Record → List ReplyRecord) (soa : List ReplyRecord) (first second third : List Record) → ((soa ++ flat_map f first) ++ flat_map f second) ++ flat_map f third ≡ soa ++ flat_map f (first ++ second ++ third)
 proof-records f soa first second third = rw (flat_map-append f (first ++ second) third, flat_map-append f first second) (simp append_assoc)
 
 -- the SOA set, and three places of a proof
-pub put-proof : (ttl : ℕ) (draft : Contents) (f : SignedSet → List ReplyRecord) (soa : List ReplyRecord) (first second third : List SignedSet)
+pub put-proof : (ttl : ℕ) (draft : Contents) (f : Record → List ReplyRecord) (soa : List ReplyRecord) (first second third : List Record)
     → put (put (put (put draft (flat_map (record_octets ttl) soa)) (flat_map (record_octets ttl) (flat_map f first))) (flat_map (record_octets ttl) (flat_map f second))) (flat_map (record_octets ttl) (flat_map f third))
     ≡ put draft (flat_map (record_octets ttl) (soa ++ flat_map f (first ++ second ++ third)))
 put-proof ttl draft f soa first second third =
@@ -56,6 +56,6 @@ put-proof ttl draft f soa first second third =
     (ap (λ records. put draft (flat_map (record_octets ttl) records)) (proof-records f soa first second third))
 
 -- a client that doesn't want a proof gets none
-pub no-proof : (denials : List SignedSet) → flat_map (proof_records false) denials ≡ []
+pub no-proof : (denials : List Record) → flat_map (proof_records false) denials ≡ []
 no-proof [] = refl
 no-proof (denial ∷ denials) = no-proof denials

@@ -18,7 +18,10 @@ put_octet limit (Some written) octet = within limit (written ++ octet ∷ [])
 
 -- the draft with these octets after what it has
 unfoldable pub put : Contents → List ℕ → Contents
-put draft octets = record { limit = draft.limit; written = fold (put_octet draft.limit) draft.written octets }
+put draft octets = record {
+  limit = draft.limit;
+  written = fold (put_octet draft.limit) draft.written octets;
+}
 
 -- a draft with nothing in it
 abbrev pub blank : ℕ → Contents

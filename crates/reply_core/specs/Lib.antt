@@ -1,5 +1,6 @@
 pub mod Reply
-pub mod View
+pub mod Kept
+pub mod Shown
 pub mod Error
 pub mod Draft
 pub mod Owner

@@ -1,8 +1,12 @@
 ghost use Rattle.std.specs.Prelude.{◌≡◌, ◌%◌, ◌^◌, ℕ, List, [], if◌then◌else◌};
 ghost use Rattle.std.specs.List.{flat_map};
+ghost use Rattle.std.specs.Option.{option_copied};
+ghost use Rattle.dname.specs.Name.{Label};
+ghost use Rattle.denial_records.specs.declared.record.Record.{Record};
 ghost use Rattle.reply_core.specs.Count.{count16};
 ghost use Rattle.reply_core.specs.Reply.{set_records, proof_records};
-ghost use Rattle.reply_core.specs.View.{SignedSet, listed, set_of, denial_of};
+ghost use Rattle.reply_core.specs.Kept.{listed};
+ghost use Rattle.reply_core.specs.Shown.{denial_in};
 
 use denial_records::{Denial, SetRec};
 use dname::OctetsList;
@@ -11,8 +15,9 @@ use dname::OctetsList;
 
 /// The number of records of a set, with its signatures where they are sent.
 pub(crate) fn count_set(set: Option<&SetRec>, dnssec: bool) -> u16
-    ensures { (owner_of : SignedSet → List (List ℕ)) → result ≡ count16
-        (flat_map (λ s. set_records dnssec (owner_of s) s) (listed (λ s. set_of s.now) set.entry)) }
+    ensures { (owner : Record → List Label) → result ≡ count16
+        (flat_map (λ kept. set_records dnssec (owner kept) kept)
+        (listed (option_copied set.entry))) }
 {
     match set {
         Some(set) => count_list(&set.items).wrapping_add(count_signatures(&set.signatures, dnssec)),
@@ -22,7 +27,7 @@ pub(crate) fn count_set(set: Option<&SetRec>, dnssec: bool) -> u16
 
 /// The number of records that a denial sends.
 pub(crate) fn count_denial(denial: &Option<Denial<'_>>, dnssec: bool) -> u16
-    ensures { result ≡ count16 (flat_map (proof_records dnssec) (listed denial_of denial.now)) }
+    ensures { result ≡ count16 (flat_map (proof_records dnssec) (denial_in denial.now)) }
 {
     match denial {
         Some(Denial::Nsec(kept)) if dnssec => count_list(&kept.signatures).wrapping_add(1),

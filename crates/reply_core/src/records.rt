@@ -1,8 +1,11 @@
 ghost use Rattle.std.specs.Prelude.{◌≡◌, true};
 ghost use Rattle.std.specs.List.{flat_map};
+ghost use Rattle.std.specs.Option.{option_copied};
+ghost use Rattle.denial_records.specs.declared.record.Record.TheVariants as kept;
 ghost use Rattle.reply_core.specs.Draft.{put};
 ghost use Rattle.reply_core.specs.Reply.{ReplyRecord, record_octets, records_of, signature_records, set_records, proof_records};
-ghost use Rattle.reply_core.specs.View.{listed, set_of, nsec_of, nsec3_of, denial_of};
+ghost use Rattle.reply_core.specs.Kept.{owner_of, listed};
+ghost use Rattle.reply_core.specs.Shown.{denial_in};
 ghost use Rattle.reply_core.specs.Owner.{labels_of};
 
 use crate::counts::low16;
@@ -16,7 +19,7 @@ use nsec3_hash::to_base32hex;
 // The records of a set with this owner, and its signatures where the client wants them.
 fn put_set(draft: &mut Draft, ttl: u32, dnssec: bool, owner: &Name, set: &SetRec)
     ensures { draft.new ≡ put draft.old
-        (flat_map (record_octets ttl) (set_records dnssec owner.now (set_of set.now))) }
+        (flat_map (record_octets ttl) (set_records dnssec owner.now (kept.Set set.now))) }
 {
     let owner = Owner::Name(owner);
     put_list(draft, ttl, &owner, set.rtype, &set.items);
@@ -26,7 +29,8 @@ fn put_set(draft: &mut Draft, ttl: u32, dnssec: bool, owner: &Name, set: &SetRec
 /// The SOA set, where there is one.
 pub(crate) fn put_soa(draft: &mut Draft, ttl: u32, dnssec: bool, soa: Option<&SetRec>)
     ensures { draft.new ≡ put draft.old (flat_map (record_octets ttl)
-        (flat_map (λ s. set_records dnssec s.owner s) (listed (λ s. set_of s.now) soa.entry))) }
+        (flat_map (λ set. set_records dnssec (owner_of set) set)
+        (listed (option_copied soa.entry)))) }
 {
     if let Some(soa) = soa {
         put_set(draft, ttl, dnssec, &soa.owner, soa);
@@ -42,7 +46,7 @@ pub(crate) fn put_answer(
     answer: Option<&SetRec>,
 )
     ensures { draft.new ≡ put draft.old (flat_map (record_octets ttl)
-        (flat_map (set_records dnssec owner.now) (listed (λ s. set_of s.now) answer.entry))) }
+        (flat_map (set_records dnssec owner.now) (listed (option_copied answer.entry)))) }
 {
     if let Some(answer) = answer {
         put_set(draft, ttl, dnssec, owner, answer);
@@ -52,34 +56,34 @@ pub(crate) fn put_answer(
 /// The record of a denial and its signatures, where there is one and the client wants them.
 pub(crate) fn put_denial(draft: &mut Draft, ttl: u32, dnssec: bool, denial: &Option<Denial<'_>>)
     ensures { draft.new ≡ put draft.old (flat_map (record_octets ttl)
-        (flat_map (proof_records dnssec) (listed denial_of denial.now))) }
+        (flat_map (proof_records dnssec) (denial_in denial.now))) }
 {
     if !dnssec {
         return;
     }
     match denial {
-        Some(Denial::Nsec(kept)) => put_nsec(draft, ttl, kept),
-        Some(Denial::Nsec3(kept)) => put_nsec3(draft, ttl, kept),
+        Some(Denial::Nsec(nsec)) => put_nsec(draft, ttl, nsec),
+        Some(Denial::Nsec3(nsec3)) => put_nsec3(draft, ttl, nsec3),
         None => {}
     }
 }
 
-fn put_nsec(draft: &mut Draft, ttl: u32, kept: &NsecRec)
+fn put_nsec(draft: &mut Draft, ttl: u32, nsec: &NsecRec)
     ensures { draft.new ≡ put draft.old
-        (flat_map (record_octets ttl) (proof_records true (nsec_of kept.now))) }
+        (flat_map (record_octets ttl) (proof_records true (kept.Nsec nsec.now))) }
 {
-    let owner = Owner::Name(&kept.owner);
-    put_record(draft, ttl, &owner, NSEC_TYPE, kept.image.as_slice());
-    put_list(draft, ttl, &owner, RRSIG_TYPE, &kept.signatures);
+    let owner = Owner::Name(&nsec.owner);
+    put_record(draft, ttl, &owner, NSEC_TYPE, nsec.image.as_slice());
+    put_list(draft, ttl, &owner, RRSIG_TYPE, &nsec.signatures);
 }
 
-fn put_nsec3(draft: &mut Draft, ttl: u32, kept: &Nsec3Rec)
+fn put_nsec3(draft: &mut Draft, ttl: u32, nsec3: &Nsec3Rec)
     ensures { draft.new ≡ put draft.old
-        (flat_map (record_octets ttl) (proof_records true (nsec3_of kept.now))) }
+        (flat_map (record_octets ttl) (proof_records true (kept.Nsec3 nsec3.now))) }
 {
-    let owner = Owner::Hashed(to_base32hex(&kept.hash), &kept.zone);
-    put_record(draft, ttl, &owner, NSEC3_TYPE, kept.image.as_slice());
-    put_list(draft, ttl, &owner, RRSIG_TYPE, &kept.signatures);
+    let owner = Owner::Hashed(to_base32hex(&nsec3.hash), &nsec3.zone);
+    put_record(draft, ttl, &owner, NSEC3_TYPE, nsec3.image.as_slice());
+    put_list(draft, ttl, &owner, RRSIG_TYPE, &nsec3.signatures);
 }
 
 fn put_signatures(

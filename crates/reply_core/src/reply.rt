@@ -3,7 +3,7 @@ ghost use Rattle.std.specs.List.{flat_map};
 ghost use Rattle.reply_core.specs.Count.{count16};
 ghost use Rattle.reply_core.specs.Draft.{put};
 ghost use Rattle.reply_core.specs.Reply.{record_octets, reply_flags, answer_records, authority_records, whole_octets, truncated_octets, reply_octets, limit_of};
-ghost use Rattle.reply_core.specs.View.{view_of};
+ghost use Rattle.reply_core.specs.Shown.{shown_by};
 ghost use Rattle.dnswire.specs.declared.edns.TheConstants.{LEAST_PAYLOAD};
 ghost use Rattle.reply_core.specs.declared.draft.TheConstants.{MAX_REPLY};
 
@@ -14,21 +14,22 @@ use crate::header::{
     opt_count, put_bare, put_header, put_opt, put_question, reply_flags, wants_dnssec,
 };
 use crate::records::{put_answer, put_denial, put_soa};
-use denial_records::Verdict;
+use denial_records::{Kind, Verdict};
 use dnswire::{Edns, LEAST_PAYLOAD, Question};
 
-/// Writes the reply to the question from the verdict, in place of what the buffer held. The question's octets come back
-/// as they were asked.
+/// Writes the reply that the verdict's proof gives to the question, with the verdict's TTL, in place of what the buffer
+/// held. The question's octets come back as they were asked.
 pub fn write_reply(question: &Question, verdict: &Verdict<'_>, out: &mut ReplyBuffer)
-    ensures value { out.new ≡ reply_octets question.now (view_of verdict.now) }
+    ensures value { out.new ≡ reply_octets question.now (shown_by verdict.now) verdict.now.ttl }
     ensures within_limit { length out.new ≤ limit_of question.now.edns }
 {
     fill(&mut out.draft, question, verdict);
 }
 
 fn fill(draft: &mut Draft, question: &Question, verdict: &Verdict<'_>)
-    ensures value { draft.new.written ≡ Some (reply_octets question.now (view_of verdict.now)) }
-    ensures within_limit { length (reply_octets question.now (view_of verdict.now))
+    ensures value { draft.new.written
+        ≡ Some (reply_octets question.now (shown_by verdict.now) verdict.now.ttl) }
+    ensures within_limit { length (reply_octets question.now (shown_by verdict.now) verdict.now.ttl)
         ≤ limit_of question.now.edns }
 {
     let limit = limit_of(question.edns);
@@ -36,12 +37,13 @@ fn fill(draft: &mut Draft, question: &Question, verdict: &Verdict<'_>)
     put_whole(draft, question, verdict);
     if draft.is_over() {
         draft.restart(limit);
-        put_truncated(draft, question, verdict);
+        put_truncated(draft, question, verdict.kind);
     }
 }
 
 fn put_whole(draft: &mut Draft, question: &Question, verdict: &Verdict<'_>)
-    ensures { draft.new ≡ put draft.old (whole_octets question.now (view_of verdict.now)) }
+    ensures { draft.new
+        ≡ put draft.old (whole_octets question.now (shown_by verdict.now) verdict.now.ttl) }
 {
     let answers = count_answers(question, verdict);
     let authorities = count_authorities(question, verdict);
@@ -54,18 +56,17 @@ fn put_whole(draft: &mut Draft, question: &Question, verdict: &Verdict<'_>)
     put_opt(draft, 0, question.edns);
 }
 
-fn put_truncated(draft: &mut Draft, question: &Question, verdict: &Verdict<'_>)
-    ensures value { draft.new
-        ≡ put draft.old (truncated_octets question.now (view_of verdict.now)) }
-    ensures small { length (truncated_octets question.now (view_of verdict.now)) ≤ LEAST_PAYLOAD }
+fn put_truncated(draft: &mut Draft, question: &Question, kind: Kind)
+    ensures value { draft.new ≡ put draft.old (truncated_octets question.now kind) }
+    ensures small { length (truncated_octets question.now kind) ≤ LEAST_PAYLOAD }
 {
-    let flags = reply_flags(question, verdict.kind, true);
+    let flags = reply_flags(question, kind, true);
     put_bare(draft, question, flags, 0);
 }
 
 fn put_answers(draft: &mut Draft, question: &Question, verdict: &Verdict<'_>)
     ensures { draft.new ≡ put draft.old (flat_map (record_octets verdict.now.ttl)
-        (answer_records question.now (view_of verdict.now))) }
+        (answer_records question.now (shown_by verdict.now))) }
 {
     let dnssec = wants_dnssec(question);
     put_answer(
@@ -79,7 +80,7 @@ fn put_answers(draft: &mut Draft, question: &Question, verdict: &Verdict<'_>)
 
 fn put_authorities(draft: &mut Draft, question: &Question, verdict: &Verdict<'_>)
     ensures { draft.new ≡ put draft.old (flat_map (record_octets verdict.now.ttl)
-        (authority_records question.now (view_of verdict.now))) }
+        (authority_records question.now (shown_by verdict.now))) }
 {
     let dnssec = wants_dnssec(question);
     put_soa(draft, verdict.ttl, dnssec, verdict.soa);
@@ -89,13 +90,13 @@ fn put_authorities(draft: &mut Draft, question: &Question, verdict: &Verdict<'_>
 }
 
 fn count_answers(question: &Question, verdict: &Verdict<'_>) -> u16
-    ensures { result ≡ count16 (answer_records question.now (view_of verdict.now)) }
+    ensures { result ≡ count16 (answer_records question.now (shown_by verdict.now)) }
 {
     count_set(verdict.answer_set, wants_dnssec(question))
 }
 
 fn count_authorities(question: &Question, verdict: &Verdict<'_>) -> u16
-    ensures { result ≡ count16 (authority_records question.now (view_of verdict.now)) }
+    ensures { result ≡ count16 (authority_records question.now (shown_by verdict.now)) }
 {
     let dnssec = wants_dnssec(question);
     count_set(verdict.soa, dnssec)

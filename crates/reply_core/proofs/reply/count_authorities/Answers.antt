@@ -1,12 +1,14 @@
 use Rattle.std.specs.List.{flat_map}
+use Rattle.std.specs.Option.{option_copied}
 use Rattle.reply_core.specs.Reply.{wants_dnssec, set_records, proof_records}
-use Rattle.reply_core.specs.View.{listed, set_of, denial_of}
+use Rattle.reply_core.specs.Kept.{owner_of, listed}
+use Rattle.reply_core.specs.Shown.{denial_in}
 use Rattle.reply_core.proofs.CountLemmas.{count16-proof}
 use Rattle.reply_core.proofs.reply.count_authorities.Goals as goal
 
 pub returns : goal.returns
 returns c =
-    rw (c.count_denial-3.ensures, c.count_denial-2.ensures, c.count_denial.ensures, c.count_set.ensures (λ set. set.owner), c.wants_dnssec-dnssec.ensures)
+    rw (c.count_denial-3.ensures, c.count_denial-2.ensures, c.count_denial.ensures, c.count_set.ensures owner_of, c.wants_dnssec-dnssec.ensures)
     (count16-proof (proof_records (wants_dnssec c.args.question.now))
-    (flat_map (λ set. set_records (wants_dnssec c.args.question.now) set.owner set) (listed (λ set. set_of set.now) c.args.verdict.now.soa))
-    (listed denial_of c.args.verdict.now.first) (listed denial_of c.args.verdict.now.second) (listed denial_of c.args.verdict.now.third))
+    (flat_map (λ soa. set_records (wants_dnssec c.args.question.now) (owner_of soa) soa) (listed (option_copied c.args.verdict.now.soa)))
+    (denial_in c.args.verdict.now.first) (denial_in c.args.verdict.now.second) (denial_in c.args.verdict.now.third))

@@ -1,15 +1,15 @@
 use Rattle.std.proofs.Common.{◌≡◌, false, is_none, ◌≤◌, length, sym, ◌∙◌, ap, arith}
 use Rattle.reply_core.specs.Draft.{put, blank}
 use Rattle.reply_core.specs.Reply.{whole_octets, truncated_octets, limit_of}
-use Rattle.reply_core.specs.View.{view_of}
+use Rattle.reply_core.specs.Shown.{shown_by}
 use Rattle.reply_core.proofs.ReplyLemmas.{written-whole, written-truncated, whole-within, either-within}
 use Rattle.reply_core.proofs.reply.fill.Goals as goal
 
 pub returns-then-is_over : goal.returns-then-is_over
 returns-then-is_over c =
     let limit = limit_of c.args.question.now.edns in
-    let whole = whole_octets c.args.question.now (view_of c.args.verdict.now) in
-    let truncated = truncated_octets c.args.question.now (view_of c.args.verdict.now) in
+    let whole = whole_octets c.args.question.now (shown_by c.args.verdict.now) c.args.verdict.now.ttl in
+    let truncated = truncated_octets c.args.question.now c.args.verdict.now.kind in
     let small : length truncated ≤ limit = rw (← c.limit_of-limit.ensures.value) (omega (arith, c.limit_of-limit.ensures.low, c.put_truncated.ensures.small)) in
     record {
       value =
@@ -24,8 +24,8 @@ returns-then-is_over c =
 pub returns-else-is_over : goal.returns-else-is_over
 returns-else-is_over c =
     let limit = limit_of c.args.question.now.edns in
-    let whole = whole_octets c.args.question.now (view_of c.args.verdict.now) in
-    let truncated = truncated_octets c.args.question.now (view_of c.args.verdict.now) in
+    let whole = whole_octets c.args.question.now (shown_by c.args.verdict.now) c.args.verdict.now.ttl in
+    let truncated = truncated_octets c.args.question.now c.args.verdict.now.kind in
     let put_all : c.put_whole.new.draft ≡ put (blank limit) whole = c.put_whole.ensures ∙ ap (λ s. put s whole) (c.restart.ensures ∙ ap blank c.limit_of-limit.ensures.value) in
     let some : is_none c.put_whole.new.draft.written ≡ false = sym c.is_over.ensures ∙ c.if-is_over.false in
     record {

@@ -1,6 +1,6 @@
 use Rattle.std.proofs.Common.{◌∙◌, Some, refl, sym, ap}
 use Rattle.replay_meaning.specs.Outcome.{reply_in}
-use Rattle.replay_meaning.proofs.FindingLemmas.{verdict_is_reply}
+use Rattle.replay_meaning.proofs.VerdictLemmas.{verdict_is_reply}
 use Rattle.dnsreplay.proofs.cache.Cache.query.Goals as goal
 
 pub returns : goal.returns
