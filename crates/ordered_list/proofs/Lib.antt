@@ -1,0 +1,3 @@
+pub mod FilterLemmas
+pub mod OrderLemmas
+pub mod PlaceLemmas
