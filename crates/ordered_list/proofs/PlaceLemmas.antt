@@ -1,15 +1,13 @@
 -- Where an entry stands, or would stand, in a list in order.
-use Rattle.std.proofs.Common.{◌≡◌, ◌≢◌, ℕ, zero, suc, ◌+◌, ◌<◌, ◌≤◌, Bool, true, false, not, cond, List, [], ◌∷◌, ◌++◌, length, get_or, take, drop, All, filter, find, Option, Some, None, refl, sym, ap, ◌∙◌, arith}
+use Rattle.std.proofs.Common.{◌≡◌, ℕ, suc, ◌+◌, ◌<◌, ◌≤◌, Bool, true, false, cond, List, [], ◌∷◌, ◌++◌, length, get_or, take, drop, map, All, filter, find, Some, None, refl, sym, ap, ◌∙◌, arith}
 use Rattle.std.specs.List.{prefix_len, slice_get}
 use Rattle.std.specs.List.Sorted.{IsPartitionedBy}
 use Rattle.std.specs.Cmp.{IsTotalOrder}
 use Rattle.std.specs.Ordering.{is_lt, is_eq, is_gt}
 use Rattle.std.specs.declared.cmp.Ordering.{Ordering}
 use Rattle.std.specs.declared.cmp.Ordering.TheVariants.{Less, Equal, Greater}
-use Rattle.std.proofs.lemmas.Grind.{common_steps}
-use Rattle.std.proofs.lemmas.List.Elements.{All-weaker}
-use Rattle.std.proofs.lemmas.List.{drop_more, drop_all, nil_from_length}
-use Rattle.ordered_list.specs.Order.{IsInOrder}
+use Rattle.std.proofs.lemmas.List.{append-nil, append_assoc, drop_all, drop_at, drop_more, length-append, nil_from_length, take_at}
+use Rattle.ordered_list.specs.Order.{IsInOrder, with_entry, without_entry}
 use Rattle.ordered_list.proofs.FilterLemmas.{filter_all, filter_none, find_is_first}
 use Rattle.ordered_list.proofs.OrderLemmas.{rest_in_order, above_behind, partitioned, less_from}
 
@@ -112,6 +110,40 @@ module _ {X : Type 0} (cmp : X → X → Ordering) (total : IsTotalOrder cmp) (l
 
   pub found_none : (xs : List X) → length (filter level xs) ≡ 0 → None ≡ find level xs
   found_none xs none = sym (find_is_first level xs ∙ ap (λ ys. slice_get ys 0) (nil_from_length (filter level xs) none))
+
+  pub taken : (xs : List X) → IsInOrder cmp xs → (n : ℕ) → n ≡ length (filter below xs) → take n xs ≡ filter below xs
+  taken xs h n start = ap (take n) (parts xs h) ∙ take_at (filter below xs) (filter level xs ++ filter above xs) n (sym start)
+
+  pub dropped : (xs : List X) → IsInOrder cmp xs → (n m : ℕ) → n ≡ length (filter below xs) → m ≡ n + length (filter level xs) → drop m xs ≡ filter above xs
+  dropped xs h n m start end =
+      let both : length (filter below xs ++ filter level xs) ≡ m = omega (arith, length-append (filter below xs) (filter level xs)) in
+      ap (drop m) (parts xs h ∙ sym (append_assoc (filter below xs) (filter level xs) (filter above xs))) ∙ drop_at (filter below xs ++ filter level xs) (filter above xs) m both
+
+  -- without those level the others stay
+  pub others : (xs : List X) → IsInOrder cmp xs → filter below xs ++ filter above xs ≡ without_entry cmp like xs
+  others [] h = refl
+  others (x ∷ xs) h = by (cmp x like) refl (others xs (rest_in_order cmp x xs h))
+    where
+      by : (rank : Ordering) → cmp x like ≡ rank → filter below xs ++ filter above xs ≡ without_entry cmp like xs → filter below (x ∷ xs) ++ filter above (x ∷ xs) ≡ without_entry cmp like (x ∷ xs)
+      by Less is rest = rw is (ap (λ ys. x ∷ ys) rest)
+      by Equal is rest = rw is rest
+      by Greater is rest =
+          let high : All (λ y. cmp y like ≡ Greater) xs = above_behind cmp total like x xs h (λ less. cc) in
+          let low : filter below xs ≡ [] = none_below xs high in
+          rw (is, low) (ap (λ ys. x ∷ ys) (ap (λ ys. ys ++ filter above xs) (sym low) ∙ rest))
+
+  -- what a change of the place makes, of owners that v reads
+  module _ {A : Type 0} (v : A → X) (xs : List X) (h : IsInOrder cmp xs) (n m : ℕ) (start : n ≡ length (filter below xs)) (end : m ≡ n + length (filter level xs)) where
+    pub with_made : (none one : List A) (owner : A) (made : List X) → none ≡ [] → one ≡ none ++ owner ∷ [] → like ≡ v owner → made ≡ take n xs ++ map v one ++ drop m xs → made ≡ with_entry cmp (v owner) xs
+    with_made none one owner made empty pushed same is =
+        let alone : one ≡ owner ∷ [] = pushed ∙ ap (λ ys. ys ++ owner ∷ []) empty in
+        let at_like : take n xs ++ (like ∷ []) ++ drop m xs ≡ with_entry cmp like xs = rw (taken xs h n start, dropped xs h n m start end, append_assoc) refl in
+        is ∙ (ap (λ ys. take n xs ++ map v ys ++ drop m xs) alone ∙ (ap (λ e. take n xs ++ (e ∷ []) ++ drop m xs) (sym same) ∙ (at_like ∙ ap (λ e. with_entry cmp e xs) same)))
+
+    pub without_made : (none : List A) (made : List X) → none ≡ [] → made ≡ take n xs ++ map v none ++ drop m xs → made ≡ without_entry cmp like xs
+    without_made none made empty is =
+        let left : take n xs ++ [] ++ drop m xs ≡ without_entry cmp like xs = rw (taken xs h n start, dropped xs h n m start end, append-nil) (others xs h) in
+        is ∙ (ap (λ ys. take n xs ++ map v ys ++ drop m xs) empty ∙ left)
 
   -- those below are the first ones
   pub below_first : (xs : List X) → IsInOrder cmp xs → IsPartitionedBy below xs

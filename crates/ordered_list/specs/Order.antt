@@ -1,5 +1,5 @@
 -- Lists in strict order, and what their changes make of them.
-use Rattle.std.specs.Prelude.{◌≡◌, Bool, not, List, ◌∷◌, ◌++◌, Option}
+use Rattle.std.specs.Prelude.{◌≡◌, not, List, ◌∷◌, ◌++◌, Option}
 use Rattle.std.specs.List.{AllPairs, filter, find}
 use Rattle.std.specs.Ordering.{is_lt, is_eq, is_gt}
 use Rattle.std.specs.declared.cmp.Ordering.{Ordering}

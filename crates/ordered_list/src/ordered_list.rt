@@ -9,7 +9,7 @@ ghost use Rattle.ordered_list.specs.Order.{IsInOrder, entry_at, with_entry, with
 
 use crate::Ranking;
 use page_list::{Iter, OutOfMemory, PageList};
-use std::alloc::{AllocError, Global};
+use std::alloc::Global;
 use std::marker::{Model, PhantomData};
 use std::sync::Arc;
 
@@ -122,14 +122,26 @@ impl<T: Drop, R: Ranking<T>> OrderedList<T, R> {
     pub fn with(&self, alloc: Global, entry: Arc<T>) -> Result<OrderedList<T, R>, OutOfMemory>
         ensures { IfOk result (λ made. made ≡ with_entry R.cmp (arc_value entry) self.now) }
     {
-        Err(AllocError)
+        let (from, to) = self.place(&entry);
+        let mut items = Vec::with_capacity(alloc, 1)?;
+        items.push(entry)?;
+        let list = self.list.with_replaced(alloc, from, to, items)?;
+        Ok(OrderedList {
+            list,
+            by: PhantomData,
+        })
     }
 
     /// The list without the entry that ranks equal with `like`.
     pub fn without(&self, alloc: Global, like: &T) -> Result<OrderedList<T, R>, OutOfMemory>
         ensures { IfOk result (λ made. made ≡ without_entry R.cmp like.now self.now) }
     {
-        Err(AllocError)
+        let (from, to) = self.place(like);
+        let list = self.list.with_replaced(alloc, from, to, Vec::new(alloc))?;
+        Ok(OrderedList {
+            list,
+            by: PhantomData,
+        })
     }
 
     /// The list without its first `n` entries.
@@ -137,7 +149,11 @@ impl<T: Drop, R: Ranking<T>> OrderedList<T, R> {
         requires { n ≤ length self.now }
         ensures { IfOk result (λ made. made ≡ drop n self.now) }
     {
-        Err(AllocError)
+        let list = self.list.with_replaced(alloc, 0, n, Vec::new(alloc))?;
+        Ok(OrderedList {
+            list,
+            by: PhantomData,
+        })
     }
 }
 

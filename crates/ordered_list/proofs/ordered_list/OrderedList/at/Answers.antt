@@ -1,4 +1,4 @@
-use Rattle.std.proofs.Common.{arith, rules, sym, ap, ◌∙◌, length, filter}
+use Rattle.std.proofs.Common.{arith, rules}
 use Rattle.ordered_list.proofs.PlaceLemmas.{found, found_none}
 use Rattle.ordered_list.proofs.ordered_list.OrderedList.at.Goals as goal
 

@@ -1,4 +1,4 @@
-use Rattle.std.proofs.Common.{rules, sym, ap, ◌∙◌, length, filter}
+use Rattle.std.proofs.Common.{rules, ◌∙◌}
 use Rattle.std.specs.Ordering.{is_lt}
 use Rattle.ordered_list.proofs.PlaceLemmas.{below_first, prefix_below}
 use Rattle.ordered_list.proofs.ordered_list.OrderedList.count_below.Goals as goal

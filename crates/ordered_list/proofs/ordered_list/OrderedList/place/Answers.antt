@@ -1,4 +1,4 @@
-use Rattle.std.proofs.Common.{rules, sym, ap, ◌∙◌, length, filter}
+use Rattle.std.proofs.Common.{rules}
 use Rattle.ordered_list.proofs.PlaceLemmas.{counts_one, counts_none, counts_past}
 use Rattle.ordered_list.proofs.ordered_list.OrderedList.place.Goals.{else-from-len-via-then-from-len+else-is_eq, else-from-len-via-else-from-len}
 use Rattle.ordered_list.proofs.ordered_list.OrderedList.place.Goals as goal
