@@ -1,5 +1,5 @@
 -- Where an entry stands, or would stand, in a list in order.
-use Rattle.std.proofs.Common.{◌≡◌, ℕ, suc, ◌+◌, ◌<◌, ◌≤◌, Bool, true, false, cond, List, [], ◌∷◌, ◌++◌, length, get_or, take, drop, map, All, filter, find, Some, None, refl, sym, ap, ◌∙◌, arith}
+use Rattle.std.proofs.Common.{◌≡◌, ℕ, suc, ◌+◌, ◌<◌, ◌≤◌, Bool, true, false, cond, List, [], ◌∷◌, ◌++◌, length, get_or, take, drop, map, All, filter, find, Some, None, refl, sym, ap, ◌∙◌, subst, arith}
 use Rattle.std.specs.List.{prefix_len, slice_get}
 use Rattle.std.specs.List.Sorted.{IsPartitionedBy}
 use Rattle.std.specs.Cmp.{IsTotalOrder}
@@ -110,6 +110,13 @@ module _ {X : Type 0} (cmp : X → X → Ordering) (total : IsTotalOrder cmp) (l
 
   pub found_none : (xs : List X) → length (filter level xs) ≡ 0 → None ≡ find level xs
   found_none xs none = sym (find_is_first level xs ∙ ap (λ ys. slice_get ys 0) (nil_from_length (filter level xs) none))
+
+  pub few_level : (xs : List X) → IsInOrder cmp xs → length (filter level xs) ≤ 1
+  few_level xs h = subst (λ ys. length ys ≤ 1) (sym (level_is xs h)) (few (drop (prefix_len below xs) xs))
+    where
+      few : (ys : List X) → length (level_first ys) ≤ 1
+      few [] = omega arith
+      few (y ∷ ys) = elim (level y) as (λ b. length (cond b (y ∷ []) []) ≤ 1) [ true ↦ omega arith | false ↦ omega arith ]
 
   pub taken : (xs : List X) → IsInOrder cmp xs → (n : ℕ) → n ≡ length (filter below xs) → take n xs ≡ filter below xs
   taken xs h n start = ap (take n) (parts xs h) ∙ take_at (filter below xs) (filter level xs ++ filter above xs) n (sym start)
