@@ -65,15 +65,17 @@ impl<T: Drop, R: Ranking<T>> OrderedList<T, R> {
 
     /// The entries in order, one after another: the whole list at a cost linear in its length.
     pub fn iter(&self) -> Iter<'_, T>
-        ensures { result ≡ self.now }
+        ensures all { result ≡ self.now }
+        ensures in_order { IsInOrder R.cmp self.now }
     {
         self.list.iter()
     }
 
     /// The entry that ranks equal with `like`: about 20 comparisons at 131,072 entries.
     pub fn at(&self, like: &T) -> Option<&Arc<T>>
-        ensures { option_map (λ entry. arc_value entry.now) result
+        ensures entry { option_map (λ entry. arc_value entry.now) result
             ≡ entry_at R.cmp like.now self.now }
+        ensures in_order { IsInOrder R.cmp self.now }
     {
         let (from, to) = self.place(like);
         if from < to {
@@ -98,6 +100,7 @@ impl<T: Drop, R: Ranking<T>> OrderedList<T, R> {
             ≡ result.0 + length (filter (λ x. is_eq (R.cmp x like.now)) self.now) }
         ensures order { result.0 ≤ result.1 }
         ensures in_range { result.1 ≤ length self.now }
+        ensures in_order { IsInOrder R.cmp self.now }
     {
         let from = self.count_below(like);
         if from < self.list.len() && R::compare(self.list.get(from), like).is_eq() {
@@ -114,13 +117,15 @@ impl<T: Drop, R: Ranking<T>> OrderedList<T, R> {
         ensures exact { (p : T → Bool)
             → ((x : T) (r : Bool) → FnReturnsAt F.Fn before x r → r ≡ p x)
             → IsPartitionedBy p self.now → result ≡ prefix_len p self.now }
+        ensures in_order { IsInOrder R.cmp self.now }
     {
         self.list.find(before)
     }
 
     /// The list with the entry in its place, and so in the place of the one that ranks equal, if there is one.
     pub fn with(&self, alloc: Global, entry: Arc<T>) -> Result<OrderedList<T, R>, OutOfMemory>
-        ensures { IfOk result (λ made. made ≡ with_entry R.cmp (arc_value entry) self.now) }
+        ensures made { IfOk result (λ made. made ≡ with_entry R.cmp (arc_value entry) self.now) }
+        ensures in_order { IsInOrder R.cmp self.now }
     {
         let (from, to) = self.place(&entry);
         let mut items = Vec::with_capacity(alloc, 1)?;
@@ -134,7 +139,8 @@ impl<T: Drop, R: Ranking<T>> OrderedList<T, R> {
 
     /// The list without the entry that ranks equal with `like`.
     pub fn without(&self, alloc: Global, like: &T) -> Result<OrderedList<T, R>, OutOfMemory>
-        ensures { IfOk result (λ made. made ≡ without_entry R.cmp like.now self.now) }
+        ensures made { IfOk result (λ made. made ≡ without_entry R.cmp like.now self.now) }
+        ensures in_order { IsInOrder R.cmp self.now }
     {
         let (from, to) = self.place(like);
         let list = self.list.with_replaced(alloc, from, to, Vec::new(alloc))?;
@@ -168,3 +174,6 @@ impl<'a, T: Drop, R: Ranking<T>> IntoIterator for &'a OrderedList<T, R> {
         self.iter()
     }
 }
+
+#[cfg(test)]
+mod tests;

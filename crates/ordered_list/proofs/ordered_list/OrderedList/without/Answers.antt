@@ -13,6 +13,6 @@ invariant_of-result g c =
     let made = without_made cmp g.met.R.Ranking.total like arc_value c.self.inside.list c.self.invariant _ _ (rw c.self.view_is c.place-from.ensures.from) (rw c.self.view_is c.place-from.ensures.to) _ _ c.new.ensures.items c.in_ok-list.ensures in
     subst (IsInOrder cmp) (sym made) (filter_in_order cmp (λ x. not (is_eq (cmp x like))) c.self.inside.list c.self.invariant)
 
-pub returns : goal.returns
-returns g c =
+pub returns-clause-made : goal.returns-clause-made
+returns-clause-made g c =
     rw (← c.self.view_is) (without_made g.R.Ranking.cmp g.met.R.Ranking.total c.args.like.now arc_value c.self.inside.list c.self.invariant _ _ (rw c.self.view_is c.place-from.ensures.from) (rw c.self.view_is c.place-from.ensures.to) _ _ c.new.ensures.items c.in_ok-list.ensures)
