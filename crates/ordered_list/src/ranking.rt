@@ -1,0 +1,17 @@
+//! An order of entries.
+ghost use Rattle.std.specs.Prelude.{◌≡◌};
+ghost use Rattle.std.specs.Cmp.{IsTotalOrder};
+ghost use Rattle.std.specs.declared.cmp.Ordering.{Ordering};
+
+use std::cmp::Ordering;
+
+/// A total order of entries, as a type of its own, so that one type of entries may have several. Entries that rank
+/// equal need not be equal.
+pub trait Ranking<T> {
+    ghost cmp: { T → T → Ordering };
+
+    fn compare(one: &T, other: &T) -> Ordering
+        ensures { result ≡ cmp one.now other.now };
+
+    ghost total: { IsTotalOrder cmp };
+}
