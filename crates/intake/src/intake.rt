@@ -68,4 +68,6 @@ fn taken_of(alloc: Global, message: Message, now: u32) -> Result<Taken, OutOfMem
 #[cfg(test)]
 mod draft;
 #[cfg(test)]
+mod rules;
+#[cfg(test)]
 mod tests;

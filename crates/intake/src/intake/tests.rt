@@ -42,7 +42,7 @@ fn tell(
 }
 
 // What the octets give: each record, and the number of groups skipped; or the fault.
-fn told(alloc: Global, octets: &[u8], now: u32) -> Result<String, Fail> {
+pub(super) fn told(alloc: Global, octets: &[u8], now: u32) -> Result<String, Fail> {
     let mut out = String::new(alloc);
     let Taken { batch, skipped } = match batch_of(alloc, octets, now) {
         Ok(taken) => taken,
@@ -78,7 +78,7 @@ fn told(alloc: Global, octets: &[u8], now: u32) -> Result<String, Fail> {
 }
 
 // The record with its RRSIG as the answer section.
-fn alone(alloc: Global, row: Row) -> Result<Vec<u8>, AllocError> {
+pub(super) fn alone(alloc: Global, row: Row) -> Result<Vec<u8>, AllocError> {
     let none = Section::new(alloc);
     let mut answer = Section::new(alloc);
     answer.signed(row)?;
@@ -138,21 +138,6 @@ fn the_header_is_looked_at_in_order(rt: HostRuntime) -> Result<(), Fail> {
     assert_eq!(rt; told(alloc, &octets, NOW)?.as_str(), "response code 16");
     Ok(())
 }
-
-/// b.example, with A, RRSIG and NSEC.
-const NSEC: Row = Row {
-    rtype: 47,
-    data: b"\x01b\x07example\x00\x00\x06\x40\x00\x00\x00\x00\x03",
-    ..GOOD
-};
-
-// SHA-1, no flag, 12 iterations, the salt aabb, the hash of 20 ones, and A.
-const NSEC3: Row = Row {
-    owner: b"\x200p9mhaveqvm6t7vbl5lop2u3t2rp3tom\x07example\x00",
-    rtype: 50,
-    data: b"\x01\x00\x00\x0c\x02\xaa\xbb\x14\x01\x01\x01\x01\x01\x01\x01\x01\x01\x01\x01\x01\x01\x01\x01\x01\x01\x01\x01\x01\x00\x01\x40",
-    ..GOOD
-};
 
 #[test]
 fn records_form_groups(rt: HostRuntime) -> Result<(), Fail> {
