@@ -61,7 +61,7 @@ alike_with xs ys alike new zone = ap (λ (l : List ZoneChain). cond (in_zone zon
 
 -- ---- the steps of a batch
 
-where_alike : (test test' : Record → Bool) → ((item : Record) → test item ≡ test' item) → (held other : Held) → IsReordered held other → IsReordered (held_where test held) (held_where test' other)
+pub where_alike : (test test' : Record → Bool) → ((item : Record) → test item ≡ test' item) → (held other : Held) → IsReordered held other → IsReordered (held_where test held) (held_where test' other)
 where_alike test test' agree held other order =
     let records = filtered test test' agree held.records other.records order.records in
     reordered _ _ records (alike_filtered _ _ (λ chain. same_any (is_of_chain chain) (filter test held.records) (filter test' other.records) records) held.chains other.chains (list_alike held other order))
@@ -94,7 +94,7 @@ chain_alike (Some new) held other order =
     by true = order
     by false = new_chain_alike new held other order
 
-with_alike : (held other : Held) (new : Record) → IsReordered held other → IsReordered (held_with held new) (held_with other new)
+pub with_alike : (held other : Held) (new : Record) → IsReordered held other → IsReordered (held_with held new) (held_with other new)
 with_alike held other new order =
     chain_alike (chain_of new) _ _ (reordered _ _ (pushed _ _ (filtered stays stays (λ old. refl) held.records other.records order.records) new) (list_alike held other order))
   where
@@ -113,19 +113,19 @@ pub fold_both : {A B : Type 0} (R : A → A → Type 0) (f g : A → B → A) �
 fold_both R f g keeps a a' [] holds = holds
 fold_both R f g keeps a a' (b ∷ bs) holds = fold_both R f g keeps (f a b) (g a' b) bs (keeps a a' b holds)
 
-with_both : (held other : Held) (new : Record) → Alike held other → Alike (held_with held new) (held_with other new)
+pub with_both : (held other : Held) (new : Record) → Alike held other → Alike (held_with held new) (held_with other new)
 with_both held other new alike = record {
   apart = with_apart held new alike.apart;
   others_apart = with_apart other new alike.others_apart;
   order = with_alike held other new alike.order;
 }
 
-goes_alike : (held other : Held) → Alike held other → (item : Record) → goes held.records item ≡ goes other.records item
+pub goes_alike : (held other : Held) → Alike held other → (item : Record) → goes held.records item ≡ goes other.records item
 goes_alike held other alike item =
     λ i. nat_lt (count_alike (λ one. goes_before one item) held.records other.records alike.apart alike.others_apart alike.order.records i)
     (length_alike held.records other.records alike.apart alike.others_apart alike.order.records i - most_records)
 
-limit_alike : (held other : Held) → Alike held other → IsReordered (within_limit held) (within_limit other)
+pub limit_alike : (held other : Held) → Alike held other → IsReordered (within_limit held) (within_limit other)
 limit_alike held other alike =
     where_alike (λ item. not (goes held.records item)) (λ item. not (goes other.records item)) (λ item. ap not (goes_alike held other alike item)) held other alike.order
 

@@ -41,6 +41,29 @@ fn tell(
     write!(out, " {rtype} {life} {items} {signatures}, ")
 }
 
+fn tell_record(out: &mut String, record: &Record) -> Result<(), AllocError> {
+    match record {
+        Record::Set(set) => tell(
+            out,
+            &set.owner,
+            set.rtype,
+            set.life,
+            set.items.len(),
+            &set.signatures,
+        ),
+        Record::Nsec(nsec) => {
+            tell(out, &nsec.owner, 47, nsec.life, 1, &nsec.signatures)?;
+            text_of(&nsec.next, out)?;
+            out.push_str(" next, ")
+        }
+        Record::Nsec3(nsec3) => {
+            tell(out, &nsec3.zone, 50, nsec3.life, 1, &nsec3.signatures)?;
+            let (iterations, opt_out) = (nsec3.iterations, nsec3.opt_out);
+            write!(out, "{iterations} iterations, opt-out {opt_out}, ")
+        }
+    }
+}
+
 // What the octets give: each record, and the number of groups skipped; or the fault.
 pub(super) fn told(alloc: Global, octets: &[u8], now: u32) -> Result<String, Fail> {
     let mut out = String::new(alloc);
@@ -51,27 +74,8 @@ pub(super) fn told(alloc: Global, octets: &[u8], now: u32) -> Result<String, Fai
             return Ok(out);
         }
     };
-    for record in batch.records.as_slice() {
-        match record {
-            Record::Set(set) => tell(
-                &mut out,
-                &set.owner,
-                set.rtype,
-                set.life,
-                set.items.len(),
-                &set.signatures,
-            )?,
-            Record::Nsec(nsec) => {
-                tell(&mut out, &nsec.owner, 47, nsec.life, 1, &nsec.signatures)?;
-                text_of(&nsec.next, &mut out)?;
-                out.push_str(" next, ")?;
-            }
-            Record::Nsec3(nsec3) => {
-                tell(&mut out, &nsec3.zone, 50, nsec3.life, 1, &nsec3.signatures)?;
-                let (iterations, opt_out) = (nsec3.iterations, nsec3.opt_out);
-                write!(out, "{iterations} iterations, opt-out {opt_out}, ")?;
-            }
-        }
+    for i in 0..batch.records.len() {
+        tell_record(&mut out, batch.records.get(i))?;
     }
     write!(out, "{skipped} skipped")?;
     Ok(out)
