@@ -1,4 +1,4 @@
-use super::draft::{A_EXAMPLE, EXAMPLE, FLAGS, GOOD, NOW, Row, Section, message};
+use super::draft::{EXAMPLE, FLAGS, GOOD, NOW, Row, Section, message};
 use super::*;
 use crate::Taken;
 use denial_records::Record;
