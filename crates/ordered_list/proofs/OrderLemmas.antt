@@ -70,6 +70,10 @@ module _ {X : Type 0} (cmp : X → X → Ordering) where
     | inr from ↦ let same : i ≡ j = omega arith in ap (λ k. p (get_or xs k d)) same ∙ passes
   ]
 
+  -- a probe that gives `Less` for all that rank below an entry for which it does
+  pub probed : (probe : X → Ordering) (xs : List X) → IsInOrder cmp xs → ((x y : X) → cmp x y ≡ Less → probe y ≡ Less → probe x ≡ Less) → IsPartitionedBy (λ x. is_lt (probe x)) xs
+  probed probe xs h down = partitioned (λ x. is_lt (probe x)) xs h (λ x y less passes. ap is_lt (down x y less (less_from (probe y) passes)))
+
   module _ (total : IsTotalOrder cmp) where
     above_from_less : (x y like : X) → cmp x y ≡ Less → cmp x like ≢ Less → cmp y like ≡ Greater
     above_from_less x y like less not_less = grind (arith, common_steps, total)
