@@ -1,5 +1,5 @@
 -- Lists in strict order.
-use Rattle.std.proofs.Common.{◌≡◌, ◌≢◌, ◌⊎◌, ◌↔◌, ℕ, zero, suc, ◌<◌, ◌≤◌, Bool, true, false, cond, List, [], ◌∷◌, ◌++◌, length, get_or, drop, All, Contains, filter, inl, inr, refl, sym, ap, ◌∙◌, subst, arith}
+use Rattle.std.proofs.Common.{◌≡◌, ◌≢◌, ◌⊎◌, ◌↔◌, ℕ, zero, suc, ◌<◌, ◌≤◌, Bool, true, false, cond, List, [], ◌∷◌, ◌++◌, length, get_or, drop, map, All, Contains, filter, inl, inr, refl, sym, ap, ◌∙◌, subst, arith}
 use Rattle.std.specs.List.{AllPairs}
 use Rattle.std.specs.List.Sorted.{IsPartitionedBy}
 use Rattle.std.specs.Cmp.{IsTotalOrder}
@@ -59,12 +59,20 @@ module _ {X : Type 0} (cmp : X → X → Ordering) where
   drop_in_order (suc n) [] h = h
   drop_in_order (suc n) (x ∷ xs) h = drop_in_order n xs (rest_in_order x xs h)
 
+  -- what stands behind the first n, where nothing comes before it
+  pub dropped_in_order : {A : Type 0} (v : A → X) (n : ℕ) (xs : List X) → IsInOrder cmp xs → (none : List A) (made : List X) → none ≡ [] → made ≡ map v none ++ drop n xs → IsInOrder cmp made
+  dropped_in_order v n xs h none made empty is = subst (IsInOrder cmp) (sym (is ∙ ap (λ ys. map v ys ++ drop n xs) empty)) (drop_in_order n xs h)
+
   -- a test that holds of all that rank below an entry of which it holds
   pub partitioned : (p : X → Bool) (xs : List X) → IsInOrder cmp xs → ((x y : X) → cmp x y ≡ Less → p y ≡ true → p x ≡ true) → IsPartitionedBy p xs
   partitioned p xs h down i j d le within passes = elim (cases_lt i j) [
     | inl before ↦ down (get_or xs i d) (get_or xs j d) (h i j d before within) passes
     | inr from ↦ let same : i ≡ j = omega arith in ap (λ k. p (get_or xs k d)) same ∙ passes
   ]
+
+  -- a probe that gives `Less` for all that rank below an entry for which it does
+  pub probed : (probe : X → Ordering) (xs : List X) → IsInOrder cmp xs → ((x y : X) → cmp x y ≡ Less → probe y ≡ Less → probe x ≡ Less) → IsPartitionedBy (λ x. is_lt (probe x)) xs
+  probed probe xs h down = partitioned (λ x. is_lt (probe x)) xs h (λ x y less passes. ap is_lt (down x y less (less_from (probe y) passes)))
 
   module _ (total : IsTotalOrder cmp) where
     above_from_less : (x y like : X) → cmp x y ≡ Less → cmp x like ≢ Less → cmp y like ≡ Greater
