@@ -1,0 +1,131 @@
+//! Spans that don't meet, in order of start.
+ghost use Rattle.std.specs.Prelude.{◌≡◌, ◌<◌, [], ◌∷◌, length, filter, slice_index_or, MatchOption, IfSome, IfOk, Bool};
+ghost use Rattle.std.specs.Fn.{FnReturnsAt};
+ghost use Rattle.std.specs.Arc.{arc_value};
+ghost use Rattle.dname.specs.Arc.{arc_has};
+ghost use Rattle.range_index.specs.Arcs.{span_has, is_apart, starts_elsewhere, IsArcs, FailInRuns, arcs_with};
+ghost use Rattle.range_index.specs.Place.{place_of};
+
+use crate::cut::{list_with, met_in};
+use crate::kept::kept_shares;
+use crate::search::{candidate, place_in, span_has, starting_at};
+use crate::{Met, OutOfMemory, Place, RingSpan};
+use page_list::{Iter, PageList};
+use std::alloc::Global;
+use std::marker::Model;
+use std::sync::Arc;
+
+/// Spans whose arcs don't meet, seen as their list in order of start. A change makes another list, which shares with it
+/// what it doesn't touch.
+#[derive(Drop)]
+pub struct Arcs<R: RingSpan> {
+    list: PageList<R>,
+}
+
+impl<R: RingSpan> Model for Arcs<R> {
+    ghost use Rattle.std.specs.Prelude.{List};
+    ghost use Rattle.range_index.specs.Arcs.{IsArcs};
+
+    ghost Value = { List R };
+
+    ghost view = { λ a. a.list };
+
+    ghost invariant = { λ a. IsArcs R.Key.Ord.cmp R.start R.end a.list };
+}
+
+impl<R: RingSpan> Arcs<R> {
+    /// No spans, which take no memory.
+    pub fn empty(alloc: Global) -> Arcs<R>
+        ensures { result ≡ [] }
+    {
+        Arcs {
+            list: PageList::empty(alloc),
+        }
+    }
+
+    /// How many spans there are. They are in order of start, and no two meet.
+    pub fn len(&self) -> usize
+        ensures value { result ≡ length self.now }
+        ensures arcs { IsArcs R.Key.Ord.cmp R.start R.end self.now }
+    {
+        self.list.len()
+    }
+
+    /// The span at a place in the order of starts.
+    pub fn get(&self, i: usize) -> &Arc<R>
+        requires { i < length self.now }
+        ensures { arc_value result.now ≡ slice_index_or self.now i (arc_value result.now) }
+    {
+        self.list.get(i)
+    }
+
+    /// The spans one after another, at a cost linear in their number.
+    pub fn iter(&self) -> Iter<'_, R>
+        ensures { result ≡ self.now }
+    {
+        self.list.iter()
+    }
+
+    /// The span whose arc has the key, and where in it the key lies; None where no arc has it. The key is compared three
+    /// times more at most than a search of the list takes.
+    pub fn at(&self, key: &R::Key) -> Option<(&R, Place)>
+        ensures span { MatchOption result
+            (filter (span_has R.Key.Ord.cmp R.start R.end key.now) self.now ≡ [])
+            (λ found. filter (span_has R.Key.Ord.cmp R.start R.end key.now) self.now ≡ found.0.now ∷ []) }
+        ensures place { IfSome result
+            (λ found. found.1 ≡ place_of (R.Key.Ord.cmp (R.start found.0.now) key.now)) }
+    {
+        if self.list.len() == 0 {
+            return None;
+        }
+        let (place, started) = candidate(&self.list, key);
+        let span: &R = self.list.get(place);
+        if span_has(span, key, started) {
+            Some((span, place_in(span, key, started)))
+        } else {
+            None
+        }
+    }
+
+    /// The spans whose arcs don't meet the new one's, and the new one.
+    pub fn with(&self, alloc: Global, span: Arc<R>) -> Result<Arcs<R>, OutOfMemory>
+        ensures { IfOk result (λ made.
+            made ≡ arcs_with R.Key.Ord.cmp R.start R.end (arc_value span) self.now) }
+    {
+        let list = list_with(alloc, &self.list, span)?;
+        Ok(Arcs { list })
+    }
+
+    /// Which spans `with` drops for this one: those that it meets.
+    pub fn met_by(&self, span: &R) -> Met
+        ensures { FailInRuns (is_apart R.Key.Ord.cmp R.start R.end span.now) self.now
+            result.from result.to result.last }
+    {
+        met_in(&self.list, span)
+    }
+
+    /// The spans without the one that starts at the key, if there is one.
+    pub fn without(&self, alloc: Global, key: &R::Key) -> Result<Arcs<R>, OutOfMemory>
+        ensures { IfOk result (λ made.
+            made ≡ filter (starts_elsewhere R.Key.Ord.cmp R.start key.now) self.now) }
+    {
+        let (from, to) = starting_at(&self.list, key);
+        let list = self.list.with_replaced(alloc, from, to, Vec::new(alloc))?;
+        Ok(Arcs { list })
+    }
+
+    /// The spans that `keep` holds of.
+    pub fn kept<F: Fn(&R) -> bool>(&self, alloc: Global, keep: F) -> Result<Arcs<R>, OutOfMemory>
+        requires { F.IsAlwaysCallable keep }
+        ensures { IfOk result (λ made. (p : R → Bool)
+            → ((x : R) (r : Bool) → FnReturnsAt F.Fn keep x r → r ≡ p x)
+            → made ≡ filter p self.now) }
+    {
+        let shares = kept_shares(alloc, &self.list, keep)?;
+        let list = PageList::empty(alloc).with_replaced(alloc, 0, 0, shares)?;
+        Ok(Arcs { list })
+    }
+}
+
+#[cfg(test)]
+mod tests;

@@ -1,0 +1,4 @@
+pub mod Zone
+pub mod Views
+pub mod Spans
+pub mod Chains

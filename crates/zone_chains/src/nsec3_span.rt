@@ -1,0 +1,71 @@
+//! An NSEC3 record as a span of hashes.
+ghost use Rattle.std.specs.Prelude.{◌≡◌};
+ghost use Rattle.std.specs.Arc.{arc_value};
+ghost use Rattle.zone_chains.specs.Views.{IsNsec3};
+
+use denial_records::{HASH_OCTETS, Nsec3Rec, Record};
+use range_index::RingSpan;
+use std::marker::Model;
+use std::sync::Arc;
+
+/// An NSEC3 record, seen as the record: a span from its hash to the next (RFC 5155, section 3.1.7).
+#[derive(Drop)]
+pub(crate) struct Nsec3Span {
+    record: Arc<Record>,
+}
+
+impl Model for Nsec3Span {
+    ghost use Rattle.std.specs.Arc.{arc_value};
+    ghost use Rattle.denial_records.specs.declared.record.Record.{Record};
+    ghost use Rattle.zone_chains.specs.Views.{IsNsec3};
+
+    ghost Value = { Record };
+
+    ghost view = { λ s. arc_value s.record };
+
+    ghost invariant = { λ s. IsNsec3 (arc_value s.record) };
+}
+
+impl RingSpan for Nsec3Span {
+    type Key = [u8; HASH_OCTETS];
+
+    ghost use Rattle.zone_chains.specs.Views.{nsec3_start, nsec3_end};
+
+    ghost start = { nsec3_start };
+
+    ghost end = { nsec3_end };
+
+    fn start_key(&self) -> &[u8; HASH_OCTETS] {
+        &self.nsec3().hash
+    }
+
+    fn end_key(&self) -> &[u8; HASH_OCTETS] {
+        &self.nsec3().next
+    }
+}
+
+impl Nsec3Span {
+    /// The span of the record.
+    pub(crate) fn of(item: Arc<Record>) -> Nsec3Span
+        requires { IsNsec3 (arc_value item) }
+        ensures { result ≡ arc_value item }
+    {
+        Nsec3Span { record: item }
+    }
+
+    pub(crate) fn record(&self) -> &Arc<Record>
+        ensures { arc_value result.now ≡ self.now }
+    {
+        &self.record
+    }
+
+    pub(crate) fn nsec3(&self) -> &Nsec3Rec
+        ensures { Record.Nsec3 result.now ≡ self.now }
+    {
+        let record: &Record = &self.record;
+        match record {
+            Record::Nsec3(nsec3) => nsec3,
+            _ => unreachable!(),
+        }
+    }
+}

@@ -1,0 +1,72 @@
+//! An NSEC record as a span of names.
+ghost use Rattle.std.specs.Prelude.{◌≡◌};
+ghost use Rattle.std.specs.Arc.{arc_value};
+ghost use Rattle.zone_chains.specs.Views.{IsNsec};
+
+use denial_records::{NsecRec, Record};
+use dname::Name;
+use range_index::RingSpan;
+use std::marker::Model;
+use std::sync::Arc;
+
+/// An NSEC record, seen as the record: a span from its owner name to the next (RFC 4034, section 4.1.1).
+#[derive(Drop)]
+pub(crate) struct NsecSpan {
+    record: Arc<Record>,
+}
+
+impl Model for NsecSpan {
+    ghost use Rattle.std.specs.Arc.{arc_value};
+    ghost use Rattle.denial_records.specs.declared.record.Record.{Record};
+    ghost use Rattle.zone_chains.specs.Views.{IsNsec};
+
+    ghost Value = { Record };
+
+    ghost view = { λ s. arc_value s.record };
+
+    ghost invariant = { λ s. IsNsec (arc_value s.record) };
+}
+
+impl RingSpan for NsecSpan {
+    type Key = Name;
+
+    ghost use Rattle.zone_chains.specs.Views.{nsec_start, nsec_end};
+
+    ghost start = { nsec_start };
+
+    ghost end = { nsec_end };
+
+    fn start_key(&self) -> &Name {
+        &self.nsec().owner
+    }
+
+    fn end_key(&self) -> &Name {
+        &self.nsec().next
+    }
+}
+
+impl NsecSpan {
+    /// The span of the record.
+    pub(crate) fn of(item: Arc<Record>) -> NsecSpan
+        requires { IsNsec (arc_value item) }
+        ensures { result ≡ arc_value item }
+    {
+        NsecSpan { record: item }
+    }
+
+    pub(crate) fn record(&self) -> &Arc<Record>
+        ensures { arc_value result.now ≡ self.now }
+    {
+        &self.record
+    }
+
+    pub(crate) fn nsec(&self) -> &NsecRec
+        ensures { Record.Nsec result.now ≡ self.now }
+    {
+        let record: &Record = &self.record;
+        match record {
+            Record::Nsec(nsec) => nsec,
+            _ => unreachable!(),
+        }
+    }
+}
