@@ -1,14 +1,17 @@
 -- No public clause cites this module: what the code's values are, in the words of the definitions.
-use Rattle.std.specs.Prelude.{◌≡◌, ◌≤◌, ℕ, length, Bool, false, List, [], ◌∷◌, map, Option, Some, None}
-use Rattle.std.specs.List.{All, AllPairs}
+use Rattle.std.specs.Prelude.{◌≡◌, ℕ, Bool, false, List, [], ◌∷◌}
 use Rattle.std.specs.Ordering.{nat_cmp}
 use Rattle.std.specs.Cmp.Lexicographic.{slice_cmp}
 use Rattle.dname.specs.Name.{Label, canonical_cmp}
 use Rattle.denial_records.specs.declared.record.Record.{Record}
 use Rattle.denial_records.specs.declared.record.Record.TheVariants.{Set, Nsec, Nsec3}
-use Rattle.cache_meaning.specs.Held.{Chain, NsecChain, Nsec3Chain, HashParameters, ZoneChain, same_zone_chain, chain_of}
-use Rattle.range_index.specs.Arcs.{IsArcs}
-use Rattle.zone_chains.specs.Zone.{OneChain, OneZone, IsOfItsChain}
+use Rattle.cache_meaning.specs.Held.{Chain, NsecChain, Nsec3Chain, same_zone_chain}
+use Rattle.range_index.specs.Arcs.{is_apart, IsArcs}
+use Rattle.cache_meaning.specs.declared.place.Place.{Place}
+use Rattle.cache_meaning.specs.declared.place.Place.TheVariants.{Start, Inside}
+use Rattle.range_index.specs.declared.place.Place.{Place as RingPlace}
+use Rattle.range_index.specs.declared.place.Place.TheVariants as ring
+use Rattle.zone_chains.specs.Zone.{OneChain, IsOfItsChain}
 
 -- ---- records as spans
 
@@ -44,9 +47,19 @@ nsec3_end (Set set) = []
 nsec3_end (Nsec nsec) = []
 nsec3_end (Nsec3 nsec3) = nsec3.next
 
+-- where in an arc a key lies
+abbrev pub placed : RingPlace → Place
+placed ring.Start = Start
+placed ring.Inside = Inside
+
 -- ---- chains
 
--- the records' arcs don't meet
+-- the arcs of two records of the chain don't meet
+abbrev pub apart_in : Chain → Record → Record → Bool
+apart_in NsecChain one other = is_apart canonical_cmp nsec_start nsec_end one other
+apart_in (Nsec3Chain parameters) one other = is_apart (slice_cmp nat_cmp) nsec3_start nsec3_end one other
+
+-- the records of the chain are in order, and their arcs don't meet
 abbrev pub AreArcs : Chain → List Record → Type 0
 AreArcs NsecChain records = IsArcs canonical_cmp nsec_start nsec_end records
 AreArcs (Nsec3Chain parameters) records = IsArcs (slice_cmp nat_cmp) nsec3_start nsec3_end records
@@ -55,8 +68,14 @@ pub record IsChain (each : OneChain) : Type 0 where
   pub of_chain : IsOfItsChain each
   pub arcs : AreArcs each.chain.chain each.records
 
-pub record IsZone (zone : OneZone) : Type 0 where
-  pub two : length zone.chains ≤ 2
-  pub once : AllPairs (λ one other. same_zone_chain one.chain other.chain ≡ false) zone.chains
-  pub here : All (λ each. each.chain.zone ≡ zone.apex) zone.chains
-  pub chains : All IsChain zone.chains
+pub record IsChainOf (apex : List Label) (each : OneChain) : Type 0 where
+  pub here : each.chain.zone ≡ apex
+  pub chain : IsChain each
+
+-- they are chains of the zone, and two of them at most
+abbrev pub AreChains : List Label → List OneChain → Type 0
+AreChains apex [] = Unit {0}
+AreChains apex (only ∷ []) = IsChainOf apex only
+AreChains apex (newer ∷ older ∷ []) =
+    IsChainOf apex newer × IsChainOf apex older × (same_zone_chain newer.chain older.chain ≡ false)
+AreChains apex (newer ∷ older ∷ third ∷ rest) = ⊥

@@ -1,6 +1,6 @@
 -- The denial records of one zone that are held, chain by chain.
-use Rattle.std.specs.Prelude.{◌≡◌, ◌≤◌, length, nat_lt, Bool, false, true, if◌then◌else◌, List, [], ◌∷◌, take, map, Option, Some, None}
-use Rattle.std.specs.List.{All, AllPairs, flat_map, list_any}
+use Rattle.std.specs.Prelude.{◌≡◌, ◌≤◌, length, nat_lt, Bool, false, not, if◌then◌else◌, List, [], ◌∷◌, take, map, Option, Some, None}
+use Rattle.std.specs.List.{All, AllPairs, Contains, flat_map, list_any}
 use Rattle.dname.specs.Name.{Label}
 use Rattle.denial_records.specs.declared.record.Record.{Record}
 use Rattle.denial_records.specs.declared.record.Record.TheVariants.{Set, Nsec, Nsec3}
@@ -41,12 +41,18 @@ IsDenialOf apex (Set set) = ⊥
 IsDenialOf apex (Nsec nsec) = nsec.zone ≡ apex
 IsDenialOf apex (Nsec3 nsec3) = nsec3.zone ≡ apex
 
+-- what the choice gives of a record among them, if it gives anything of any
+abbrev pub IsChosen : {A : Type 0} → (Record → Option A) → List Record → Option A → Type 0
+IsChosen choose records None = (item : Record) → Contains records item → choose item ≡ None
+IsChosen choose records (Some found) =
+    (item : Record) × Contains records item × (choose item ≡ Some found)
+
 -- ---- a record comes
 
 -- the chain isn't among them
 abbrev pub is_new_to : List ZoneChain → Option ZoneChain → Bool
 is_new_to chains None = false
-is_new_to chains (Some chain) = if list_any (same_zone_chain chain) chains then false else true
+is_new_to chains (Some chain) = not (list_any (same_zone_chain chain) chains)
 
 -- the chains with a record's chain, which comes first where it is new; two stay
 abbrev pub chains_with : List ZoneChain → Option ZoneChain → List ZoneChain

@@ -7,6 +7,7 @@
 mod chain_records;
 mod nsec3_span;
 mod nsec_span;
+mod placed;
 mod zone_records;
 
 pub use chain_records::ChainRecords;

@@ -1,10 +1,17 @@
 //! An NSEC3 record as a span of hashes.
-ghost use Rattle.std.specs.Prelude.{◌≡◌};
+ghost use Rattle.std.specs.Prelude.{◌≡◌, [], ◌∷◌, filter, MatchOption, IfSome};
 ghost use Rattle.std.specs.Arc.{arc_value};
-ghost use Rattle.zone_chains.specs.Views.{IsNsec3};
+ghost use Rattle.zone_chains.specs.Views.{IsNsec3, nsec3_start, nsec3_end};
+ghost use Rattle.cache_meaning.specs.Lent.{place_by};
+ghost use Rattle.range_index.specs.Arcs.{span_has};
+ghost use Rattle.std.specs.Ordering.{nat_cmp};
+ghost use Rattle.std.specs.Cmp.Lexicographic.{slice_cmp};
+ghost use Rattle.std.specs.Str.{bytes_eq};
 
+use crate::placed::placed;
+use cache_meaning::Place;
 use denial_records::{HASH_OCTETS, Nsec3Rec, Record};
-use range_index::RingSpan;
+use range_index::{Arcs, RingSpan};
 use std::marker::Model;
 use std::sync::Arc;
 
@@ -67,5 +74,22 @@ impl Nsec3Span {
             Record::Nsec3(nsec3) => nsec3,
             _ => unreachable!(),
         }
+    }
+}
+
+/// The record of the span that has the hash, and where in it.
+pub(crate) fn nsec3_in<'a>(
+    arcs: &'a Arcs<Nsec3Span>,
+    hash: &[u8; HASH_OCTETS],
+) -> Option<(&'a Nsec3Rec, Place)>
+    ensures record { MatchOption result
+        (filter (span_has (slice_cmp nat_cmp) nsec3_start nsec3_end hash.now) arcs.now ≡ [])
+        (λ found. filter (span_has (slice_cmp nat_cmp) nsec3_start nsec3_end hash.now) arcs.now
+        ≡ Record.Nsec3 found.0.now ∷ []) }
+    ensures place { IfSome result (λ found. found.1 ≡ place_by (bytes_eq found.0.now.hash hash.now)) }
+{
+    match arcs.at(hash) {
+        Some((span, place)) => Some((span.nsec3(), placed(place))),
+        None => None,
     }
 }

@@ -1,11 +1,17 @@
 //! An NSEC record as a span of names.
-ghost use Rattle.std.specs.Prelude.{◌≡◌};
+ghost use Rattle.std.specs.Prelude.{◌≡◌, [], ◌∷◌, filter, MatchOption, IfSome};
 ghost use Rattle.std.specs.Arc.{arc_value};
-ghost use Rattle.zone_chains.specs.Views.{IsNsec};
+ghost use Rattle.zone_chains.specs.Views.{IsNsec, nsec_start, nsec_end};
+ghost use Rattle.cache_meaning.specs.Lent.{place_by};
+ghost use Rattle.range_index.specs.Arcs.{span_has};
+ghost use Rattle.dname.specs.Name.{canonical_cmp};
+ghost use Rattle.cache_meaning.specs.Evidence.{nsec_matches};
 
+use crate::placed::placed;
+use cache_meaning::Place;
 use denial_records::{NsecRec, Record};
 use dname::Name;
-use range_index::RingSpan;
+use range_index::{Arcs, RingSpan};
 use std::marker::Model;
 use std::sync::Arc;
 
@@ -68,5 +74,19 @@ impl NsecSpan {
             Record::Nsec(nsec) => nsec,
             _ => unreachable!(),
         }
+    }
+}
+
+/// The record of the span that has the name, and where in it.
+pub(crate) fn nsec_in<'a>(arcs: &'a Arcs<NsecSpan>, name: &Name) -> Option<(&'a NsecRec, Place)>
+    ensures record { MatchOption result
+        (filter (span_has canonical_cmp nsec_start nsec_end name.now) arcs.now ≡ [])
+        (λ found. filter (span_has canonical_cmp nsec_start nsec_end name.now) arcs.now
+        ≡ Record.Nsec found.0.now ∷ []) }
+    ensures place { IfSome result (λ found. found.1 ≡ place_by (nsec_matches found.0.now name.now)) }
+{
+    match arcs.at(name) {
+        Some((span, place)) => Some((span.nsec(), placed(place))),
+        None => None,
     }
 }

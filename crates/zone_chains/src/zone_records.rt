@@ -1,15 +1,15 @@
 //! The denial records of one zone.
 ghost use Rattle.std.specs.Prelude.{◌≡◌, ◌≢◌, ◌↔◌, ◌⊎◌, ◌≤◌, [], ◌∷◌, length, map, filter, not, false, true, None, Some, slice_get, MatchOption, IfSome, IfOk, IsTrue};
 ghost use Rattle.std.specs.Arc.{arc_value};
-ghost use Rattle.std.specs.List.{Contains};
+ghost use Rattle.std.specs.List.{Contains, list_any};
 ghost use Rattle.std.specs.Option.{option_map};
 ghost use Rattle.std.specs.Str.{bytes_eq};
 ghost use Rattle.denial_records.specs.declared.record.Record.{Record};
-ghost use Rattle.cache_meaning.specs.Held.{chain_of, displaces};
+ghost use Rattle.cache_meaning.specs.Held.{chain_of, is_of_chain, displaces};
 ghost use Rattle.cache_meaning.specs.Zones.{as_nsec_at, as_nsec3_at, IsInArc};
 ghost use Rattle.cache_meaning.specs.Evidence.{nsec_matches};
 ghost use Rattle.cache_meaning.specs.Lent.{lent_chain, parameters_by, place_by};
-ghost use Rattle.zone_chains.specs.Zone.{chains_in, records_in, IsOneZone, IsDenialOf, is_new_to, chains_with, third_for, is_of, has_records};
+ghost use Rattle.zone_chains.specs.Zone.{chains_in, records_in, IsOneZone, IsChosen, IsDenialOf, is_new_to, chains_with, third_for, is_of, has_records};
 
 use crate::chain_records::ChainRecords;
 use cache_meaning::{Chain, Place};
@@ -39,14 +39,14 @@ pub(crate) enum ZoneChains {
 
 impl Model for ZoneRecords {
     ghost use Rattle.zone_chains.specs.Zone.{OneZone};
-    ghost use Rattle.zone_chains.specs.Views.{IsZone};
-    ghost use Rattle.zone_chains.specs.Chains.{zone_by};
+    ghost use Rattle.zone_chains.specs.Views.{AreChains};
+    ghost use Rattle.zone_chains.specs.Chains.{zone_by, chains_by};
 
     ghost Value = { OneZone };
 
     ghost view = { λ z. zone_by z.apex z.chains };
 
-    ghost invariant = { λ z. IsZone (zone_by z.apex z.chains) };
+    ghost invariant = { λ z. AreChains z.apex (chains_by z.chains) };
 }
 
 impl ZoneRecords {
@@ -87,22 +87,29 @@ impl ZoneRecords {
             ∷ slice_get (map (λ each. each.chain) (chains_in self.now)) 1 ∷ [] }
         ensures all { length self.now.chains ≤ 2 }
     {
-        [Chain::Bare, Chain::Bare]
+        match &self.chains {
+            ZoneChains::Bare => [Chain::Bare, Chain::Bare],
+            ZoneChains::One(only) => [only.chain(), Chain::Bare],
+            ZoneChains::Two { newer, older } => [newer.chain(), older.chain()],
+        }
     }
 
     /// The NSEC record whose arc, from its owner name to the next, has the name, and where in it (RFC 4034, section 4.1.1).
     pub fn nsec_at(&self, name: &Name) -> Option<(&NsecRec, Place)>
-        ensures record { MatchOption result
-            ((item : Record) → Contains (records_in self.now) item
-            → as_nsec_at self.now.apex name.now item ≡ None)
-            (λ found. Contains (records_in self.now) (Record.Nsec found.0.now)
-            × (as_nsec_at self.now.apex name.now (Record.Nsec found.0.now)
-            ≡ Some found.0.now)) }
+        ensures record { IsChosen (as_nsec_at self.now.apex name.now) (records_in self.now)
+            (option_map (λ found. found.0.now) result) }
         ensures place { IfSome result (λ found.
             found.1 ≡ place_by (nsec_matches found.0.now name.now)) }
         ensures arc { IfSome result (λ found. IsInArc name.now found.0.now) }
     {
-        None
+        match &self.chains {
+            ZoneChains::Bare => None,
+            ZoneChains::One(only) => only.nsec_at(name),
+            ZoneChains::Two { newer, older } => match newer.nsec_at(name) {
+                Some(found) => Some(found),
+                None => older.nsec_at(name),
+            },
+        }
     }
 
     /// The NSEC3 record of the chain of a salt and a number of iterations whose arc, from its hash to the next, has the hash,
@@ -113,16 +120,20 @@ impl ZoneRecords {
         iterations: u16,
         hash: &[u8; HASH_OCTETS],
     ) -> Option<(&Nsec3Rec, Place)>
-        ensures record { MatchOption result
-            ((item : Record) → Contains (records_in self.now) item
-            → as_nsec3_at self.now.apex (parameters_by salt.now iterations) hash.now item ≡ None)
-            (λ found. Contains (records_in self.now) (Record.Nsec3 found.0.now)
-            × (as_nsec3_at self.now.apex (parameters_by salt.now iterations) hash.now
-            (Record.Nsec3 found.0.now) ≡ Some found.0.now)) }
+        ensures record { IsChosen
+            (as_nsec3_at self.now.apex (parameters_by salt.now iterations) hash.now)
+            (records_in self.now) (option_map (λ found. found.0.now) result) }
         ensures place { IfSome result (λ found.
             found.1 ≡ place_by (bytes_eq found.0.now.hash hash.now)) }
     {
-        None
+        match &self.chains {
+            ZoneChains::Bare => None,
+            ZoneChains::One(only) => only.nsec3_at(salt, iterations, hash),
+            ZoneChains::Two { newer, older } => match newer.nsec3_at(salt, iterations, hash) {
+                Some(found) => Some(found),
+                None => older.nsec3_at(salt, iterations, hash),
+            },
+        }
     }
 
     /// A record that the new one displaces. Want of memory where the new record can have no further owner.
@@ -141,7 +152,21 @@ impl ZoneRecords {
     pub fn is_new(&self, item: &Record) -> bool
         ensures { result ≡ is_new_to (chains_in self.now) (chain_of item.now) }
     {
-        true
+        match item {
+            Record::Set(_) => false,
+            _ => !self.lists(item),
+        }
+    }
+
+    // Whether the record's chain is among the zone's.
+    fn lists(&self, item: &Record) -> bool
+        ensures { result ≡ list_any (λ chain. is_of_chain chain item.now) (chains_in self.now) }
+    {
+        match &self.chains {
+            ZoneChains::Bare => false,
+            ZoneChains::One(only) => only.is_of(item),
+            ZoneChains::Two { newer, older } => newer.is_of(item) || older.is_of(item),
+        }
     }
 
     /// The chain that goes where the record comes: the older of two, where the record's own is a third.
@@ -150,7 +175,10 @@ impl ZoneRecords {
             ≡ third_for (chains_in self.now) (chain_of item.now) }
         ensures held { IfSome result (λ chain. Contains self.now.chains chain.now) }
     {
-        None
+        match &self.chains {
+            ZoneChains::Two { older, .. } if self.is_new(item) => Some(older),
+            _ => None,
+        }
     }
 
     /// With the record, in its chain. A new chain comes first, and a third one goes with its records.

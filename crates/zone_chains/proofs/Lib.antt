@@ -1,0 +1,4 @@
+pub mod ListLemmas
+pub mod ChainLemmas
+pub mod ChosenLemmas
+pub mod ZoneLemmas
