@@ -1,4 +1,5 @@
 pub mod ListLemmas
 pub mod ChainLemmas
 pub mod ChosenLemmas
+pub mod JoinedLemmas
 pub mod ZoneLemmas

@@ -2,3 +2,5 @@ pub mod Zone
 pub mod Views
 pub mod Spans
 pub mod Chains
+pub mod Changes
+pub mod Met

@@ -25,6 +25,11 @@ IsNsec3 (Set set) = ⊥
 IsNsec3 (Nsec nsec) = ⊥
 IsNsec3 (Nsec3 nsec3) = Unit {0}
 
+abbrev pub IsDenial : Record → Type 0
+IsDenial (Set set) = ⊥
+IsDenial (Nsec nsec) = Unit {0}
+IsDenial (Nsec3 nsec3) = Unit {0}
+
 -- where an NSEC record's arc starts and ends
 abbrev pub nsec_start : Record → List Label
 nsec_start (Set set) = []
@@ -53,6 +58,11 @@ placed ring.Start = Start
 placed ring.Inside = Inside
 
 -- ---- chains
+
+-- the record is an NSEC or an NSEC3 record, as the chain's are
+abbrev pub IsOfKind : Chain → Record → Type 0
+IsOfKind NsecChain item = IsNsec item
+IsOfKind (Nsec3Chain parameters) item = IsNsec3 item
 
 -- the arcs of two records of the chain don't meet
 abbrev pub apart_in : Chain → Record → Record → Bool

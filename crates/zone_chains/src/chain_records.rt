@@ -1,20 +1,25 @@
 //! The denial records of one chain.
-ghost use Rattle.std.specs.Prelude.{◌≡◌, ◌<◌, length, slice_index_or, Some, IfSome};
+ghost use Rattle.std.specs.Prelude.{◌≡◌, ◌<◌, length, slice_index_or, [], ◌∷◌, Some, IfSome, IfOk};
 ghost use Rattle.std.specs.Arc.{arc_value};
 ghost use Rattle.std.specs.Option.{option_map};
 ghost use Rattle.std.specs.Str.{bytes_eq};
-ghost use Rattle.cache_meaning.specs.Held.{is_of_chain};
+ghost use Rattle.cache_meaning.specs.Held.{chain_of, is_of_chain, zone_of};
 ghost use Rattle.cache_meaning.specs.Zones.{as_nsec_at, as_nsec3_at};
 ghost use Rattle.cache_meaning.specs.Evidence.{nsec_matches};
 ghost use Rattle.cache_meaning.specs.Lent.{lent_chain, parameters_by, place_by};
 ghost use Rattle.zone_chains.specs.Zone.{IsChosen};
+ghost use Rattle.zone_chains.specs.Views.{IsDenial, IsOfKind, apart_in};
+ghost use Rattle.zone_chains.specs.Spans.{kind_by, records_by};
+ghost use Rattle.zone_chains.specs.Changes.{joined, parted, records_with, records_without};
+ghost use Rattle.zone_chains.specs.Met.{IsMet};
 
-use crate::nsec_span::{NsecSpan, nsec_in};
-use crate::nsec3_span::{Nsec3Span, nsec3_in};
+use crate::nsec_span::{NsecSpan, nsec_in, nsec_met, nsecs_with};
+use crate::nsec3_span::{Nsec3Span, nsec3_in, nsec3_met, nsec3s_with};
 use cache_meaning::{Chain, Place};
 use denial_records::{HASH_OCTETS, Nsec3Rec, NsecRec, Record};
-use dname::{Name, Octets};
+use dname::{Name, Octets, OutOfMemory};
 use range_index::Arcs;
+use std::alloc::Global;
 use std::marker::Model;
 use std::sync::Arc;
 
@@ -148,5 +153,142 @@ impl ChainRecords {
             }
             _ => None,
         }
+    }
+
+    /// A chain with one record, which is of it.
+    pub(crate) fn alone(alloc: Global, item: Arc<Record>) -> Result<ChainRecords, OutOfMemory>
+        requires { IsDenial (arc_value item) }
+        ensures chain { IfOk result (λ made. chain_of (arc_value item) ≡ Some made.chain) }
+        ensures records { IfOk result (λ made. made.records ≡ arc_value item ∷ []) }
+    {
+        let zone = zone_of(&item).copy();
+        let spans = spans_of(alloc, item)?;
+        Ok(ChainRecords { zone, spans })
+    }
+
+    /// With a record of the chain, in the place of those that it displaces.
+    pub(crate) fn with(&self, alloc: Global, item: Arc<Record>) -> Result<ChainRecords, OutOfMemory>
+        requires { chain_of (arc_value item) ≡ Some self.now.chain }
+        ensures { IfOk result (λ made. made ≡ joined (arc_value item) self.now) }
+    {
+        let spans = spans_with(alloc, &self.spans, item)?;
+        Ok(ChainRecords {
+            zone: self.zone.copy(),
+            spans,
+        })
+    }
+
+    /// Without a record of the chain.
+    pub(crate) fn without(&self, alloc: Global, item: &Record) -> Result<ChainRecords, OutOfMemory>
+        requires { chain_of item.now ≡ Some self.now.chain }
+        ensures { IfOk result (λ made. made ≡ parted item.now self.now) }
+    {
+        let spans = spans_without(alloc, &self.spans, item)?;
+        Ok(ChainRecords {
+            zone: self.zone.copy(),
+            spans,
+        })
+    }
+
+    /// A record that a new one of the chain displaces.
+    pub(crate) fn displaced_by(
+        &self,
+        new: &Arc<Record>,
+    ) -> Result<Option<&Arc<Record>>, OutOfMemory>
+        requires { chain_of (arc_value new.now) ≡ Some self.now.chain }
+        ensures { IfOk result (λ met. IsMet (apart_in self.now.chain.chain (arc_value new.now))
+            self.now.records (option_map (λ old. arc_value old.now) met)) }
+    {
+        match &self.spans {
+            ChainSpans::Nsec(arcs) => nsec_met(arcs, new),
+            ChainSpans::Nsec3 { arcs, .. } => nsec3_met(arcs, new),
+        }
+    }
+}
+
+// The apex of the zone that the record is of.
+fn zone_of(item: &Record) -> &Name
+    ensures { result.now ≡ zone_of item.now }
+{
+    match item {
+        Record::Set(set) => &set.zone,
+        Record::Nsec(nsec) => &nsec.zone,
+        Record::Nsec3(nsec3) => &nsec3.zone,
+    }
+}
+
+// The record alone.
+fn spans_of(alloc: Global, item: Arc<Record>) -> Result<ChainSpans, OutOfMemory>
+    requires { IsDenial (arc_value item) }
+    ensures kind { IfOk result (λ made. chain_of (arc_value item)
+        ≡ Some (record { zone = zone_of (arc_value item); chain = kind_by made })) }
+    ensures records { IfOk result (λ made. records_by made ≡ arc_value item ∷ []) }
+{
+    let record: &Record = &item;
+    match record {
+        Record::Nsec3(nsec3) => {
+            let salt = nsec3.salt.copy(alloc)?;
+            let iterations = nsec3.iterations;
+            Ok(ChainSpans::Nsec3 {
+                salt,
+                iterations,
+                arcs: nsec3s_with(alloc, &Arcs::empty(alloc), item)?,
+            })
+        }
+        _ => Ok(ChainSpans::Nsec(nsecs_with(alloc, &Arcs::empty(alloc), item)?)),
+    }
+}
+
+fn spans_with(
+    alloc: Global,
+    spans: &ChainSpans,
+    item: Arc<Record>,
+) -> Result<ChainSpans, OutOfMemory>
+    requires { IsOfKind (kind_by spans.now) (arc_value item) }
+    ensures kind { IfOk result (λ made. kind_by made ≡ kind_by spans.now) }
+    ensures records { IfOk result (λ made. records_by made
+        ≡ records_with (kind_by spans.now) (arc_value item) (records_by spans.now)) }
+{
+    match spans {
+        ChainSpans::Nsec(arcs) => Ok(ChainSpans::Nsec(nsecs_with(alloc, arcs, item)?)),
+        ChainSpans::Nsec3 {
+            salt,
+            iterations,
+            arcs,
+        } => Ok(ChainSpans::Nsec3 {
+            salt: salt.copy(alloc)?,
+            iterations: *iterations,
+            arcs: nsec3s_with(alloc, arcs, item)?,
+        }),
+    }
+}
+
+fn spans_without(
+    alloc: Global,
+    spans: &ChainSpans,
+    item: &Record,
+) -> Result<ChainSpans, OutOfMemory>
+    requires { IsOfKind (kind_by spans.now) item.now }
+    ensures kind { IfOk result (λ made. kind_by made ≡ kind_by spans.now) }
+    ensures records { IfOk result (λ made. records_by made
+        ≡ records_without (kind_by spans.now) item.now (records_by spans.now)) }
+{
+    match (spans, item) {
+        (ChainSpans::Nsec(arcs), Record::Nsec(nsec)) => {
+            Ok(ChainSpans::Nsec(arcs.without(alloc, &nsec.owner)?))
+        }
+        (
+            ChainSpans::Nsec3 {
+                salt,
+                iterations,
+                arcs,
+            },
+            Record::Nsec3(nsec3),
+        ) => Ok(ChainSpans::Nsec3 {
+            salt: salt.copy(alloc)?,
+            iterations: *iterations,
+            arcs: arcs.without(alloc, &nsec3.hash)?,
+        }),
+        _ => unreachable!(),
     }
 }

@@ -5,6 +5,7 @@
 #![tactic(auto)]
 
 mod chain_records;
+mod met;
 mod nsec3_span;
 mod nsec_span;
 mod placed;

@@ -1,17 +1,22 @@
 //! An NSEC3 record as a span of hashes.
-ghost use Rattle.std.specs.Prelude.{◌≡◌, [], ◌∷◌, filter, MatchOption, IfSome};
+ghost use Rattle.std.specs.Prelude.{◌≡◌, [], ◌∷◌, filter, MatchOption, IfSome, IfOk};
 ghost use Rattle.std.specs.Arc.{arc_value};
+ghost use Rattle.std.specs.Option.{option_map};
+ghost use Rattle.zone_chains.specs.Met.{IsMet};
 ghost use Rattle.zone_chains.specs.Views.{IsNsec3, nsec3_start, nsec3_end};
 ghost use Rattle.cache_meaning.specs.Lent.{place_by};
-ghost use Rattle.range_index.specs.Arcs.{span_has};
+ghost use Rattle.range_index.specs.Arcs.{span_has, is_apart, arcs_with};
 ghost use Rattle.std.specs.Ordering.{nat_cmp};
 ghost use Rattle.std.specs.Cmp.Lexicographic.{slice_cmp};
 ghost use Rattle.std.specs.Str.{bytes_eq};
 
+use crate::met::one_met;
 use crate::placed::placed;
 use cache_meaning::Place;
 use denial_records::{HASH_OCTETS, Nsec3Rec, Record};
+use dname::OutOfMemory;
 use range_index::{Arcs, RingSpan};
+use std::alloc::Global;
 use std::marker::Model;
 use std::sync::Arc;
 
@@ -91,5 +96,37 @@ pub(crate) fn nsec3_in<'a>(
     match arcs.at(hash) {
         Some((span, place)) => Some((span.nsec3(), placed(place))),
         None => None,
+    }
+}
+
+/// The records of the spans with one more, in the place of those that it meets.
+pub(crate) fn nsec3s_with(
+    alloc: Global,
+    arcs: &Arcs<Nsec3Span>,
+    item: Arc<Record>,
+) -> Result<Arcs<Nsec3Span>, OutOfMemory>
+    requires { IsNsec3 (arc_value item) }
+    ensures { IfOk result (λ made.
+        made ≡ arcs_with (slice_cmp nat_cmp) nsec3_start nsec3_end (arc_value item) arcs.now) }
+{
+    arcs.with(alloc, Arc::new(alloc, Nsec3Span::of(item))?)
+}
+
+/// A record of the spans that the new one meets.
+pub(crate) fn nsec3_met<'a>(
+    arcs: &'a Arcs<Nsec3Span>,
+    new: &Arc<Record>,
+) -> Result<Option<&'a Arc<Record>>, OutOfMemory>
+    requires { IsNsec3 (arc_value new.now) }
+    ensures { IfOk result (λ met. IsMet (is_apart (slice_cmp nat_cmp) nsec3_start nsec3_end (arc_value new.now))
+        arcs.now (option_map (λ old. arc_value old.now) met)) }
+{
+    let span = Nsec3Span::of(Arc::try_clone(new)?);
+    match one_met(arcs, &span) {
+        Some(old) => {
+            let old: &Nsec3Span = old;
+            Ok(Some(old.record()))
+        }
+        None => Ok(None),
     }
 }
