@@ -1,10 +1,9 @@
 -- Records of one chain, and of two.
-use Rattle.std.proofs.Common.{◌≡◌, ℕ, Bool, true, false, not, true≢false, ◌&&◌, ◌⊎◌, inl, inr, List, [], ◌∷◌, ◌++◌, get_or, Contains, All, AllPairs, Option, Some, None, refl, sym, ◌∙◌, ap, subst, arith}
+use Rattle.std.proofs.Common.{◌≡◌, Bool, true, false, not, true≢false, ◌&&◌, List, get_or, AllPairs, Some, None, refl, sym, ◌∙◌, ap, subst, arith}
 use Rattle.std.specs.Bool.{Decides}
 use Rattle.std.specs.Ordering.{nat_cmp}
 use Rattle.std.specs.Cmp.Lexicographic.{slice_cmp, pointwise_decides, bytes_decides}
 use Rattle.std.proofs.lemmas.Bool.Decides.{Decides-eqb, same_from_decides}
-use Rattle.std.proofs.lemmas.List.Elements.{All-get_or, All-contains}
 use Rattle.dname.specs.Name.{Label, canonical_cmp}
 use Rattle.dname.specs.Arc.{arcs_meet}
 use Rattle.dname.specs.Tests.{same_name}
@@ -13,9 +12,8 @@ use Rattle.denial_records.specs.declared.nsec3_rec.Nsec3Rec.{Nsec3Rec}
 use Rattle.denial_records.specs.declared.record.Record.{Record}
 use Rattle.denial_records.specs.declared.record.Record.TheVariants.{Set, Nsec, Nsec3}
 use Rattle.cache_meaning.specs.Held.{ZoneChain, Chain, NsecChain, Nsec3Chain, HashParameters, parameters_of, same_parameters, same_chain, same_zone_chain, chain_of, is_of_chain, displaces}
-use Rattle.zone_chains.specs.Zone.{OneChain, IsOfItsChain}
-use Rattle.zone_chains.specs.Views.{IsNsec, IsNsec3, apart_in, AreArcs, IsChain}
-use Rattle.zone_chains.proofs.ListLemmas.{AllPairs-append}
+use Rattle.zone_chains.specs.Zone.{OneChain}
+use Rattle.zone_chains.specs.Views.{apart_in, AreArcs, IsChain}
 
 -- ---- chains that are the same are equal
 

@@ -1,5 +1,5 @@
 -- The record that an arc chooses among those of a chain.
-use Rattle.std.proofs.Common.{◌≡◌, ℕ, Bool, true, false, true≢false, ◌&&◌, ◌⊎◌, inl, inr, List, [], ◌∷◌, ◌++◌, cond, filter, Contains, All, MatchOption, Option, Some, None, refl, sym, ◌∙◌, ap, subst, arith}
+use Rattle.std.proofs.Common.{◌≡◌, ℕ, Bool, true, false, true≢false, ◌⊎◌, inl, inr, List, [], ◌∷◌, ◌++◌, cond, filter, Contains, All, MatchOption, Option, Some, None, refl, sym, ◌∙◌, ap, subst}
 use Rattle.std.specs.Option.{option_map}
 use Rattle.std.specs.Ordering.{nat_cmp}
 use Rattle.std.specs.declared.cmp.Ordering.{Ordering}
@@ -17,8 +17,8 @@ use Rattle.dname.specs.Tests.{same_name}
 use Rattle.denial_records.specs.declared.nsec_rec.NsecRec.{NsecRec}
 use Rattle.denial_records.specs.declared.nsec3_rec.Nsec3Rec.{Nsec3Rec}
 use Rattle.denial_records.specs.declared.record.Record.{Record}
-use Rattle.denial_records.specs.declared.record.Record.TheVariants.{Set, Nsec, Nsec3}
-use Rattle.cache_meaning.specs.Held.{ZoneChain, NsecChain, Nsec3Chain, HashParameters, parameters_of, same_parameters, chain_of}
+use Rattle.denial_records.specs.declared.record.Record.TheVariants.{Nsec, Nsec3}
+use Rattle.cache_meaning.specs.Held.{NsecChain, Nsec3Chain, HashParameters, parameters_of, same_parameters, chain_of}
 use Rattle.cache_meaning.specs.Zones.{as_nsec_at, as_nsec3_at}
 use Rattle.cache_meaning.specs.Evidence.{nsec_matches}
 use Rattle.cache_meaning.specs.Lent.{place_by}
@@ -27,8 +27,8 @@ use Rattle.range_index.specs.declared.place.Place.{Place as RingPlace}
 use Rattle.range_index.specs.Place.{place_of}
 use Rattle.range_index.specs.Arcs.{span_has}
 use Rattle.range_index.proofs.MemberLemmas.{stays, stayed}
-use Rattle.zone_chains.specs.Zone.{OneChain, IsOfItsChain, IsChosen}
-use Rattle.zone_chains.specs.Views.{nsec_start, nsec_end, nsec3_start, nsec3_end, placed, IsChainOf, AreChains}
+use Rattle.zone_chains.specs.Zone.{OneChain, IsChosen}
+use Rattle.zone_chains.specs.Views.{nsec_start, nsec_end, nsec3_start, nsec3_end, placed, AreChains}
 use Rattle.zone_chains.proofs.ListLemmas.{here, nothing_in}
 use Rattle.zone_chains.proofs.ChainLemmas.{name_itself, parameters_itself, nsec_kind, nsec3_kind}
 

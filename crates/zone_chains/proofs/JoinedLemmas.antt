@@ -1,5 +1,5 @@
 -- What a chain is after a record comes or goes.
-use Rattle.std.proofs.Common.{◌≡◌, ◌≢◌, ◌↔◌, zero, suc, ℕ, ◌<◌, Bool, true, false, not, true≢false, ◌⊎◌, inl, inr, List, [], ◌∷◌, length, get_or, filter, Contains, All, AllPairs, Some, refl, sym, ◌∙◌, ap, subst, arith}
+use Rattle.std.proofs.Common.{◌≡◌, ◌≢◌, ◌↔◌, Bool, true, false, not, true≢false, ◌⊎◌, inl, inr, List, [], ◌∷◌, get_or, filter, Contains, All, AllPairs, Some, refl, sym, ◌∙◌, ap, subst, arith}
 use Rattle.std.specs.Ordering.{nat_cmp, is_lt, is_eq}
 use Rattle.std.specs.declared.cmp.Ordering.{Ordering}
 use Rattle.std.specs.declared.cmp.Ordering.TheVariants.{Less, Equal, Greater}
@@ -11,7 +11,7 @@ use Rattle.dname.specs.Name.{Label, canonical_cmp}
 use Rattle.dname.specs.Order.{canonical_total}
 use Rattle.denial_records.specs.declared.record.Record.{Record}
 use Rattle.cache_meaning.specs.Held.{ZoneChain, Chain, NsecChain, Nsec3Chain, chain_of, displaces}
-use Rattle.range_index.specs.Arcs.{starts_before, starts_elsewhere, IsArcs}
+use Rattle.range_index.specs.Arcs.{starts_before, starts_elsewhere}
 use Rattle.range_index.proofs.MemberLemmas.{stays, stayed, members_with}
 use Rattle.range_index.proofs.WithLemmas.{IsArcs-with, IsArcs-filter}
 use Rattle.zone_chains.specs.Zone.{OneChain}

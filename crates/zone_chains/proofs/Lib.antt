@@ -2,4 +2,5 @@ pub mod ListLemmas
 pub mod ChainLemmas
 pub mod ChosenLemmas
 pub mod JoinedLemmas
+pub mod ComeLemmas
 pub mod ZoneLemmas

@@ -1,6 +1,6 @@
 -- What holds of a zone's chains.
-use Rattle.std.proofs.Common.{◌≡◌, ℕ, ◌≤◌, Bool, true, false, not, ◌||◌, length, List, [], ◌∷◌, ◌++◌, map, Contains, All, AllPairs, Some, refl, sym, ◌∙◌, ap, subst, arith}
-use Rattle.std.specs.List.{flat_map, list_any}
+use Rattle.std.proofs.Common.{◌≡◌, Bool, true, false, not, ◌||◌, List, [], ◌∷◌, ◌++◌, Contains, AllPairs, Some, refl, sym, ◌∙◌, ap, subst, arith}
+use Rattle.std.specs.List.{list_any}
 use Rattle.std.proofs.lemmas.List.{append-nil}
 use Rattle.std.proofs.lemmas.List.Elements.{All-nil, All-cons, All-contains}
 use Rattle.std.proofs.lemmas.List.Kept.{AllPairs-cons}
@@ -9,8 +9,8 @@ use Rattle.denial_records.specs.declared.record.Record.{Record}
 use Rattle.denial_records.specs.declared.set_rec.SetRec.{SetRec}
 use Rattle.denial_records.specs.declared.record.Record.TheVariants.{Set, Nsec, Nsec3}
 use Rattle.cache_meaning.specs.Held.{ZoneChain, same_zone_chain, chain_of, is_of_chain, displaces}
-use Rattle.zone_chains.specs.Zone.{OneChain, OneZone, chains_in, records_in, IsOfItsChain, IsOneZone, is_new_to}
-use Rattle.zone_chains.specs.Views.{IsChain, IsChainOf, AreChains}
+use Rattle.zone_chains.specs.Zone.{OneChain, OneZone, IsOfItsChain, IsOneZone, is_new_to}
+use Rattle.zone_chains.specs.Views.{IsChain, AreChains}
 use Rattle.zone_chains.proofs.ListLemmas.{AllPairs-nil, AllPairs-one, AllPairs-append}
 use Rattle.zone_chains.proofs.ChainLemmas.{other_way, of_two_chains, none_displaces}
 
@@ -66,6 +66,10 @@ is_one_zone zone are = one_zone zone.apex zone.chains are
 any_other_way : (new : ZoneChain) (chains : List ZoneChain) → list_any (λ chain. same_zone_chain chain new) chains ≡ list_any (same_zone_chain new) chains
 any_other_way new [] = refl
 any_other_way new (chain ∷ chains) = λ i. other_way chain new i || any_other_way new chains i
+
+pub is_not : (a b : Bool) → a ≡ not b → b ≡ not a
+is_not a true is = sym (ap not is)
+is_not a false is = sym (ap not is)
 
 pub new_is : (chains : List ZoneChain) (item : Record) (listed : Bool) → listed ≡ list_any (λ chain. is_of_chain chain item) chains → ((set : SetRec) → item ≡ Set set → ⊥) → not listed ≡ is_new_to chains (chain_of item)
 new_is chains (Set set) listed is none = absurd (none set refl)

@@ -3,8 +3,8 @@ use Rattle.std.specs.Prelude.{List, [], ◌∷◌}
 use Rattle.std.specs.Arc.{arc_value}
 use Rattle.dname.specs.Name.{Label}
 use Rattle.zone_chains.specs.Zone.{OneChain, OneZone}
-use Rattle.zone_chains.specs.declared.zone_records.ZoneChains.{ZoneChains}
-use Rattle.zone_chains.specs.declared.zone_records.ZoneChains.TheVariants.{Bare, One, Two}
+use Rattle.zone_chains.specs.declared.zone_chains.ZoneChains.{ZoneChains}
+use Rattle.zone_chains.specs.declared.zone_chains.ZoneChains.TheVariants.{Bare, One, Two}
 
 abbrev pub chains_by : ZoneChains → List OneChain
 chains_by Bare = []

@@ -1,12 +1,12 @@
 -- No public clause cites this module: what a change makes of a zone's chains, as the code makes it.
-use Rattle.std.specs.Prelude.{Bool, if◌then◌else◌, List, [], ◌∷◌, filter}
+use Rattle.std.specs.Prelude.{◌≡◌, ◌⊎◌, if◌then◌else◌, List, [], ◌∷◌, filter, Some}
 use Rattle.std.specs.Ordering.{nat_cmp}
 use Rattle.std.specs.Cmp.Lexicographic.{slice_cmp}
 use Rattle.dname.specs.Name.{canonical_cmp}
 use Rattle.denial_records.specs.declared.record.Record.{Record}
-use Rattle.cache_meaning.specs.Held.{Chain, NsecChain, Nsec3Chain, ZoneChain, is_of_chain}
+use Rattle.cache_meaning.specs.Held.{Chain, NsecChain, Nsec3Chain, ZoneChain, chain_of, is_of_chain}
 use Rattle.range_index.specs.Arcs.{starts_elsewhere, arcs_with}
-use Rattle.zone_chains.specs.Zone.{OneChain, has_records}
+use Rattle.zone_chains.specs.Zone.{OneChain}
 use Rattle.zone_chains.specs.Views.{nsec_start, nsec_end, nsec3_start, nsec3_end}
 
 abbrev pub records_with : Chain → Record → List Record → List Record
@@ -45,3 +45,9 @@ went item (newer ∷ older ∷ rest) =
     if is_of_chain newer.chain item
     then parted item newer ∷ older ∷ rest
     else newer ∷ parted item older ∷ rest
+
+-- the record is of one of the chains
+abbrev pub OneHas : Record → List OneChain → Type 0
+OneHas item [] = ⊥
+OneHas item (only ∷ []) = chain_of item ≡ Some only.chain
+OneHas item (newer ∷ older ∷ rest) = (chain_of item ≡ Some newer.chain) ⊎ (chain_of item ≡ Some older.chain)

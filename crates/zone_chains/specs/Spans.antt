@@ -1,6 +1,5 @@
 -- No public clause cites this module: what the code's values are, in the words of the definitions.
-use Rattle.std.specs.Prelude.{List, [], ◌∷◌}
-use Rattle.std.specs.Arc.{arc_value}
+use Rattle.std.specs.Prelude.{List}
 use Rattle.dname.specs.Name.{Label}
 use Rattle.denial_records.specs.declared.record.Record.{Record}
 use Rattle.cache_meaning.specs.Held.{Chain, NsecChain, Nsec3Chain}

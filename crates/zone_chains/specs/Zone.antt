@@ -1,10 +1,10 @@
 -- The denial records of one zone that are held, chain by chain.
-use Rattle.std.specs.Prelude.{◌≡◌, ◌≤◌, length, nat_lt, Bool, false, not, if◌then◌else◌, List, [], ◌∷◌, take, map, Option, Some, None}
+use Rattle.std.specs.Prelude.{◌≡◌, ◌≤◌, length, nat_lt, Bool, false, not, if◌then◌else◌, List, ◌∷◌, take, map, Option, Some, None}
 use Rattle.std.specs.List.{All, AllPairs, Contains, flat_map, list_any}
 use Rattle.dname.specs.Name.{Label}
 use Rattle.denial_records.specs.declared.record.Record.{Record}
 use Rattle.denial_records.specs.declared.record.Record.TheVariants.{Set, Nsec, Nsec3}
-use Rattle.cache_meaning.specs.Held.{Chain, ZoneChain, same_zone_chain, chain_of, is_of_chain, displaces, third_of}
+use Rattle.cache_meaning.specs.Held.{ZoneChain, same_zone_chain, chain_of, is_of_chain, displaces, third_of}
 
 -- a chain of a zone, and its records that are held
 pub record OneChain : Type 0 where

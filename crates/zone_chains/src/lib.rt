@@ -5,10 +5,12 @@
 #![tactic(auto)]
 
 mod chain_records;
+mod changes;
 mod met;
 mod nsec3_span;
 mod nsec_span;
 mod placed;
+mod zone_chains;
 mod zone_records;
 
 pub use chain_records::ChainRecords;

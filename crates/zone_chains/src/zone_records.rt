@@ -1,5 +1,5 @@
 //! The denial records of one zone.
-ghost use Rattle.std.specs.Prelude.{◌≡◌, ◌≢◌, ◌↔◌, ◌⊎◌, ◌≤◌, [], ◌∷◌, length, map, filter, not, false, true, None, Some, slice_get, MatchOption, IfSome, IfOk, IsTrue};
+ghost use Rattle.std.specs.Prelude.{◌≡◌, ◌≢◌, ◌↔◌, ◌⊎◌, ◌≤◌, [], ◌∷◌, length, map, filter, not, false, true, None, Some, slice_get, MatchOption, IfSome, IfOk, IsTrue, is_some};
 ghost use Rattle.std.specs.Arc.{arc_value};
 ghost use Rattle.std.specs.List.{Contains, list_any};
 ghost use Rattle.std.specs.Option.{option_map};
@@ -10,12 +10,15 @@ ghost use Rattle.cache_meaning.specs.Zones.{as_nsec_at, as_nsec3_at, IsInArc};
 ghost use Rattle.cache_meaning.specs.Evidence.{nsec_matches};
 ghost use Rattle.cache_meaning.specs.Lent.{lent_chain, parameters_by, place_by};
 ghost use Rattle.zone_chains.specs.Zone.{chains_in, records_in, IsOneZone, IsChosen, IsDenialOf, is_new_to, chains_with, third_for, is_of, has_records};
+ghost use Rattle.zone_chains.specs.Views.{AreChains};
 
 use crate::chain_records::ChainRecords;
+use crate::changes::{chains_held, chains_with, chains_without};
+use crate::zone_chains::ZoneChains;
 use cache_meaning::{Chain, Place};
 use denial_records::{HASH_OCTETS, Nsec3Rec, NsecRec, Record};
 use dname::{Name, OutOfMemory};
-use std::alloc::{AllocError, Global};
+use std::alloc::Global;
 use std::marker::Model;
 use std::sync::Arc;
 
@@ -25,16 +28,6 @@ use std::sync::Arc;
 pub struct ZoneRecords {
     apex: Name,
     chains: ZoneChains,
-}
-
-#[derive(Drop)]
-pub(crate) enum ZoneChains {
-    Bare,
-    One(Arc<ChainRecords>),
-    Two {
-        newer: Arc<ChainRecords>,
-        older: Arc<ChainRecords>,
-    },
 }
 
 impl Model for ZoneRecords {
@@ -145,7 +138,10 @@ impl ZoneRecords {
             (λ old. Contains (records_in self.now) (arc_value old.now)
             × (displaces (arc_value new.now) (arc_value old.now) ≡ true))) }
     {
-        Err(AllocError)
+        match self.chain_for(new) {
+            Some(chain) => chain.displaced_by(new),
+            None => Ok(None),
+        }
     }
 
     /// Whether the record's chain isn't among the zone's.
@@ -154,18 +150,23 @@ impl ZoneRecords {
     {
         match item {
             Record::Set(_) => false,
-            _ => !self.lists(item),
+            _ => self.chain_for(item).is_none(),
         }
     }
 
-    // Whether the record's chain is among the zone's.
-    fn lists(&self, item: &Record) -> bool
-        ensures { result ≡ list_any (λ chain. is_of_chain chain item.now) (chains_in self.now) }
+    // The chain that the record is of.
+    fn chain_for(&self, item: &Record) -> Option<&ChainRecords>
+        ensures zone { AreChains self.now.apex self.now.chains }
+        ensures listed { is_some result
+            ≡ list_any (λ chain. is_of_chain chain item.now) (chains_in self.now) }
+        ensures held { IfSome result (λ chain. Contains self.now.chains chain.now) }
+        ensures of_it { IfSome result (λ chain. is_of_chain chain.now.chain item.now ≡ true) }
     {
         match &self.chains {
-            ZoneChains::Bare => false,
-            ZoneChains::One(only) => only.is_of(item),
-            ZoneChains::Two { newer, older } => newer.is_of(item) || older.is_of(item),
+            ZoneChains::One(only) if only.is_of(item) => Some(only),
+            ZoneChains::Two { newer, .. } if newer.is_of(item) => Some(newer),
+            ZoneChains::Two { older, .. } if older.is_of(item) => Some(older),
+            _ => None,
         }
     }
 
@@ -193,7 +194,11 @@ impl ZoneRecords {
             ↔ ((each ≡ arc_value item) ⊎ (Contains (records_in self.now) each
             × (is_of (third_for (chains_in self.now) (chain_of (arc_value item))) each ≡ false)))) }
     {
-        Err(AllocError)
+        let chains = chains_with(alloc, &self.chains, item)?;
+        Ok(ZoneRecords {
+            apex: self.apex.copy(),
+            chains,
+        })
     }
 
     /// Without a record that it has. The record's chain stays, also where it was its last.
@@ -204,7 +209,11 @@ impl ZoneRecords {
         ensures records { IfOk result (λ made. (each : Record) → Contains (records_in made) each
             ↔ (Contains (records_in self.now) each × (each ≢ item.now))) }
     {
-        Err(AllocError)
+        let chains = chains_without(alloc, &self.chains, item)?;
+        Ok(ZoneRecords {
+            apex: self.apex.copy(),
+            chains,
+        })
     }
 
     /// Without the chains that have no record. Want of memory where a chain can have no further owner.
@@ -213,6 +222,10 @@ impl ZoneRecords {
         ensures chains { IfOk result (λ made.
             made.chains ≡ filter has_records self.now.chains) }
     {
-        Err(AllocError)
+        let chains = chains_held(&self.chains)?;
+        Ok(ZoneRecords {
+            apex: self.apex.copy(),
+            chains,
+        })
     }
 }

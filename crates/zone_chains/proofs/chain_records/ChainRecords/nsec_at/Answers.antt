@@ -1,7 +1,5 @@
-use Rattle.std.proofs.Common.{◌≡◌, sym, ◌∙◌, subst}
+use Rattle.std.proofs.Common.{subst}
 use Rattle.std.specs.Option.{option_map}
-use Rattle.std.specs.Cmp.Lexicographic.{bytes_decides}
-use Rattle.cache_meaning.specs.Lent.{parameters_by}
 use Rattle.cache_meaning.specs.Zones.{as_nsec_at}
 use Rattle.zone_chains.specs.Zone.{OneChain, IsChosen}
 use Rattle.zone_chains.proofs.ChosenLemmas.{nsec_chosen}

@@ -1,8 +1,7 @@
-use Rattle.std.proofs.Common.{◌≡◌, List, ap, subst}
+use Rattle.std.proofs.Common.{List, ap, subst}
 use Rattle.std.specs.Option.{option_map}
 use Rattle.std.specs.Arc.{arc_value}
 use Rattle.dname.specs.Name.{Label}
-use Rattle.cache_meaning.specs.Lent.{parameters_by}
 use Rattle.cache_meaning.specs.Zones.{as_nsec_at}
 use Rattle.zone_chains.specs.Zone.{OneChain, OneZone, IsChosen, records_in}
 use Rattle.zone_chains.proofs.ChosenLemmas.{chosen_in_older}
