@@ -1,8 +1,8 @@
-use Rattle.std.proofs.Common.{◌≡◌, ℕ, ◌+◌, ◌<◌, ◌≤◌, Bool, true, false, cond, List, [], ◌∷◌, ◌++◌, length, get_or, take, drop, map, refl, sym, ap, ◌∙◌}
+use Rattle.std.proofs.Common.{◌≡◌, Bool, true, false, cond, List, [], ◌∷◌, ◌++◌, map, refl, sym, ap, ◌∙◌}
 use Rattle.std.specs.declared.cmp.Ordering.{Ordering}
 use Rattle.std.specs.List.{filter, All, AllPairs}
-use Rattle.std.proofs.lemmas.List.{append-nil, append_assoc, map-append, drop_more, drop_all, take_all}
-use Rattle.std.proofs.lemmas.List.Elements.{filter_more, All-cons, All-head, All-tail}
+use Rattle.std.proofs.lemmas.List.{append-nil, append_assoc, map-append}
+use Rattle.std.proofs.lemmas.List.Elements.{All-cons, All-head, All-tail}
 use Rattle.std.proofs.lemmas.List.Kept.{AllPairs-cons}
 use Rattle.std.proofs.lemmas.Fn.{says_at}
 use Rattle.std.specs.Fn.{FnReturnsAt}
@@ -11,10 +11,10 @@ use denote.Param.Members.{Shared}
 use Rattle.range_index.proofs.InsertLemmas.{AllPairs-head, AllPairs-tail}
 use Rattle.range_index.specs.Arcs.{starts_before, is_apart, IsArcs}
 
--- the first i have been looked at, and made holds those of them that stay
-pub record HasKept {S K : Type 0} (cmp : K → K → Ordering) (start end : S → K) (IsTest : (S → Bool) → Type 0) (xs made : List S) (i : ℕ) : Type 0 where
-  pub arcs : IsArcs cmp start end (made ++ drop i xs)
-  pub is : (p : S → Bool) → IsTest p → made ≡ filter p (take i xs)
+-- made holds those of the first ones that stay, and the rest is still to be looked at
+pub record HasKept {S K : Type 0} (cmp : K → K → Ordering) (start end : S → K) (IsTest : (S → Bool) → Type 0) (xs made rest : List S) : Type 0 where
+  pub arcs : IsArcs cmp start end (made ++ rest)
+  pub is : (p : S → Bool) → IsTest p → made ++ filter p rest ≡ filter p xs
 
 All-without : {X : Type 0} (P : X → Type 0) (xs : List X) (x : X) (ys : List X) → All P (xs ++ x ∷ ys) → All P (xs ++ ys)
 All-without P [] x ys all = All-tail P x ys all
@@ -26,36 +26,34 @@ AllPairs-without R (z ∷ zs) x ys pairs =
     AllPairs-cons R z (zs ++ ys) (All-without (R z) zs x ys (AllPairs-head R z (zs ++ x ∷ ys) pairs)) (AllPairs-without R zs x ys (AllPairs-tail R z (zs ++ x ∷ ys) pairs))
 
 module _ {S K : Type 0} (cmp : K → K → Ordering) (start end : S → K) (IsTest : (S → Bool) → Type 0) (xs : List S) where
-  pub HasKept-none : IsArcs cmp start end xs → HasKept cmp start end IsTest xs [] 0
-  HasKept-none arcs = record { arcs = arcs; is = λ p test. refl }
+  pub HasKept-none : (rest : List S) → IsArcs cmp start end xs → rest ≡ xs → HasKept cmp start end IsTest xs [] rest
+  HasKept-none rest arcs e = rw e record { arcs = arcs; is = λ p test. refl }
 
-  pub HasKept-stays : (made made' : List S) (i : ℕ) (x : S) → HasKept cmp start end IsTest xs made i → i < length xs → x ≡ get_or xs i x → ((p : S → Bool) → IsTest p → p x ≡ true) → made' ≡ made ++ x ∷ [] → HasKept cmp start end IsTest xs made' (i + 1)
-  HasKept-stays made made' i x was lt e passes new =
-      let more : drop i xs ≡ x ∷ drop (i + 1) xs = drop_more xs i x lt ∙ ap (λ z. z ∷ drop (i + 1) xs) (sym e) in
-      let same : made ++ drop i xs ≡ made' ++ drop (i + 1) xs =
-      ap (λ z. made ++ z) more ∙ sym (ap (λ z. z ++ drop (i + 1) xs) new ∙ append_assoc made (x ∷ []) (drop (i + 1) xs)) in
-      record {
-        arcs = rw (← same) was.arcs;
-        is = λ p test. new ∙ ap (λ z. z ++ x ∷ []) (was.is p test) ∙ sym (filter_more p xs i x lt ∙ ap (λ z. filter p (take i xs) ++ cond (p z) (z ∷ []) []) (sym e) ∙ ap (λ b. filter p (take i xs) ++ cond b (x ∷ []) []) (passes p test));
+  -- what the iterator gives is the front of the rest
+  pub HasKept-next : (made before : List S) (x y : S) (rest : List S) → HasKept cmp start end IsTest xs made before → before ≡ y ∷ rest → x ≡ y → HasKept cmp start end IsTest xs made (x ∷ rest)
+  HasKept-next made before x y rest was gives e = rw (gives ∙ ap (λ z. z ∷ rest) (sym e)) at was
+
+  pub HasKept-stays : (made made' : List S) (x : S) (rest : List S) → HasKept cmp start end IsTest xs made (x ∷ rest) → ((p : S → Bool) → IsTest p → p x ≡ true) → made' ≡ made ++ x ∷ [] → HasKept cmp start end IsTest xs made' rest
+  HasKept-stays made made' x rest was passes new =
+      rw new record {
+        arcs = rw (append_assoc made (x ∷ []) rest) was.arcs;
+        is = λ p test. append_assoc made (x ∷ []) (filter p rest) ∙ ap (λ b. made ++ cond b (x ∷ filter p rest) (filter p rest)) (sym (passes p test)) ∙ was.is p test;
       }
 
-  pub HasKept-goes : (made : List S) (i : ℕ) (x : S) → HasKept cmp start end IsTest xs made i → i < length xs → x ≡ get_or xs i x → ((p : S → Bool) → IsTest p → p x ≡ false) → HasKept cmp start end IsTest xs made (i + 1)
-  HasKept-goes made i x was lt e fails =
-      let more : drop i xs ≡ x ∷ drop (i + 1) xs = drop_more xs i x lt ∙ ap (λ z. z ∷ drop (i + 1) xs) (sym e) in
-      let before : IsArcs cmp start end (made ++ x ∷ drop (i + 1) xs) = rw (← more) was.arcs in
-      record {
-        arcs = record {
-          in_order = AllPairs-without (λ a b. starts_before cmp start b a ≡ true) made x (drop (i + 1) xs) before.in_order;
-          apart = AllPairs-without (λ a b. is_apart cmp start end a b ≡ true) made x (drop (i + 1) xs) before.apart;
-        };
-        is = λ p test. was.is p test ∙ sym (filter_more p xs i x lt ∙ ap (λ z. filter p (take i xs) ++ cond (p z) (z ∷ []) []) (sym e) ∙ ap (λ b. filter p (take i xs) ++ cond b (x ∷ []) []) (fails p test) ∙ append-nil (filter p (take i xs)));
-      }
+  pub HasKept-goes : (made : List S) (x : S) (rest : List S) → HasKept cmp start end IsTest xs made (x ∷ rest) → ((p : S → Bool) → IsTest p → p x ≡ false) → HasKept cmp start end IsTest xs made rest
+  HasKept-goes made x rest was fails = record {
+    arcs = record {
+      in_order = AllPairs-without (λ a b. starts_before cmp start b a ≡ true) made x rest was.arcs.in_order;
+      apart = AllPairs-without (λ a b. is_apart cmp start end a b ≡ true) made x rest was.arcs.apart;
+    };
+    is = λ p test. ap (λ b. made ++ cond b (x ∷ filter p rest) (filter p rest)) (sym (fails p test)) ∙ was.is p test;
+  }
 
-  pub HasKept-arcs : (made : List S) (i : ℕ) → HasKept cmp start end IsTest xs made i → length xs ≤ i → IsArcs cmp start end made
-  HasKept-arcs made i was le = rw (ap (λ z. made ++ z) (drop_all i xs le) ∙ append-nil made) at was.arcs
+  pub HasKept-arcs : (made rest : List S) → HasKept cmp start end IsTest xs made rest → rest ≡ [] → IsArcs cmp start end made
+  HasKept-arcs made rest was none = rw (ap (λ z. made ++ z) none ∙ append-nil made) at was.arcs
 
-  pub HasKept-all : (made : List S) (i : ℕ) → HasKept cmp start end IsTest xs made i → length xs ≤ i → (p : S → Bool) → IsTest p → made ≡ filter p xs
-  HasKept-all made i was le p test = was.is p test ∙ ap (filter p) (take_all i xs le)
+  pub HasKept-all : (made rest : List S) → HasKept cmp start end IsTest xs made rest → rest ≡ [] → (p : S → Bool) → IsTest p → made ≡ filter p xs
+  HasKept-all made rest was none p test = sym (append-nil made) ∙ ap (λ z. made ++ filter p z) (sym none) ∙ was.is p test
 
 -- what a call tells of any test that the calls compute
 pub answered : {X F : Type 0} (g : Shared F (Bor X × Unit {0}) Bool) (f : F) (y : Bor X) (r b : Bool) → g.post f (y, tt) r → r ≡ b → (p : X → Bool) → ((x : X) (s : Bool) → FnReturnsAt g f x s → s ≡ p x) → p y.now ≡ b

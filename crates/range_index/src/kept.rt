@@ -23,8 +23,7 @@ pub(crate) fn kept_shares<R: RingSpan, F: Fn(&R) -> bool>(
         → map arc_value made.items ≡ filter p list.now) }
 {
     let mut made = Vec::new(alloc);
-    for i in 0..list.len() {
-        let share = list.get(i);
+    for share in list.iter() {
         if keep(share) {
             made.push(Arc::try_clone(share)?)?;
         }

@@ -1,8 +1,8 @@
 -- What a zone's chains are after a record comes or goes.
-use Rattle.std.proofs.Common.{◌≡◌, ◌≢◌, ◌↔◌, Bool, true, false, not, ◌||◌, true≢false, ◌⊎◌, inl, inr, ⊎_elim, List, [], ◌∷◌, cond, map, Contains, MatchOption, Option, Some, None, Result, Ok, Err, IfOk, refl, sym, ◌∙◌, ap, subst}
+use Rattle.std.proofs.Common.{◌++◌, length, ◌+◌, arith, ◌≡◌, ◌≢◌, ◌↔◌, Bool, true, false, not, ◌||◌, true≢false, ◌⊎◌, inl, inr, ⊎_elim, List, [], ◌∷◌, cond, map, Contains, MatchOption, Option, Some, None, Result, Ok, Err, IfOk, refl, sym, ◌∙◌, ap, subst}
 use Rattle.std.specs.List.{flat_map, list_any}
 use Rattle.std.specs.Option.{option_map}
-use Rattle.std.proofs.lemmas.List.{append-nil}
+use Rattle.std.proofs.lemmas.List.{append-nil, length-append}
 use Rattle.std.proofs.lemmas.List.Elements.{All-contains, Contains-append_left, Contains-append_right, Contains-append_cases}
 use Rattle.dname.specs.Name.{Label}
 use Rattle.denial_records.specs.declared.record.Record.{Record}
@@ -16,7 +16,7 @@ use Rattle.zone_chains.specs.Chains.{chains_by, zone_by}
 use Rattle.zone_chains.specs.declared.zone_chains.ZoneChains.{ZoneChains}
 use Rattle.zone_chains.proofs.ListLemmas.{here, there, here_or_there, nothing_in}
 use Rattle.zone_chains.proofs.ChainLemmas.{some_same, other_way, of_chain, is_of_it, apart_is, of_two_chains}
-use Rattle.zone_chains.proofs.JoinedLemmas.{alone_is, joined_is, joined_has, parted_is, parted_has}
+use Rattle.zone_chains.proofs.JoinedLemmas.{alone_is, joined_is, joined_has, parted_is, parted_has, parted_count}
 
 abbrev listed : List OneChain → List ZoneChain
 listed xs = map (λ each. each.chain) xs
@@ -168,9 +168,16 @@ pub record HasGone (apex : List Label) (item : Record) (xs made : List OneChain)
   pub chains : AreChains apex made
   pub names : listed made ≡ listed xs
   pub members : (r : Record) → Contains (held made) r ↔ (Contains (held xs) r × (r ≢ item))
+  pub count : length (held made) + 1 ≡ length (held xs)
 
 parts : (apex : List Label) (item : Record) (each : OneChain) → IsChainOf apex each → IsChainOf apex (parted item each)
 parts apex item each it = record { here = it.here; chain = parted_is each item it.chain }
+
+one_less_first : (made xs ys : List Record) → length made + 1 ≡ length xs → length (made ++ ys) + 1 ≡ length (xs ++ ys)
+one_less_first made xs ys less = omega (arith, length-append made ys, length-append xs ys)
+
+one_less_later : (xs made ys : List Record) → length made + 1 ≡ length ys → length (xs ++ (made ++ [])) + 1 ≡ length (xs ++ (ys ++ []))
+one_less_later xs made ys less = rw (append-nil made, append-nil ys) (omega (arith, length-append xs made, length-append xs ys))
 
 gone_one : (apex : List Label) (item : Record) (a : OneChain) → IsChainOf apex a → Contains (held (a ∷ [])) item → HasGone apex item (a ∷ []) (parted item a ∷ [])
 gone_one apex item a it has = record {
@@ -179,6 +186,7 @@ gone_one apex item a it has = record {
   members = λ r.
       let are = parted_has a item it.chain (in_one a item has) r in
       ((λ h. let k = are.0 (in_one (parted item a) r h) in (is_in_one a r k.0, k.1)), λ h. is_in_one (parted item a) r (are.1 (in_one a r h.0, h.1)));
+  count = let less = parted_count a item it.chain (in_one a item has) in rw (append-nil a.records, append-nil (parted item a).records) less;
 }
 
 gone_two : (apex : List Label) (item : Record) (a b : OneChain) → AreChains apex (a ∷ b ∷ []) → Contains (held (a ∷ b ∷ [])) item → (t : Bool) → is_of_chain a.chain item ≡ t → HasGone apex item (a ∷ b ∷ []) (cond t (parted item a ∷ b ∷ []) (a ∷ parted item b ∷ []))
@@ -190,6 +198,7 @@ gone_two apex item a b it has true is = record {
         (λ h. ⊎_elim (λ k. (is_in_two a b r (inl (are.0 k).0), (are.0 k).1)) (λ k. (is_in_two a b r (inr k), λ same. not_older r k same)) (in_two (parted item a) b r h)),
         λ h. is_in_two (parted item a) b r (⊎_elim (λ k. inl (are.1 (k, h.1))) (λ k. inr k) (in_two a b r h.0)),
       );
+  count = one_less_first (parted item a).records a.records (held (b ∷ [])) (parted_count a item it.0.chain (⊎_elim (λ h. h) (λ h. absurd (not_older item h refl)) (in_two a b item has)));
 }
   where
     not_older : (r : Record) → Contains b.records r → r ≢ item
@@ -202,6 +211,7 @@ gone_two apex item a b it has false is = record {
         (λ h. ⊎_elim (λ k. (is_in_two a b r (inl k), λ same. not_newer r k same)) (λ k. (is_in_two a b r (inr (are.0 k).0), (are.0 k).1)) (in_two a (parted item b) r h)),
         λ h. is_in_two a (parted item b) r (⊎_elim (λ k. inl k) (λ k. inr (are.1 (k, h.1))) (in_two a b r h.0)),
       );
+  count = one_less_later a.records (parted item b).records b.records (parted_count b item it.1.chain (⊎_elim (λ h. absurd (not_newer item h refl)) (λ h. h) (in_two a b item has)));
 }
   where
     not_newer : (r : Record) → Contains a.records r → r ≢ item
@@ -344,10 +354,11 @@ pub record GoneTo (value : OneZone) (item : Record) (apex : List Label) (made : 
   pub chains : AreChains apex (chains_by made)
   pub names : chains_in (zone_by apex made) ≡ chains_in value
   pub members : (r : Record) → Contains (records_in (zone_by apex made)) r ↔ (Contains (records_in value) r × (r ≢ item))
+  pub count : length (records_in (zone_by apex made)) + 1 ≡ length (records_in value)
 
 abbrev HasGoneBy : List Label → Record → List OneChain → List OneChain → Type 0
 HasGoneBy apex item xs made =
-    AreChains apex made × (listed made ≡ listed xs) × ((r : Record) → Contains (held made) r ↔ (Contains (held xs) r × (r ≢ item)))
+    AreChains apex made × (listed made ≡ listed xs) × ((r : Record) → Contains (held made) r ↔ (Contains (held xs) r × (r ≢ item))) × (length (held made) + 1 ≡ length (held xs))
 
 pub gone_by : (apex apex' : List Label) (old made : ZoneChains) (value : OneZone) (item : Record) → zone_by apex old ≡ value → AreChains apex (chains_by old) → apex' ≡ apex → Contains (records_in value) item → chains_by made ≡ went item (chains_by old) → GoneTo value item apex' made
 gone_by apex apex' old made value item is it same = subst (λ (v : OneZone). Contains (records_in v) item → chains_by made ≡ went item (chains_by old) → GoneTo v item apex' made) is by
@@ -357,5 +368,5 @@ gone_by apex apex' old made value item is it same = subst (λ (v : OneZone). Con
         let gone = has_gone apex item (chains_by old) it has in
         let all : HasGoneBy apex' item (chains_by old) (chains_by made) =
         subst (λ a. HasGoneBy a item (chains_by old) (chains_by made)) (sym same)
-        (subst (HasGoneBy apex item (chains_by old)) (sym makes) (gone.chains, gone.names, gone.members)) in
-        record { chains = all.0; names = all.1; members = all.2 }
+        (subst (HasGoneBy apex item (chains_by old)) (sym makes) (gone.chains, gone.names, gone.members, gone.count)) in
+        record { chains = all.0; names = all.1; members = all.2; count = all.3 }

@@ -1,5 +1,5 @@
 -- What a chain is after a record comes or goes.
-use Rattle.std.proofs.Common.{◌≡◌, ◌≢◌, ◌↔◌, Bool, true, false, not, true≢false, ◌⊎◌, inl, inr, List, [], ◌∷◌, get_or, filter, Contains, All, AllPairs, Some, refl, sym, ◌∙◌, ap, subst, arith}
+use Rattle.std.proofs.Common.{◌≡◌, ◌≢◌, ◌↔◌, Bool, true, false, not, true≢false, ◌⊎◌, inl, inr, ⊎_elim, List, [], ◌∷◌, get_or, filter, Contains, All, AllPairs, Some, refl, sym, ◌∙◌, ap, subst, arith, length, ◌+◌, ℕ, zero, suc}
 use Rattle.std.specs.Ordering.{nat_cmp, is_lt, is_eq}
 use Rattle.std.specs.declared.cmp.Ordering.{Ordering}
 use Rattle.std.specs.declared.cmp.Ordering.TheVariants.{Less, Equal, Greater}
@@ -12,6 +12,7 @@ use Rattle.dname.specs.Order.{canonical_total}
 use Rattle.denial_records.specs.declared.record.Record.{Record}
 use Rattle.cache_meaning.specs.Held.{ZoneChain, Chain, NsecChain, Nsec3Chain, chain_of, displaces}
 use Rattle.range_index.specs.Arcs.{starts_before, starts_elsewhere}
+use Rattle.range_index.proofs.RunLemmas.{filter_all}
 use Rattle.range_index.proofs.MemberLemmas.{stays, stayed, members_with}
 use Rattle.range_index.proofs.WithLemmas.{IsArcs-with, IsArcs-filter}
 use Rattle.zone_chains.specs.Zone.{OneChain}
@@ -119,6 +120,43 @@ module _ {S K : Type 0} (cmp : K → K → Ordering) (total : IsTotalOrder cmp) 
       by : (b : Bool) → is_eq (cmp (start r) (start item)) ≡ b → Contains xs r → (r ≢ item) → not (is_eq (cmp (start r) (start item))) ≡ true
       by true eq h other = absurd (other (one_start xs order r item h has eq))
       by false eq h other = ap not eq
+
+not_level : (r : Ordering) → is_lt r ≡ true → not (is_eq r) ≡ true
+not_level Less lt = refl
+not_level Equal lt = absurd (true≢false (sym lt))
+not_level Greater lt = refl
+
+module _ {S K : Type 0} (cmp : K → K → Ordering) (total : IsTotalOrder cmp) (start : S → K) where
+  either_side : (a b : K) → is_lt (cmp a b) ≡ true → not (is_eq (cmp b a)) ≡ true
+  either_side a b lt = grind (arith, total)
+
+  count_elsewhere : (xs : List S) → AllPairs (λ span other. starts_before cmp start other span ≡ true) xs → (item : S) → Contains xs item → length (filter (starts_elsewhere cmp start (start item)) xs) + 1 ≡ length xs
+  count_elsewhere [] order item has = absurd (nothing_in item has)
+  count_elsewhere (z ∷ xs) order item has =
+      ⊎_elim at (λ h. later h (count_elsewhere xs (AllPairs-tail (λ span other. starts_before cmp start other span ≡ true) z xs order) item h)) (here_or_there z xs item has)
+    where
+      behind : (w : S) → Contains xs w → is_lt (cmp (start z) (start w)) ≡ true
+      behind w h = All-contains (λ other. starts_before cmp start other z ≡ true) xs w (AllPairs-head (λ span other. starts_before cmp start other span ≡ true) z xs order) h
+
+      at : item ≡ z → length (filter (starts_elsewhere cmp start (start item)) (z ∷ xs)) + 1 ≡ length (z ∷ xs)
+      at same =
+          let fails : starts_elsewhere cmp start (start item) z ≡ false = ap (λ w. not (is_eq (cmp (start z) (start w)))) same ∙ ap (λ o. not (is_eq o)) (tied_itself total (start z)) in
+          let all : filter (starts_elsewhere cmp start (start item)) xs ≡ xs =
+          filter_all (starts_elsewhere cmp start (start item)) xs (λ k d within.
+          ap (λ w. not (is_eq (cmp (start (get_or xs k d)) (start w)))) same ∙ either_side (start z) (start (get_or xs k d)) (behind (get_or xs k d) (Contains-get_or xs k d within))) in
+          rw (fails, all) (omega arith)
+
+      later : Contains xs item → length (filter (starts_elsewhere cmp start (start item)) xs) + 1 ≡ length xs → length (filter (starts_elsewhere cmp start (start item)) (z ∷ xs)) + 1 ≡ length (z ∷ xs)
+      later h rest =
+          let passes : starts_elsewhere cmp start (start item) z ≡ true = not_level (cmp (start z) (start item)) (behind item h) in
+          rw passes (omega arith)
+
+pub parted_count : (each : OneChain) (item : Record) → IsChain each → Contains each.records item → length (parted item each).records + 1 ≡ length each.records
+parted_count each item it has = by each.chain.chain it.arcs
+  where
+    by : (kind : Chain) → AreArcs kind each.records → length (records_without kind item each.records) + 1 ≡ length each.records
+    by NsecChain arcs = count_elsewhere canonical_cmp canonical_total nsec_start each.records arcs.in_order item has
+    by (Nsec3Chain parameters) arcs = count_elsewhere (slice_cmp nat_cmp) nat_list_cmp_total nsec3_start each.records arcs.in_order item has
 
 pub parted_has : (each : OneChain) (item : Record) → IsChain each → Contains each.records item → (r : Record) → Contains (parted item each).records r ↔ (Contains each.records r × (r ≢ item))
 parted_has each item it has r = by each.chain.chain it.arcs

@@ -1,5 +1,5 @@
 //! The denial records of one zone.
-ghost use Rattle.std.specs.Prelude.{◌≡◌, ◌≢◌, ◌↔◌, ◌⊎◌, ◌≤◌, [], ◌∷◌, length, map, filter, not, false, true, None, Some, slice_get, MatchOption, IfSome, IfOk, IsTrue, is_some};
+ghost use Rattle.std.specs.Prelude.{◌≡◌, ◌≢◌, ◌↔◌, ◌⊎◌, ◌≤◌, ◌+◌, [], ◌∷◌, length, map, filter, not, false, true, None, Some, slice_get, MatchOption, IfSome, IfOk, IsTrue, is_some};
 ghost use Rattle.std.specs.Arc.{arc_value};
 ghost use Rattle.std.specs.List.{Contains, list_any};
 ghost use Rattle.std.specs.Option.{option_map};
@@ -208,6 +208,8 @@ impl ZoneRecords {
         ensures chains { IfOk result (λ made. chains_in made ≡ chains_in self.now) }
         ensures records { IfOk result (λ made. (each : Record) → Contains (records_in made) each
             ↔ (Contains (records_in self.now) each × (each ≢ item.now))) }
+        ensures count { IfOk result (λ made.
+            length (records_in made) + 1 ≡ length (records_in self.now)) }
     {
         let chains = chains_without(alloc, &self.chains, item)?;
         Ok(ZoneRecords {
@@ -229,3 +231,6 @@ impl ZoneRecords {
         })
     }
 }
+
+#[cfg(test)]
+mod tests;

@@ -12,3 +12,6 @@ returns-clause-chains c = (gone c).names
 
 pub returns-clause-records : goal.returns-clause-records
 returns-clause-records c = (gone c).members
+
+pub returns-clause-count : goal.returns-clause-count
+returns-clause-count c = (gone c).count
