@@ -28,7 +28,7 @@ name_equal x y same = (pointwise_decides bytes_decides x y).0 same
 pub name_itself : (x : List Label) → same_name x x ≡ true
 name_itself x = (pointwise_decides bytes_decides x x).1 refl
 
-parameters_equal : (x y : HashParameters) → same_parameters x y ≡ true → x ≡ y
+pub parameters_equal : (x y : HashParameters) → same_parameters x y ≡ true → x ≡ y
 parameters_equal x y same =
     let parts = both _ _ same in
     λ i. record { salt = (bytes_decides x.salt y.salt).0 parts.0 i; iterations = (Decides-eqb x.iterations y.iterations).0 parts.1 i }

@@ -1,5 +1,5 @@
 -- What a chain is after a record comes or goes.
-use Rattle.std.proofs.Common.{◌≡◌, ◌≢◌, ◌↔◌, Bool, true, false, not, true≢false, ◌⊎◌, inl, inr, ⊎_elim, List, [], ◌∷◌, get_or, filter, Contains, All, AllPairs, Some, refl, sym, ◌∙◌, ap, subst, arith, length, ◌+◌, ℕ, zero, suc}
+use Rattle.std.proofs.Common.{◌≡◌, ◌≢◌, ◌↔◌, Bool, true, false, not, true≢false, ◌⊎◌, inl, inr, ⊎_elim, List, [], ◌∷◌, get_or, filter, Contains, All, AllPairs, Some, refl, sym, ◌∙◌, ap, subst, arith, length, ◌+◌}
 use Rattle.std.specs.Ordering.{nat_cmp, is_lt, is_eq}
 use Rattle.std.specs.declared.cmp.Ordering.{Ordering}
 use Rattle.std.specs.declared.cmp.Ordering.TheVariants.{Less, Equal, Greater}

@@ -3,7 +3,7 @@ ghost use Rattle.std.specs.Prelude.{◌≡◌, ◌<◌, length, slice_index_or, 
 ghost use Rattle.std.specs.Arc.{arc_value};
 ghost use Rattle.std.specs.Option.{option_map};
 ghost use Rattle.std.specs.Str.{bytes_eq};
-ghost use Rattle.cache_meaning.specs.Held.{chain_of, is_of_chain, zone_of};
+ghost use Rattle.cache_meaning.specs.Held.{chain_of, is_of_chain, same_parameters, zone_of};
 ghost use Rattle.cache_meaning.specs.Zones.{as_nsec_at, as_nsec3_at};
 ghost use Rattle.cache_meaning.specs.Evidence.{nsec_matches};
 ghost use Rattle.cache_meaning.specs.Lent.{lent_chain, parameters_by, place_by};
@@ -110,8 +110,9 @@ impl ChainRecords {
                 },
                 Record::Nsec3(nsec3),
             ) => {
+                let its_salt = nsec3.salt.as_slice();
                 self.zone == nsec3.zone
-                    && (salt.as_slice() == nsec3.salt.as_slice() && *iterations == nsec3.iterations)
+                    && are_same(salt.as_slice(), *iterations, its_salt, nsec3.iterations)
             }
             _ => false,
         }
@@ -148,7 +149,7 @@ impl ChainRecords {
                 salt: its_salt,
                 iterations: its_iterations,
                 arcs,
-            } if its_salt.as_slice() == salt && *its_iterations == iterations => {
+            } if are_same(its_salt.as_slice(), *its_iterations, salt, iterations) => {
                 nsec3_in(arcs, hash)
             }
             _ => None,
@@ -204,6 +205,14 @@ impl ChainRecords {
             ChainSpans::Nsec3 { arcs, .. } => nsec3_met(arcs, new),
         }
     }
+}
+
+// Whether the salts and the numbers of iterations are the same.
+fn are_same(salt: &[u8], iterations: u16, other_salt: &[u8], other_iterations: u16) -> bool
+    ensures { result ≡ same_parameters (parameters_by salt.now iterations)
+        (parameters_by other_salt.now other_iterations) }
+{
+    salt == other_salt && iterations == other_iterations
 }
 
 // The apex of the zone that the record is of.
