@@ -1,5 +1,5 @@
 -- What is in a list after an element is put in or some are left out.
-use Rattle.std.proofs.Common.{◌≡◌, zero, suc, ℕ, ◌+◌, ◌⊎◌, inl, inr, ◌↔◌, Bool, true, false, true≢false, List, [], ◌∷◌, length, cond, if◌then◌else◌, refl, sym, ◌∙◌, ap, subst, arith}
+use Rattle.std.proofs.Common.{◌≡◌, zero, suc, ◌+◌, ◌⊎◌, inl, inr, ◌↔◌, Bool, true, false, List, [], ◌∷◌, length, cond, if◌then◌else◌, refl, sym, ◌∙◌, ap, subst, arith}
 use Rattle.std.specs.List.{Contains, filter}
 use Rattle.std.specs.declared.cmp.Ordering.{Ordering}
 use Rattle.range_index.specs.Arcs.{starts_before, is_apart, inserted, arcs_with}

@@ -1,0 +1,303 @@
+//! The denial records of one chain.
+ghost use Rattle.std.specs.Prelude.{◌≡◌, ◌<◌, length, slice_index_or, [], ◌∷◌, Some, IfSome, IfOk};
+ghost use Rattle.std.specs.Arc.{arc_value};
+ghost use Rattle.std.specs.Option.{option_map};
+ghost use Rattle.std.specs.Str.{bytes_eq};
+ghost use Rattle.cache_meaning.specs.Held.{chain_of, is_of_chain, same_parameters, zone_of};
+ghost use Rattle.cache_meaning.specs.Zones.{as_nsec_at, as_nsec3_at};
+ghost use Rattle.cache_meaning.specs.Evidence.{nsec_matches};
+ghost use Rattle.cache_meaning.specs.Lent.{lent_chain, parameters_by, place_by};
+ghost use Rattle.zone_chains.specs.Zone.{IsChosen};
+ghost use Rattle.zone_chains.specs.Views.{IsDenial, IsOfKind, apart_in};
+ghost use Rattle.zone_chains.specs.Spans.{kind_by, records_by};
+ghost use Rattle.zone_chains.specs.Changes.{joined, parted, records_with, records_without};
+ghost use Rattle.zone_chains.specs.Met.{IsMet};
+
+use crate::nsec_span::{NsecSpan, nsec_in, nsec_met, nsecs_with};
+use crate::nsec3_span::{Nsec3Span, nsec3_in, nsec3_met, nsec3s_with};
+use cache_meaning::{Chain, Place};
+use denial_records::{HASH_OCTETS, Nsec3Rec, NsecRec, Record};
+use dname::{Name, Octets, OutOfMemory};
+use range_index::Arcs;
+use std::alloc::Global;
+use std::marker::Model;
+use std::sync::Arc;
+
+/// The denial records of one chain of a zone, seen as the chain and its records. No record displaces another.
+#[derive(Drop)]
+pub struct ChainRecords {
+    zone: Name,
+    spans: ChainSpans,
+}
+
+#[derive(Drop)]
+pub(crate) enum ChainSpans {
+    Nsec(Arcs<NsecSpan>),
+    Nsec3 {
+        salt: Octets,
+        iterations: u16,
+        arcs: Arcs<Nsec3Span>,
+    },
+}
+
+impl Model for ChainRecords {
+    ghost use Rattle.zone_chains.specs.Zone.{OneChain};
+    ghost use Rattle.zone_chains.specs.Views.{IsChain};
+    ghost use Rattle.zone_chains.specs.Spans.{chain_by};
+
+    ghost Value = { OneChain };
+
+    ghost view = { λ c. chain_by c.zone c.spans };
+
+    ghost invariant = { λ c. IsChain (chain_by c.zone c.spans) };
+}
+
+impl ChainRecords {
+    /// How many records there are.
+    pub fn len(&self) -> usize
+        ensures { result ≡ length self.now.records }
+    {
+        match &self.spans {
+            ChainSpans::Nsec(arcs) => arcs.len(),
+            ChainSpans::Nsec3 { arcs, .. } => arcs.len(),
+        }
+    }
+
+    /// The record at a place. They are in order of their owner names, or of their hashes.
+    pub fn get(&self, i: usize) -> &Arc<Record>
+        requires { i < length self.now.records }
+        ensures { arc_value result.now ≡ slice_index_or self.now.records i (arc_value result.now) }
+    {
+        match &self.spans {
+            ChainSpans::Nsec(arcs) => {
+                let span: &NsecSpan = arcs.get(i);
+                span.record()
+            }
+            ChainSpans::Nsec3 { arcs, .. } => {
+                let span: &Nsec3Span = arcs.get(i);
+                span.record()
+            }
+        }
+    }
+
+    pub(crate) fn chain(&self) -> Chain<'_>
+        ensures { lent_chain result ≡ Some self.now.chain.chain }
+    {
+        match &self.spans {
+            ChainSpans::Nsec(_) => Chain::Nsec,
+            ChainSpans::Nsec3 {
+                salt,
+                iterations,
+                ..
+            } => Chain::Nsec3 {
+                salt: salt.as_slice(),
+                iterations: *iterations,
+            },
+        }
+    }
+
+    /// Whether the record is of the chain.
+    pub(crate) fn is_of(&self, item: &Record) -> bool
+        ensures { result ≡ is_of_chain self.now.chain item.now }
+    {
+        match (&self.spans, item) {
+            (ChainSpans::Nsec(_), Record::Nsec(nsec)) => self.zone == nsec.zone,
+            (
+                ChainSpans::Nsec3 {
+                    salt,
+                    iterations,
+                    ..
+                },
+                Record::Nsec3(nsec3),
+            ) => {
+                let its_salt = nsec3.salt.as_slice();
+                self.zone == nsec3.zone
+                    && are_same(salt.as_slice(), *iterations, its_salt, nsec3.iterations)
+            }
+            _ => false,
+        }
+    }
+
+    /// The NSEC record whose arc has the name.
+    pub(crate) fn nsec_at(&self, name: &Name) -> Option<(&NsecRec, Place)>
+        ensures record { IsChosen (as_nsec_at self.now.chain.zone name.now) self.now.records
+            (option_map (λ found. found.0.now) result) }
+        ensures place { IfSome result (λ found.
+            found.1 ≡ place_by (nsec_matches found.0.now name.now)) }
+    {
+        match &self.spans {
+            ChainSpans::Nsec(arcs) => nsec_in(arcs, name),
+            ChainSpans::Nsec3 { .. } => None,
+        }
+    }
+
+    /// The NSEC3 record whose arc has the hash, where the chain is of that salt and number of iterations.
+    pub(crate) fn nsec3_at(
+        &self,
+        salt: &[u8],
+        iterations: u16,
+        hash: &[u8; HASH_OCTETS],
+    ) -> Option<(&Nsec3Rec, Place)>
+        ensures record { IsChosen
+            (as_nsec3_at self.now.chain.zone (parameters_by salt.now iterations) hash.now)
+            self.now.records (option_map (λ found. found.0.now) result) }
+        ensures place { IfSome result (λ found.
+            found.1 ≡ place_by (bytes_eq found.0.now.hash hash.now)) }
+    {
+        match &self.spans {
+            ChainSpans::Nsec3 {
+                salt: its_salt,
+                iterations: its_iterations,
+                arcs,
+            } if are_same(its_salt.as_slice(), *its_iterations, salt, iterations) => {
+                nsec3_in(arcs, hash)
+            }
+            _ => None,
+        }
+    }
+
+    /// A chain with one record, which is of it.
+    pub(crate) fn alone(alloc: Global, item: Arc<Record>) -> Result<ChainRecords, OutOfMemory>
+        requires { IsDenial (arc_value item) }
+        ensures chain { IfOk result (λ made. chain_of (arc_value item) ≡ Some made.chain) }
+        ensures records { IfOk result (λ made. made.records ≡ arc_value item ∷ []) }
+    {
+        let zone = zone_of(&item).copy();
+        let spans = spans_of(alloc, item)?;
+        Ok(ChainRecords { zone, spans })
+    }
+
+    /// With a record of the chain, in the place of those that it displaces.
+    pub(crate) fn with(&self, alloc: Global, item: Arc<Record>) -> Result<ChainRecords, OutOfMemory>
+        requires { chain_of (arc_value item) ≡ Some self.now.chain }
+        ensures { IfOk result (λ made. made ≡ joined (arc_value item) self.now) }
+    {
+        let spans = spans_with(alloc, &self.spans, item)?;
+        Ok(ChainRecords {
+            zone: self.zone.copy(),
+            spans,
+        })
+    }
+
+    /// Without a record of the chain.
+    pub(crate) fn without(&self, alloc: Global, item: &Record) -> Result<ChainRecords, OutOfMemory>
+        requires { chain_of item.now ≡ Some self.now.chain }
+        ensures { IfOk result (λ made. made ≡ parted item.now self.now) }
+    {
+        let spans = spans_without(alloc, &self.spans, item)?;
+        Ok(ChainRecords {
+            zone: self.zone.copy(),
+            spans,
+        })
+    }
+
+    /// A record that a new one of the chain displaces.
+    pub(crate) fn displaced_by(
+        &self,
+        new: &Arc<Record>,
+    ) -> Result<Option<&Arc<Record>>, OutOfMemory>
+        requires { chain_of (arc_value new.now) ≡ Some self.now.chain }
+        ensures { IfOk result (λ met. IsMet (apart_in self.now.chain.chain (arc_value new.now))
+            self.now.records (option_map (λ old. arc_value old.now) met)) }
+    {
+        match &self.spans {
+            ChainSpans::Nsec(arcs) => nsec_met(arcs, new),
+            ChainSpans::Nsec3 { arcs, .. } => nsec3_met(arcs, new),
+        }
+    }
+}
+
+// Whether the salts and the numbers of iterations are the same.
+fn are_same(salt: &[u8], iterations: u16, other_salt: &[u8], other_iterations: u16) -> bool
+    ensures { result ≡ same_parameters (parameters_by salt.now iterations)
+        (parameters_by other_salt.now other_iterations) }
+{
+    salt == other_salt && iterations == other_iterations
+}
+
+// The apex of the zone that the record is of.
+fn zone_of(item: &Record) -> &Name
+    ensures { result.now ≡ zone_of item.now }
+{
+    match item {
+        Record::Set(set) => &set.zone,
+        Record::Nsec(nsec) => &nsec.zone,
+        Record::Nsec3(nsec3) => &nsec3.zone,
+    }
+}
+
+// The record alone.
+fn spans_of(alloc: Global, item: Arc<Record>) -> Result<ChainSpans, OutOfMemory>
+    requires { IsDenial (arc_value item) }
+    ensures kind { IfOk result (λ made. chain_of (arc_value item)
+        ≡ Some (record { zone = zone_of (arc_value item); chain = kind_by made })) }
+    ensures records { IfOk result (λ made. records_by made ≡ arc_value item ∷ []) }
+{
+    let record: &Record = &item;
+    match record {
+        Record::Nsec3(nsec3) => {
+            let salt = nsec3.salt.copy(alloc)?;
+            let iterations = nsec3.iterations;
+            Ok(ChainSpans::Nsec3 {
+                salt,
+                iterations,
+                arcs: nsec3s_with(alloc, &Arcs::empty(alloc), item)?,
+            })
+        }
+        _ => Ok(ChainSpans::Nsec(nsecs_with(alloc, &Arcs::empty(alloc), item)?)),
+    }
+}
+
+fn spans_with(
+    alloc: Global,
+    spans: &ChainSpans,
+    item: Arc<Record>,
+) -> Result<ChainSpans, OutOfMemory>
+    requires { IsOfKind (kind_by spans.now) (arc_value item) }
+    ensures kind { IfOk result (λ made. kind_by made ≡ kind_by spans.now) }
+    ensures records { IfOk result (λ made. records_by made
+        ≡ records_with (kind_by spans.now) (arc_value item) (records_by spans.now)) }
+{
+    match spans {
+        ChainSpans::Nsec(arcs) => Ok(ChainSpans::Nsec(nsecs_with(alloc, arcs, item)?)),
+        ChainSpans::Nsec3 {
+            salt,
+            iterations,
+            arcs,
+        } => Ok(ChainSpans::Nsec3 {
+            salt: salt.copy(alloc)?,
+            iterations: *iterations,
+            arcs: nsec3s_with(alloc, arcs, item)?,
+        }),
+    }
+}
+
+fn spans_without(
+    alloc: Global,
+    spans: &ChainSpans,
+    item: &Record,
+) -> Result<ChainSpans, OutOfMemory>
+    requires { IsOfKind (kind_by spans.now) item.now }
+    ensures kind { IfOk result (λ made. kind_by made ≡ kind_by spans.now) }
+    ensures records { IfOk result (λ made. records_by made
+        ≡ records_without (kind_by spans.now) item.now (records_by spans.now)) }
+{
+    match (spans, item) {
+        (ChainSpans::Nsec(arcs), Record::Nsec(nsec)) => {
+            Ok(ChainSpans::Nsec(arcs.without(alloc, &nsec.owner)?))
+        }
+        (
+            ChainSpans::Nsec3 {
+                salt,
+                iterations,
+                arcs,
+            },
+            Record::Nsec3(nsec3),
+        ) => Ok(ChainSpans::Nsec3 {
+            salt: salt.copy(alloc)?,
+            iterations: *iterations,
+            arcs: arcs.without(alloc, &nsec3.hash)?,
+        }),
+        _ => unreachable!(),
+    }
+}

@@ -1,0 +1,154 @@
+//! What a change makes of the chains of one zone.
+ghost use Rattle.std.specs.Prelude.{◌≡◌, [], ◌∷◌, filter, true, Some, IfOk};
+ghost use Rattle.std.specs.Arc.{arc_value};
+ghost use Rattle.cache_meaning.specs.Held.{ZoneChain, chain_of, is_of_chain};
+ghost use Rattle.zone_chains.specs.Zone.{has_records};
+ghost use Rattle.zone_chains.specs.Views.{IsDenial};
+ghost use Rattle.zone_chains.specs.Chains.{chains_by};
+ghost use Rattle.zone_chains.specs.Changes.{alone, joined, parted, came, went, OneHas};
+
+use crate::ChainRecords;
+use crate::zone_chains::ZoneChains;
+use denial_records::Record;
+use dname::OutOfMemory;
+use std::alloc::Global;
+use std::sync::Arc;
+
+pub(crate) fn chains_with(
+    alloc: Global,
+    chains: &ZoneChains,
+    item: Arc<Record>,
+) -> Result<ZoneChains, OutOfMemory>
+    requires { IsDenial (arc_value item) }
+    ensures { IfOk result (λ made. (chain : ZoneChain) → chain_of (arc_value item) ≡ Some chain
+        → chains_by made ≡ came chain (arc_value item) (chains_by chains.now)) }
+{
+    match chains {
+        ZoneChains::Bare => Ok(ZoneChains::One(alone(alloc, item)?)),
+        ZoneChains::One(only) => {
+            if only.is_of(&item) {
+                Ok(ZoneChains::One(joined(alloc, only, item)?))
+            } else {
+                let older = Arc::try_clone(only)?;
+                let newer = alone(alloc, item)?;
+                Ok(ZoneChains::Two { newer, older })
+            }
+        }
+        ZoneChains::Two { newer, older } => two_with(alloc, newer, older, item),
+    }
+}
+
+fn two_with(
+    alloc: Global,
+    newer: &Arc<ChainRecords>,
+    older: &Arc<ChainRecords>,
+    item: Arc<Record>,
+) -> Result<ZoneChains, OutOfMemory>
+    requires { IsDenial (arc_value item) }
+    ensures { IfOk result (λ made. (chain : ZoneChain) → chain_of (arc_value item) ≡ Some chain
+        → chains_by made ≡ came chain (arc_value item)
+        (arc_value newer.now ∷ arc_value older.now ∷ [])) }
+{
+    if newer.is_of(&item) {
+        let older = Arc::try_clone(older)?;
+        let newer = joined(alloc, newer, item)?;
+        Ok(ZoneChains::Two { newer, older })
+    } else if older.is_of(&item) {
+        let newer = Arc::try_clone(newer)?;
+        let older = joined(alloc, older, item)?;
+        Ok(ZoneChains::Two { newer, older })
+    } else {
+        let older = Arc::try_clone(newer)?;
+        let newer = alone(alloc, item)?;
+        Ok(ZoneChains::Two { newer, older })
+    }
+}
+
+pub(crate) fn chains_without(
+    alloc: Global,
+    chains: &ZoneChains,
+    item: &Record,
+) -> Result<ZoneChains, OutOfMemory>
+    requires { OneHas item.now (chains_by chains.now) }
+    ensures { IfOk result (λ made. chains_by made ≡ went item.now (chains_by chains.now)) }
+{
+    match chains {
+        ZoneChains::Bare => Ok(ZoneChains::Bare),
+        ZoneChains::One(only) => Ok(ZoneChains::One(parted(alloc, only, item)?)),
+        ZoneChains::Two { newer, older } => {
+            if newer.is_of(item) {
+                let older = Arc::try_clone(older)?;
+                let newer = parted(alloc, newer, item)?;
+                Ok(ZoneChains::Two { newer, older })
+            } else {
+                let newer = Arc::try_clone(newer)?;
+                let older = parted(alloc, older, item)?;
+                Ok(ZoneChains::Two { newer, older })
+            }
+        }
+    }
+}
+
+pub(crate) fn chains_held(chains: &ZoneChains) -> Result<ZoneChains, OutOfMemory>
+    ensures { IfOk result (λ made. chains_by made ≡ filter has_records (chains_by chains.now)) }
+{
+    match chains {
+        ZoneChains::Bare => Ok(ZoneChains::Bare),
+        ZoneChains::One(only) => one_held(only),
+        ZoneChains::Two { newer, older } => {
+            if newer.len() == 0 {
+                one_held(older)
+            } else if older.len() == 0 {
+                Ok(ZoneChains::One(Arc::try_clone(newer)?))
+            } else {
+                Ok(ZoneChains::Two {
+                    newer: Arc::try_clone(newer)?,
+                    older: Arc::try_clone(older)?,
+                })
+            }
+        }
+    }
+}
+
+fn one_held(only: &Arc<ChainRecords>) -> Result<ZoneChains, OutOfMemory>
+    ensures { IfOk result (λ made. chains_by made ≡ filter has_records (arc_value only.now ∷ [])) }
+{
+    if only.len() == 0 {
+        Ok(ZoneChains::Bare)
+    } else {
+        Ok(ZoneChains::One(Arc::try_clone(only)?))
+    }
+}
+
+fn alone(alloc: Global, item: Arc<Record>) -> Result<Arc<ChainRecords>, OutOfMemory>
+    requires { IsDenial (arc_value item) }
+    ensures { IfOk result (λ made. (chain : ZoneChain) → chain_of (arc_value item) ≡ Some chain
+        → arc_value made ≡ alone chain (arc_value item)) }
+{
+    let made = ChainRecords::alone(alloc, item)?;
+    Ok(Arc::new(alloc, made)?)
+}
+
+fn joined(
+    alloc: Global,
+    chain: &ChainRecords,
+    item: Arc<Record>,
+) -> Result<Arc<ChainRecords>, OutOfMemory>
+    requires { is_of_chain chain.now.chain (arc_value item) ≡ true }
+    ensures { IfOk result (λ made. arc_value made ≡ joined (arc_value item) chain.now) }
+{
+    let made = chain.with(alloc, item)?;
+    Ok(Arc::new(alloc, made)?)
+}
+
+fn parted(
+    alloc: Global,
+    chain: &ChainRecords,
+    item: &Record,
+) -> Result<Arc<ChainRecords>, OutOfMemory>
+    requires { chain_of item.now ≡ Some chain.now.chain }
+    ensures { IfOk result (λ made. arc_value made ≡ parted item.now chain.now) }
+{
+    let made = chain.without(alloc, item)?;
+    Ok(Arc::new(alloc, made)?)
+}
