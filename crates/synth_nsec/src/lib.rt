@@ -8,21 +8,18 @@
 mod answers;
 mod claim;
 mod denials;
-mod exact;
 mod nsec_evidence;
 mod nsec_steps;
 mod proven;
+mod set_step;
 mod sets;
 mod types;
 mod wildcard;
 
 pub use answers::{answer_by_wildcard, name_error, no_data};
 pub use denials::Denials;
-pub use exact::exact;
 pub use nsec_steps::judge;
 pub use proven::Proven;
+pub use set_step::exact;
 pub use types::{deny_type, deny_type_below, hand_nothing_on};
 pub use wildcard::wildcard_below;
-
-#[cfg(test)]
-mod tests;

@@ -1,4 +1,4 @@
-ghost use Rattle.std.specs.Prelude.{◌≡◌, IfSome, Some};
+ghost use Rattle.std.specs.Prelude.{◌≡◌, IfSome, Some, false};
 ghost use Rattle.std.specs.Option.{option_map};
 ghost use Rattle.dname.specs.Tests.{is_under};
 ghost use Rattle.cache_meaning.specs.Zones.{IsInArc};

@@ -10,6 +10,3 @@ mod nsec3_steps;
 mod nsec3s_once;
 
 pub use nsec3_steps::judge;
-
-#[cfg(test)]
-mod tests;

@@ -1,0 +1,10 @@
+use Rattle.soundness.specs.Sound.{IsSound}
+use Rattle.cache_meaning.specs.Lent.{parameters_by}
+use Rattle.synth_nsec.proofs.StepLemmas.{of_proof}
+use Rattle.synth_nsec3.proofs.nsec3_steps.judge.Goals as goal
+
+pub returns-clause-sound : goal.returns-clause-sound
+returns-clause-sound c =
+    let zone = c.args.zone.now in
+    λ asked. of_proof (IsSound c.args.name.now c.args.qtype) _ _ ?
+    (λ proof is. c.each_nsec3_proof_is_sound.ensures zone.held c.args.now zone.apex (parameters_by c.args.salt.now c.args.iterations) c.args.name.now c.args.qtype proof asked is)
