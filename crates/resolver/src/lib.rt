@@ -4,6 +4,3 @@
 mod proving;
 
 pub use proving::{answer, prove};
-
-#[cfg(test)]
-mod tests;

@@ -1,14 +1,14 @@
-ghost use Rattle.std.specs.Prelude.{◌≡◌, ◌∷◌, IfSome, IsTrue};
-ghost use Rattle.std.specs.Option.{option_and_then};
+ghost use Rattle.std.specs.Prelude.{◌≡◌, ◌∷◌, IfSome, IsTrue, if◌then◌else◌, None};
+ghost use Rattle.std.specs.Option.{option_or, option_and_then};
 ghost use Rattle.dname.specs.Name.{Label, asterisk};
 ghost use Rattle.dname.specs.Tests.{is_under};
 ghost use Rattle.cache_meaning.specs.Lent.{parameters_by};
 ghost use Rattle.cache_meaning.specs.Evidence.{nsec3_matches, nsec3_covers};
-ghost use Rattle.cache_meaning.specs.Nsec3Steps.{no_data_by_match, denial_at_source, denial_below, by_cover, by_enclosers, nsec3_proof};
+ghost use Rattle.cache_meaning.specs.Nsec3Steps.{no_data_by_match, shows_encloser, no_data_by_wildcard, name_error, denial_at_source, denial_below, by_cover, by_enclosers, nsec3_proof};
 ghost use Rattle.soundness.specs.Steps.{IsAsked};
 ghost use Rattle.soundness.specs.Sound.{IsSound};
 ghost use Rattle.synth_nsec3.specs.ChainAt.{speaker};
-ghost use Rattle.synth_nsec3.specs.Nsec3Evidence.{IsFound, IsAskedOf};
+ghost use Rattle.synth_nsec3.specs.Nsec3Evidence.{record_of, Says, IsFound, IsAskedOf};
 
 use crate::hashed_chain::HashedChain;
 use crate::nsec3_evidence::{Asked, Nsec3Evidence};
@@ -173,7 +173,7 @@ fn by_cover<'a>(
     (proof, Asked::Before(found))
 }
 
-// By the encloser's own record, where it hands no names on, and the wildcard's.
+// By what the record that speaks of the encloser says of it.
 fn denial_below<'a>(
     chain: &HashedChain<'_, 'a>,
     qtype: u16,
@@ -189,12 +189,34 @@ fn denial_below<'a>(
         encloser.now covering.now }
 {
     match evidence {
-        Some(Nsec3Evidence::Matches(matching))
-            if hand_nothing_on(&matching.types, chain.apex(), encloser) =>
-        {
-            denial_at_source(chain, qtype, source, matching, covering)
+        Some(Nsec3Evidence::Matches(matching)) => {
+            below_encloser(chain, qtype, encloser, source, covering, matching)
         }
         _ => None,
+    }
+}
+
+// Where the record matches the encloser: it may hand no names on.
+fn below_encloser<'a>(
+    chain: &HashedChain<'_, 'a>,
+    qtype: u16,
+    encloser: &Name,
+    source: &Name,
+    covering: &'a Nsec3Rec,
+    matching: &'a Nsec3Rec,
+) -> Option<Proven<'a>>
+    requires matches { IsTrue (nsec3_matches chain.now.parameters matching.now encloser.now) }
+    requires wildcard { source.now ≡ asterisk ∷ encloser.now }
+    ensures { result
+        ≡ (if shows_encloser chain.now.parameters chain.now.apex encloser.now matching.now
+        then denial_at_source chain.now.held chain.now.moment chain.now.apex chain.now.parameters
+        qtype (asterisk ∷ encloser.now) matching.now covering.now
+        else None) }
+{
+    if hand_nothing_on(&matching.types, chain.apex(), encloser) {
+        denial_at_source(chain, qtype, source, matching, covering)
+    } else {
+        None
     }
 }
 
@@ -210,15 +232,60 @@ fn denial_at_source<'a>(
         ≡ denial_at_source chain.now.held chain.now.moment chain.now.apex chain.now.parameters qtype
         source.now matching.now covering.now }
 {
-    let (zone, moment) = (chain.zone(), chain.moment());
-    match chain.evidence(source)? {
-        Nsec3Evidence::Matches(own) if deny_type_below(&own.types, qtype) => {
-            no_data(zone, moment, nsec3s_once(matching, covering, own))
+    let evidence = chain.evidence(source)?;
+    denial_by(chain, qtype, source, matching, covering, evidence)
+}
+
+fn denial_by<'a>(
+    chain: &HashedChain<'_, 'a>,
+    qtype: u16,
+    source: &Name,
+    matching: &'a Nsec3Rec,
+    covering: &'a Nsec3Rec,
+    evidence: Nsec3Evidence<'a>,
+) -> Option<Proven<'a>>
+    requires { Says chain.now source.now evidence }
+    ensures { result ≡ option_or
+        (no_data_by_wildcard chain.now.held chain.now.moment chain.now.apex chain.now.parameters
+        qtype source.now matching.now covering.now (record_of evidence.entry))
+        (name_error chain.now.held chain.now.moment chain.now.apex chain.now.parameters source.now
+        matching.now covering.now (record_of evidence.entry)) }
+{
+    match evidence {
+        Nsec3Evidence::Matches(at_source) => {
+            no_data_by_wildcard(chain, qtype, source, matching, covering, at_source)
         }
-        Nsec3Evidence::Covers(at_source) => {
-            name_error(zone, moment, nsec3s_once(matching, covering, at_source))
-        }
-        _ => None,
+        Nsec3Evidence::Covers(at_source) => name_error(
+            chain.zone(),
+            chain.moment(),
+            nsec3s_once(matching, covering, at_source),
+        ),
+        Nsec3Evidence::Spans(_) => None,
+    }
+}
+
+// Where the record matches the wildcard: it may deny it the type.
+fn no_data_by_wildcard<'a>(
+    chain: &HashedChain<'_, 'a>,
+    qtype: u16,
+    source: &Name,
+    matching: &'a Nsec3Rec,
+    covering: &'a Nsec3Rec,
+    at_source: &'a Nsec3Rec,
+) -> Option<Proven<'a>>
+    requires { IsTrue (nsec3_matches chain.now.parameters at_source.now source.now) }
+    ensures { result
+        ≡ no_data_by_wildcard chain.now.held chain.now.moment chain.now.apex chain.now.parameters
+        qtype source.now matching.now covering.now at_source.now }
+{
+    if deny_type_below(&at_source.types, qtype) {
+        no_data(
+            chain.zone(),
+            chain.moment(),
+            nsec3s_once(matching, covering, at_source),
+        )
+    } else {
+        None
     }
 }
 
