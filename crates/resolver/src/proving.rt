@@ -14,7 +14,7 @@ use denial_records::Verdict;
 use dname::Name;
 use dname::types::IN_CLASS;
 use record_store::{Chain, Store, ZoneRef};
-use soundness::{each_answer_is_sound, the_zone_is_asked};
+use soundness::the_zone_is_asked;
 use synth_nsec::Proven;
 
 /// What the held records prove of a name and a type at a moment, in seconds, with the TTL (RFC 8198, section 5): first by the
@@ -43,7 +43,6 @@ pub fn answer<'a>(
     ensures exact { IsSome result ↔ IsSome (outcome_of store.now now name.now qtype qclass) }
     ensures sound { IfSome result (IsSoundVerdict name.now qtype) }
 {
-    each_answer_is_sound();
     if qclass != IN_CLASS || is_forwarded(qtype) {
         return None;
     }
