@@ -1,5 +1,5 @@
 -- What the NSEC3 record that speaks of a name says of it.
-use Rattle.std.specs.Prelude.{◌≡◌, List, IsTrue, IfSome, true, false, Option}
+use Rattle.std.specs.Prelude.{◌≡◌, List, IsTrue, IfSome, false, Option}
 use Rattle.std.specs.Option.{option_map}
 use Rattle.dname.specs.Name.{Label}
 use Rattle.denial_records.specs.declared.nsec3_rec.Nsec3Rec.{Nsec3Rec}

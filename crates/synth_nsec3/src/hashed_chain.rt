@@ -24,10 +24,10 @@ impl<'z, 'a> Model for HashedChain<'z, 'a> {
     ghost Value = { ChainAt };
 
     ghost view = { λ c. record {
-        held = c.zone.now.held;
-        moment = c.moment;
-        apex = c.zone.now.apex;
-        parameters = parameters_by c.salt.now c.iterations;
+      held = c.zone.now.held;
+      moment = c.moment;
+      apex = c.zone.now.apex;
+      parameters = parameters_by c.salt.now c.iterations;
     } };
 }
 
@@ -39,10 +39,10 @@ impl<'z, 'a> HashedChain<'z, 'a> {
         moment: u32,
     ) -> HashedChain<'z, 'a>
         ensures { result ≡ record {
-            held = zone.now.held;
-            moment = moment;
-            apex = zone.now.apex;
-            parameters = parameters_by salt.now iterations;
+          held = zone.now.held;
+          moment = moment;
+          apex = zone.now.apex;
+          parameters = parameters_by salt.now iterations;
         } }
     {
         HashedChain {

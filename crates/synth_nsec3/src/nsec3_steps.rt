@@ -69,9 +69,7 @@ fn at_name<'a>(
         (speaker chain.now name.now) }
 {
     match evidence {
-        Some(Nsec3Evidence::Matches(matching)) => {
-            no_data_by_match(chain, name, qtype, matching)
-        }
+        Some(Nsec3Evidence::Matches(matching)) => { no_data_by_match(chain, name, qtype, matching) }
         _ => None,
     }
 }

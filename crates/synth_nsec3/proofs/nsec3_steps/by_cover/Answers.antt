@@ -1,4 +1,4 @@
-use Rattle.std.proofs.Common.{◌≡◌, ◌∙◌, sym, ap, [], ◌∷◌, length, arith}
+use Rattle.std.proofs.Common.{◌∙◌, sym, ap, [], ◌∷◌, length, arith}
 use Rattle.dname.specs.Name.{asterisk}
 use Rattle.denial_records.specs.declared.record.Record.TheVariants.{Nsec3}
 use Rattle.cache_meaning.specs.NsecSteps.{answer_by_wildcard}

@@ -1,5 +1,4 @@
 use Rattle.std.proofs.Common.{◌∙◌, sym, ap}
-use Rattle.dname.specs.Name.{Label}
 use Rattle.dname.specs.Tests.{is_under}
 use Rattle.cache_meaning.proofs.StepLemmas.{encloser_gives, encloser_fails}
 use Rattle.synth_nsec3.proofs.nsec3_steps.by_enclosers.Goals as goal

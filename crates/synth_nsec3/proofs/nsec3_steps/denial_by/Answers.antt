@@ -1,4 +1,4 @@
-use Rattle.std.proofs.Common.{◌∙◌, sym, ap, subst, [], ◌∷◌}
+use Rattle.std.proofs.Common.{◌∙◌, sym, ap, subst}
 use Rattle.std.specs.Option.{option_or}
 use Rattle.denial_records.specs.declared.verdict.Kind.TheVariants.{NxDomain}
 use Rattle.cache_meaning.specs.Evidence.{nsec3_matches, deny_type_below}

@@ -1,4 +1,4 @@
-use Rattle.std.proofs.Common.{◌≡◌, ◌∙◌, ap}
+use Rattle.std.proofs.Common.{◌∙◌, ap}
 use Rattle.soundness.specs.Sound.{IsSound}
 use Rattle.cache_meaning.specs.Lent.{parameters_by}
 use Rattle.cache_meaning.specs.Nsec3Steps.{nsec3_proof}
