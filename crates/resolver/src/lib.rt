@@ -4,3 +4,6 @@
 mod proving;
 
 pub use proving::{answer, prove};
+
+#[cfg(test)]
+mod tests;

@@ -1,4 +1,4 @@
-ghost use Rattle.std.specs.Prelude.{◌≡◌, ◌∷◌, IfSome, IsTrue, if◌then◌else◌, None};
+ghost use Rattle.std.specs.Prelude.{◌≡◌, ◌∷◌, IfSome, IsTrue, if◌then◌else◌, Some, None};
 ghost use Rattle.std.specs.Option.{option_or, option_and_then};
 ghost use Rattle.dname.specs.Name.{Label, asterisk};
 ghost use Rattle.dname.specs.Tests.{is_under};
@@ -9,6 +9,7 @@ ghost use Rattle.soundness.specs.Steps.{IsAsked};
 ghost use Rattle.soundness.specs.Sound.{IsSound};
 ghost use Rattle.synth_nsec3.specs.ChainAt.{speaker};
 ghost use Rattle.synth_nsec3.specs.Nsec3Evidence.{record_of, Says, IsFound, IsAskedOf};
+ghost use Rattle.synth_nsec3.specs.declared.nsec3_evidence.Nsec3Evidence.{Nsec3Evidence};
 
 use crate::hashed_chain::HashedChain;
 use crate::nsec3_evidence::{Asked, Nsec3Evidence};
@@ -154,7 +155,7 @@ fn by_cover<'a>(
     encloser: &Name,
     covering: &'a Nsec3Rec,
 ) -> (Option<Proven<'a>>, Asked<'a>)
-    requires covered { IsTrue (nsec3_covers chain.now.parameters covering.now next_closer.now) }
+    requires covered { IsFound chain.now next_closer.now (Some (Nsec3Evidence.Covers covering)) }
     requires below { (label : Label) × (next_closer.now ≡ label ∷ encloser.now) }
     ensures proof { result.0
         ≡ by_cover chain.now.held chain.now.moment chain.now.apex chain.now.parameters qtype
@@ -167,8 +168,26 @@ fn by_cover<'a>(
         return (Some(proof), Asked::NotYet);
     }
     let found = chain.evidence(encloser);
-    let proof = denial_below(chain, qtype, encloser, &source, covering, found);
+    let of_source = asked_before(chain, next_closer, &source, covering);
+    let proof = denial_below(chain, qtype, encloser, &source, covering, found, of_source);
     (proof, Asked::Before(found))
+}
+
+// Of the wildcard the chain was asked where it is the next closer name itself.
+fn asked_before<'a>(
+    chain: &HashedChain<'_, 'a>,
+    next_closer: &Name,
+    source: &Name,
+    covering: &'a Nsec3Rec,
+) -> Asked<'a>
+    requires { IsFound chain.now next_closer.now (Some (Nsec3Evidence.Covers covering)) }
+    ensures { IsAskedOf chain.now source.now result }
+{
+    if source == next_closer {
+        Asked::Before(Some(Nsec3Evidence::Covers(covering)))
+    } else {
+        Asked::NotYet
+    }
 }
 
 // By what the record that speaks of the encloser says of it.
@@ -179,8 +198,10 @@ fn denial_below<'a>(
     source: &Name,
     covering: &'a Nsec3Rec,
     evidence: Option<Nsec3Evidence<'a>>,
+    of_source: Asked<'a>,
 ) -> Option<Proven<'a>>
     requires found { IsFound chain.now encloser.now evidence }
+    requires asked { IsAskedOf chain.now source.now of_source }
     requires wildcard { source.now ≡ asterisk ∷ encloser.now }
     ensures { result
         ≡ denial_below chain.now.held chain.now.moment chain.now.apex chain.now.parameters qtype
@@ -188,7 +209,9 @@ fn denial_below<'a>(
 {
     match evidence {
         Some(Nsec3Evidence::Matches(matching)) => {
-            below_encloser(chain, qtype, encloser, source, covering, matching)
+            below_encloser(
+                chain, qtype, encloser, source, covering, matching, of_source,
+            )
         }
         _ => None,
     }
@@ -202,7 +225,9 @@ fn below_encloser<'a>(
     source: &Name,
     covering: &'a Nsec3Rec,
     matching: &'a Nsec3Rec,
+    of_source: Asked<'a>,
 ) -> Option<Proven<'a>>
+    requires asked { IsAskedOf chain.now source.now of_source }
     requires matches { IsTrue (nsec3_matches chain.now.parameters matching.now encloser.now) }
     requires wildcard { source.now ≡ asterisk ∷ encloser.now }
     ensures { result
@@ -212,7 +237,7 @@ fn below_encloser<'a>(
         else None) }
 {
     if hand_nothing_on(&matching.types, chain.apex(), encloser) {
-        denial_at_source(chain, qtype, source, matching, covering)
+        denial_at_source(chain, qtype, source, matching, covering, of_source)
     } else {
         None
     }
@@ -225,12 +250,14 @@ fn denial_at_source<'a>(
     source: &Name,
     matching: &'a Nsec3Rec,
     covering: &'a Nsec3Rec,
+    of_source: Asked<'a>,
 ) -> Option<Proven<'a>>
+    requires { IsAskedOf chain.now source.now of_source }
     ensures { result
         ≡ denial_at_source chain.now.held chain.now.moment chain.now.apex chain.now.parameters qtype
         source.now matching.now covering.now }
 {
-    let evidence = chain.evidence(source)?;
+    let evidence = of_source.evidence(chain, source)?;
     denial_by(chain, qtype, source, matching, covering, evidence)
 }
 

@@ -16,6 +16,6 @@ returns-clause-proof c =
     let chain = c.args.chain.now in
     c.denial_below-proof.ensures
     ∙ second_of _ (answer_by_wildcard chain.held chain.moment chain.apex c.args.qtype (asterisk ∷ c.args.encloser.now) (Nsec3 c.args.covering.now ∷ [])) _
-    c.requires.covered
+    c.requires.covered.says
     (sym (λ k. answer_by_wildcard (c.zone.ensures.held k) (c.moment.ensures k) (c.zone.ensures.apex k) c.args.qtype (c.wildcard_below-source.ensures k) (c.nsec3-denials.ensures k))
     ∙ sym c.answer_by_wildcard.ensures ∙ c.in_default.is)
