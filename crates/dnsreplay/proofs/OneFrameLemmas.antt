@@ -14,10 +14,10 @@ use Rattle.replay_meaning.specs.OutFrame.{Output}
 use Rattle.replay_meaning.specs.Outcome.{reply_in, stored_octets, refusal_code}
 use Rattle.replay_meaning.specs.Step.{Step, query_step, answer_step, DoesBy, Does}
 use Rattle.replay_meaning.specs.Fits.{query_output, insert_output, told_output}
-use Rattle.replay_meaning.specs.Version.{Version, version_after, output_at}
+use Rattle.replay_meaning.specs.Version.{Version, output_at}
 use Rattle.replay_meaning.specs.declared.frame.FrameKind.TheVariants as kinds
 use Rattle.replay_meaning.specs.declared.out_frame.OutKind.TheVariants.{Reply, Forward, Stored, Refused}
-use Rattle.dnsreplay.specs.Cache.{IsOutcome, with_batch}
+use Rattle.dnsreplay.specs.Cache.{IsOutcome, with_batch, with_step}
 use Rattle.dnsreplay.specs.OneFrame.{Writes, WritesOneFrame}
 use Rattle.dnsreplay.specs.declared.cache.Outcome.TheVariants.{Answered, Forward as Forwarded}
 
@@ -31,7 +31,7 @@ on_both (Err e) f p q = tt
 
 -- ---- queries
 
-query_keeps : (version : Version) (read : QueryRead) → version ≡ version_after version (query_step read)
+query_keeps : (version : Version) (read : QueryRead) → version ≡ with_step version (query_step read)
 query_keeps version Dropped = refl
 query_keeps version (NotImp head) = refl
 query_keeps version (FormErr head) = refl
@@ -45,7 +45,7 @@ query_writes version input read before after kind reads writes = record {
     step = query_step read;
     does = subst (λ k. DoesBy k input.now input.message (query_step read)) (sym kind) (read, reads, refl);
     output_is = refl;
-    after_is = query_keeps version read;
+    next_is = query_keeps version read;
   };
   writes = writes;
 }
@@ -72,7 +72,7 @@ insert_writes version next input taken number body before after kind is number_i
     step = answer_step (Ok taken);
     does = answer_does input (Ok taken) kind is;
     output_is = λ i. record { kind = Stored; worker = input.worker; version = (number_is ∙ ap (λ v. v.number) next_is) i; body = body_is i };
-    after_is = next_is;
+    next_is = next_is;
   };
   writes = writes;
 }
@@ -84,6 +84,6 @@ fault_is octets now fault (inr is) other = is
 pub refused_writes : (version : Version) (input : Input) (fault : IntakeFault) (before after : List ℕ) → input.kind ≡ kinds.Upstream → (fault ≡ OutOfMemory) ⊎ IsFault input.message input.now fault → Writes (told_output input.worker Refused (refusal_code fault ∷ [])) before after → (fault ≡ OutOfMemory → ⊥) → WritesOneFrame version input version before after
 refused_writes version input fault before after kind told writes other = record {
   output = told_output input.worker Refused (refusal_code fault ∷ []);
-  frame = record { step = answer_step (Err fault); does = answer_does input (Err fault) kind (fault_is input.message input.now fault told other); output_is = refl; after_is = refl };
+  frame = record { step = answer_step (Err fault); does = answer_does input (Err fault) kind (fault_is input.message input.now fault told other); output_is = refl; next_is = refl };
   writes = writes;
 }

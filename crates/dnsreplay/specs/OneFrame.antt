@@ -2,9 +2,11 @@
 use Rattle.std.specs.Prelude.{◌≡◌, ℕ, List, ◌++◌}
 use Rattle.replay_meaning.specs.Frame.{Input}
 use Rattle.replay_meaning.specs.OutFrame.{Output, IsOutput, output_spelling}
-use Rattle.replay_meaning.specs.Version.{Version, IsOneFrame}
+use Rattle.replay_meaning.specs.Step.{Step, Does}
+use Rattle.replay_meaning.specs.Version.{Version, output_at}
 use Rattle.replay_meaning.specs.declared.frame.Frame.{Frame}
 use Rattle.replay_meaning.specs.declared.out_frame.OutKind.{OutKind}
+use Rattle.dnsreplay.specs.Cache.{with_step}
 
 -- an output frame for the frame's worker
 abbrev pub output_for : Frame → OutKind → ℕ → List ℕ → Output
@@ -15,8 +17,15 @@ pub record Writes (output : Output) (before after : List ℕ) : Type 0 where
   pub valid : IsOutput output
   pub written : after ≡ before ++ output_spelling output
 
--- the frame, at the version, leaves the version after it, and the octets have got its output
+-- the frame, at the version of the cache, has the output, and leaves the next one
+pub record IsKeptFrame (version : Version) (input : Input) (output : Output) (next : Version) : Type 0 where
+  pub step : Step
+  pub does : Does input step
+  pub output_is : output ≡ output_at version input step
+  pub next_is : next ≡ with_step version step
+
+-- the octets have got its output
 pub record WritesOneFrame (version : Version) (input : Input) (next : Version) (before after : List ℕ) : Type 0 where
   pub output : Output
-  pub frame : IsOneFrame version input output next
+  pub frame : IsKeptFrame version input output next
   pub writes : Writes output before after

@@ -2,11 +2,12 @@ ghost use Rattle.std.specs.Prelude.{◌≡◌, ◌+◌, ◌<◌, ◌^◌, [], If
 ghost use Rattle.replay_meaning.specs.Version.{version_of};
 ghost use Rattle.dnsreplay.specs.Cache.{IsOutcome, with_batch};
 
-use cache_meaning::{PlainStore, answer};
 use denial_records::Batch;
 use dname::OutOfMemory;
 use dnswire::Question;
+use record_store::Store;
 use reply_core::{ReplyBuffer, write_reply};
+use resolver::answer;
 use std::alloc::Global;
 use std::marker::Model;
 
@@ -19,10 +20,10 @@ pub enum Outcome {
     Forward(u32),
 }
 
-/// The records held, and how many batches were placed, seen as a version.
+/// The records held, and how many batches were placed, seen as a version whose records are in the order of keys.
 #[derive(Drop)]
 pub struct Cache {
-    store: PlainStore,
+    store: Store,
     version: u32,
 }
 
@@ -35,14 +36,14 @@ impl Model for Cache {
 }
 
 impl Cache {
-    /// Version 0, which holds nothing. It takes no memory.
-    pub fn empty(alloc: Global) -> Cache
-        ensures { result ≡ version_of [] }
+    /// Version 0, which holds nothing, or want of memory.
+    pub fn empty(alloc: Global) -> Result<Cache, OutOfMemory>
+        ensures { IfOk result (λ cache. cache ≡ version_of []) }
     {
-        Cache {
-            store: PlainStore::empty(alloc),
+        Ok(Cache {
+            store: Store::empty(alloc)?,
             version: 0,
-        }
+        })
     }
 
     /// Asks the question at a moment, in seconds. It takes no memory.

@@ -16,7 +16,7 @@ pub fn replay(alloc: Global, frames: &[Frame<'_>]) -> Result<Vec<u8>, OutOfMemor
         → AreFramesOf workers octets frames.now → IsReplay workers octets output.items) }
 {
     let mut output = Vec::new(alloc);
-    let mut cache = Cache::empty(alloc);
+    let mut cache = Cache::empty(alloc)?;
     let mut reply = ReplyBuffer::new();
     for frame in frames {
         one_frame(alloc, &mut cache, frame, &mut reply, &mut output)?;

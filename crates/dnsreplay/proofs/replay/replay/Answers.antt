@@ -5,7 +5,7 @@ use Rattle.dnsreplay.proofs.ReplayLemmas.{HasDone, done_first, done_more, done_a
 use Rattle.dnsreplay.proofs.replay.replay.Goals as goal
 
 pub loop-frame-init : goal.loop-frame-init
-loop-frame-init c = done_first _ _ c.empty-cache.ensures c.new-output.ensures.items
+loop-frame-init c = done_first _ _ c.in_ok-cache.ensures c.new-output.ensures.items
 
 pub loop-frame-preserved : goal.loop-frame-preserved
 loop-frame-preserved c = done_more _ _ _ _ _ _ _ c.loop-frame-test.true c.loop-frame.invariant c.in_ok-one_frame.ensures

@@ -1,0 +1,2 @@
+pub mod NsecEvidence
+pub mod Views

@@ -1,0 +1,15 @@
+use Rattle.std.proofs.Common.{◌∙◌, sym}
+use Rattle.cache_meaning.specs.Evidence.{nsec3_matches, hand_nothing_on}
+use Rattle.cache_meaning.specs.Nsec3Steps.{denial_at_source}
+use Rattle.synth_nsec3.proofs.StepLemmas.{where_both}
+use Rattle.synth_nsec3.proofs.nsec3_steps.below_encloser.Goals as goal
+
+pub returns-then-hand_nothing_on : goal.returns-then-hand_nothing_on
+returns-then-hand_nothing_on c =
+    let chain = c.args.chain.now in
+    let encloser = c.args.encloser.now in
+    let matching = c.args.matching.now in
+    c.denial_at_source.ensures
+    ∙ (λ k. denial_at_source chain.held chain.moment chain.apex chain.parameters c.args.qtype (c.requires.wildcard k) matching c.args.covering.now)
+    ∙ where_both (nsec3_matches chain.parameters matching encloser) (hand_nothing_on matching.types chain.apex encloser) _ c.requires.matches
+    (sym (λ k. hand_nothing_on matching.types (c.apex.ensures k) encloser) ∙ sym c.hand_nothing_on.ensures ∙ c.if-hand_nothing_on.true)

@@ -1,0 +1,2 @@
+pub mod ChainAt
+pub mod Nsec3Evidence

@@ -1,0 +1,41 @@
+ghost use Rattle.synth_nsec3.specs.Nsec3Evidence.{IsFound, IsAskedOf};
+
+use crate::hashed_chain::HashedChain;
+use denial_records::Nsec3Rec;
+use dname::Name;
+
+/// What an NSEC3 record says of a name whose hash is in its arc (RFC 5155, section 8).
+#[derive(Clone, Copy)]
+pub(crate) enum Nsec3Evidence<'a> {
+    /// It is the name's own.
+    Matches(&'a Nsec3Rec),
+    /// The name doesn't exist.
+    Covers(&'a Nsec3Rec),
+    /// An Opt-Out span, which says nothing of the name (RFC 5155, section 6).
+    Spans(&'a Nsec3Rec),
+}
+
+/// Whether a name was asked of, so that none is hashed twice.
+#[derive(Clone, Copy)]
+pub(crate) enum Asked<'a> {
+    /// It was, and this was found.
+    Before(Option<Nsec3Evidence<'a>>),
+    NotYet,
+}
+
+impl<'a> Asked<'a> {
+    /// What the chain says of the name that was or wasn't asked of.
+    pub(crate) fn evidence(
+        self,
+        chain: &HashedChain<'_, 'a>,
+        name: &Name,
+    ) -> Option<Nsec3Evidence<'a>>
+        requires { IsAskedOf chain.now name.now self }
+        ensures { IsFound chain.now name.now result }
+    {
+        match self {
+            Asked::Before(found) => found,
+            Asked::NotYet => chain.evidence(name),
+        }
+    }
+}

@@ -1,0 +1,321 @@
+ghost use Rattle.std.specs.Prelude.{◌≡◌, ◌∷◌, IfSome, IsTrue, if◌then◌else◌, Some, None};
+ghost use Rattle.std.specs.Option.{option_or, option_and_then};
+ghost use Rattle.dname.specs.Name.{Label, asterisk};
+ghost use Rattle.dname.specs.Tests.{is_under};
+ghost use Rattle.cache_meaning.specs.Lent.{parameters_by};
+ghost use Rattle.cache_meaning.specs.Evidence.{nsec3_matches, nsec3_covers};
+ghost use Rattle.cache_meaning.specs.Nsec3Steps.{no_data_by_match, shows_encloser, no_data_by_wildcard, name_error, denial_at_source, denial_below, by_cover, by_enclosers, nsec3_proof};
+ghost use Rattle.soundness.specs.Steps.{IsAsked};
+ghost use Rattle.soundness.specs.Sound.{IsSound};
+ghost use Rattle.synth_nsec3.specs.ChainAt.{speaker};
+ghost use Rattle.synth_nsec3.specs.Nsec3Evidence.{record_of, Says, IsFound, IsAskedOf};
+ghost use Rattle.synth_nsec3.specs.declared.nsec3_evidence.Nsec3Evidence.{Nsec3Evidence};
+
+use crate::hashed_chain::HashedChain;
+use crate::nsec3_evidence::{Asked, Nsec3Evidence};
+use crate::nsec3s_once::nsec3s_once;
+use denial_records::Nsec3Rec;
+use dname::Name;
+use record_store::ZoneRef;
+use soundness::each_nsec3_proof_is_sound;
+use synth_nsec::{
+    Denials, Proven, answer_by_wildcard, deny_type, deny_type_below, hand_nothing_on, name_error,
+    no_data, wildcard_below,
+};
+
+/// What the zone's NSEC3 records of the salt and the number of iterations prove of the name and type at a moment, in seconds
+/// (RFC 5155, section 8; RFC 8198, sections 5.2 and 5.3); none exactly where they prove nothing. It takes no memory, and
+/// hashes no name twice, and none that no step asks of.
+pub fn judge<'a>(
+    zone: &ZoneRef<'a>,
+    salt: &[u8],
+    iterations: u16,
+    name: &Name,
+    qtype: u16,
+    now: u32,
+) -> Option<Proven<'a>>
+    ensures proof { result
+        ≡ nsec3_proof zone.now.held now zone.now.apex (parameters_by salt.now iterations) name.now
+        qtype }
+    ensures sound { IsAsked zone.now.apex name.now qtype → IfSome result (IsSound name.now qtype) }
+{
+    each_nsec3_proof_is_sound();
+    let chain = HashedChain::of(zone, salt, iterations, now);
+    nsec3_proof(&chain, name, qtype)
+}
+
+fn nsec3_proof<'a>(chain: &HashedChain<'_, 'a>, name: &Name, qtype: u16) -> Option<Proven<'a>>
+    ensures { result
+        ≡ nsec3_proof chain.now.held chain.now.moment chain.now.apex chain.now.parameters name.now
+        qtype }
+{
+    let evidence = chain.evidence(name);
+    if let Some(proof) = at_name(chain, name, qtype, evidence) {
+        return Some(proof);
+    }
+    by_enclosers(chain, name, qtype, evidence)
+}
+
+// By what the record that speaks of the name says of it.
+fn at_name<'a>(
+    chain: &HashedChain<'_, 'a>,
+    name: &Name,
+    qtype: u16,
+    evidence: Option<Nsec3Evidence<'a>>,
+) -> Option<Proven<'a>>
+    requires { IsFound chain.now name.now evidence }
+    ensures { result ≡ option_and_then
+        (no_data_by_match chain.now.held chain.now.moment chain.now.apex chain.now.parameters
+        name.now qtype)
+        (speaker chain.now name.now) }
+{
+    match evidence {
+        Some(Nsec3Evidence::Matches(matching)) => { no_data_by_match(chain, name, qtype, matching) }
+        _ => None,
+    }
+}
+
+// Where the record matches the name: it may deny it the type.
+fn no_data_by_match<'a>(
+    chain: &HashedChain<'_, 'a>,
+    name: &Name,
+    qtype: u16,
+    matching: &'a Nsec3Rec,
+) -> Option<Proven<'a>>
+    requires { IsTrue (nsec3_matches chain.now.parameters matching.now name.now) }
+    ensures { result
+        ≡ no_data_by_match chain.now.held chain.now.moment chain.now.apex chain.now.parameters
+        name.now qtype matching.now }
+{
+    if deny_type(&matching.types, chain.apex(), name, qtype) {
+        no_data(chain.zone(), chain.moment(), Denials::nsec3(matching))
+    } else {
+        None
+    }
+}
+
+// By the ancestors of the name, each as the encloser of the name that is a label longer. What was found of the one is what
+// the next turn asks of.
+fn by_enclosers<'a>(
+    chain: &HashedChain<'_, 'a>,
+    name: &Name,
+    qtype: u16,
+    evidence: Option<Nsec3Evidence<'a>>,
+) -> Option<Proven<'a>>
+    requires { IsFound chain.now name.now evidence }
+    ensures { result
+        ≡ by_enclosers chain.now.held chain.now.moment chain.now.apex chain.now.parameters qtype
+        name.now }
+{
+    let mut next_closer = name.copy();
+    let mut asked = Asked::Before(evidence);
+    while let Some(encloser) = next_closer.parent() {
+        if !is_under(&encloser, chain.apex()) {
+            return None;
+        }
+        let (proof, of_encloser) = at_encloser(chain, qtype, &next_closer, &encloser, asked);
+        if let Some(proof) = proof {
+            return Some(proof);
+        }
+        next_closer = encloser;
+        asked = of_encloser;
+    }
+    None
+}
+
+// By the record that speaks of the next closer name. What the chain says of the encloser comes too, if it was asked of.
+fn at_encloser<'a>(
+    chain: &HashedChain<'_, 'a>,
+    qtype: u16,
+    next_closer: &Name,
+    encloser: &Name,
+    asked: Asked<'a>,
+) -> (Option<Proven<'a>>, Asked<'a>)
+    requires asked { IsAskedOf chain.now next_closer.now asked }
+    requires below { (label : Label) × (next_closer.now ≡ label ∷ encloser.now) }
+    ensures proof { result.0 ≡ option_and_then
+        (by_cover chain.now.held chain.now.moment chain.now.apex chain.now.parameters qtype
+        next_closer.now encloser.now)
+        (speaker chain.now next_closer.now) }
+    ensures asked { IsAskedOf chain.now encloser.now result.1 }
+{
+    match asked.evidence(chain, next_closer) {
+        Some(Nsec3Evidence::Covers(covering)) => {
+            by_cover(chain, qtype, next_closer, encloser, covering)
+        }
+        _ => (None, Asked::NotYet),
+    }
+}
+
+// Where the record covers the next closer name: the encloser's wildcard answers, or is denied.
+fn by_cover<'a>(
+    chain: &HashedChain<'_, 'a>,
+    qtype: u16,
+    next_closer: &Name,
+    encloser: &Name,
+    covering: &'a Nsec3Rec,
+) -> (Option<Proven<'a>>, Asked<'a>)
+    requires covered { IsFound chain.now next_closer.now (Some (Nsec3Evidence.Covers covering)) }
+    requires below { (label : Label) × (next_closer.now ≡ label ∷ encloser.now) }
+    ensures proof { result.0
+        ≡ by_cover chain.now.held chain.now.moment chain.now.apex chain.now.parameters qtype
+        next_closer.now encloser.now covering.now }
+    ensures asked { IsAskedOf chain.now encloser.now result.1 }
+{
+    let source = wildcard_below(next_closer, encloser);
+    let denials = Denials::nsec3(covering);
+    if let Some(proof) = answer_by_wildcard(chain.zone(), chain.moment(), qtype, &source, denials) {
+        return (Some(proof), Asked::NotYet);
+    }
+    let found = chain.evidence(encloser);
+    let of_source = asked_before(chain, next_closer, &source, covering);
+    let proof = denial_below(chain, qtype, encloser, &source, covering, found, of_source);
+    (proof, Asked::Before(found))
+}
+
+// Of the wildcard the chain was asked where it is the next closer name itself.
+fn asked_before<'a>(
+    chain: &HashedChain<'_, 'a>,
+    next_closer: &Name,
+    source: &Name,
+    covering: &'a Nsec3Rec,
+) -> Asked<'a>
+    requires { IsFound chain.now next_closer.now (Some (Nsec3Evidence.Covers covering)) }
+    ensures { IsAskedOf chain.now source.now result }
+{
+    if source == next_closer {
+        Asked::Before(Some(Nsec3Evidence::Covers(covering)))
+    } else {
+        Asked::NotYet
+    }
+}
+
+// By what the record that speaks of the encloser says of it.
+fn denial_below<'a>(
+    chain: &HashedChain<'_, 'a>,
+    qtype: u16,
+    encloser: &Name,
+    source: &Name,
+    covering: &'a Nsec3Rec,
+    evidence: Option<Nsec3Evidence<'a>>,
+    of_source: Asked<'a>,
+) -> Option<Proven<'a>>
+    requires found { IsFound chain.now encloser.now evidence }
+    requires asked { IsAskedOf chain.now source.now of_source }
+    requires wildcard { source.now ≡ asterisk ∷ encloser.now }
+    ensures { result
+        ≡ denial_below chain.now.held chain.now.moment chain.now.apex chain.now.parameters qtype
+        encloser.now covering.now }
+{
+    match evidence {
+        Some(Nsec3Evidence::Matches(matching)) => {
+            below_encloser(
+                chain, qtype, encloser, source, covering, matching, of_source,
+            )
+        }
+        _ => None,
+    }
+}
+
+// Where the record matches the encloser: it may hand no names on.
+fn below_encloser<'a>(
+    chain: &HashedChain<'_, 'a>,
+    qtype: u16,
+    encloser: &Name,
+    source: &Name,
+    covering: &'a Nsec3Rec,
+    matching: &'a Nsec3Rec,
+    of_source: Asked<'a>,
+) -> Option<Proven<'a>>
+    requires asked { IsAskedOf chain.now source.now of_source }
+    requires matches { IsTrue (nsec3_matches chain.now.parameters matching.now encloser.now) }
+    requires wildcard { source.now ≡ asterisk ∷ encloser.now }
+    ensures { result
+        ≡ (if shows_encloser chain.now.parameters chain.now.apex encloser.now matching.now
+        then denial_at_source chain.now.held chain.now.moment chain.now.apex chain.now.parameters
+        qtype (asterisk ∷ encloser.now) matching.now covering.now
+        else None) }
+{
+    if hand_nothing_on(&matching.types, chain.apex(), encloser) {
+        denial_at_source(chain, qtype, source, matching, covering, of_source)
+    } else {
+        None
+    }
+}
+
+// By what the record that speaks of the wildcard says of it.
+fn denial_at_source<'a>(
+    chain: &HashedChain<'_, 'a>,
+    qtype: u16,
+    source: &Name,
+    matching: &'a Nsec3Rec,
+    covering: &'a Nsec3Rec,
+    of_source: Asked<'a>,
+) -> Option<Proven<'a>>
+    requires { IsAskedOf chain.now source.now of_source }
+    ensures { result
+        ≡ denial_at_source chain.now.held chain.now.moment chain.now.apex chain.now.parameters qtype
+        source.now matching.now covering.now }
+{
+    let evidence = of_source.evidence(chain, source)?;
+    denial_by(chain, qtype, source, matching, covering, evidence)
+}
+
+fn denial_by<'a>(
+    chain: &HashedChain<'_, 'a>,
+    qtype: u16,
+    source: &Name,
+    matching: &'a Nsec3Rec,
+    covering: &'a Nsec3Rec,
+    evidence: Nsec3Evidence<'a>,
+) -> Option<Proven<'a>>
+    requires { Says chain.now source.now evidence }
+    ensures { result ≡ option_or
+        (no_data_by_wildcard chain.now.held chain.now.moment chain.now.apex chain.now.parameters
+        qtype source.now matching.now covering.now (record_of evidence.entry))
+        (name_error chain.now.held chain.now.moment chain.now.apex chain.now.parameters source.now
+        matching.now covering.now (record_of evidence.entry)) }
+{
+    match evidence {
+        Nsec3Evidence::Matches(at_source) => {
+            no_data_by_wildcard(chain, qtype, source, matching, covering, at_source)
+        }
+        Nsec3Evidence::Covers(at_source) => name_error(
+            chain.zone(),
+            chain.moment(),
+            nsec3s_once(matching, covering, at_source),
+        ),
+        Nsec3Evidence::Spans(_) => None,
+    }
+}
+
+// Where the record matches the wildcard: it may deny it the type.
+fn no_data_by_wildcard<'a>(
+    chain: &HashedChain<'_, 'a>,
+    qtype: u16,
+    source: &Name,
+    matching: &'a Nsec3Rec,
+    covering: &'a Nsec3Rec,
+    at_source: &'a Nsec3Rec,
+) -> Option<Proven<'a>>
+    requires { IsTrue (nsec3_matches chain.now.parameters at_source.now source.now) }
+    ensures { result
+        ≡ no_data_by_wildcard chain.now.held chain.now.moment chain.now.apex chain.now.parameters
+        qtype source.now matching.now covering.now at_source.now }
+{
+    if deny_type_below(&at_source.types, qtype) {
+        no_data(
+            chain.zone(),
+            chain.moment(),
+            nsec3s_once(matching, covering, at_source),
+        )
+    } else {
+        None
+    }
+}
+
+fn is_under(name: &Name, other: &Name) -> bool
+    ensures { result ≡ is_under name.now other.now }
+{
+    name.is_under(other)
+}
