@@ -4,7 +4,7 @@ ghost use Rattle.cache_versions.specs.Faults.{RefusedBy};
 
 use std::alloc::Global;
 
-/// Why a state takes no batch.
+/// Why a state took no batch.
 #[derive(Drop)]
 pub enum StepFault<F> {
     /// The state refuses the batch.
@@ -12,10 +12,12 @@ pub enum StepFault<F> {
     OutOfMemory,
 }
 
-/// A value that takes in batches, one after the other.
+/// A value that takes in batches, one after the other. What comes of a batch is one function of state
+/// and batch, unless memory runs out.
 pub trait State: Drop + Send + Sync {
     type Batch: Drop + Send + Sync;
 
+    /// Why a state refuses a batch.
     type Fault: Drop + Send + Sync;
 
     /// A version has at most so many batches.
@@ -29,7 +31,7 @@ pub trait State: Drop + Send + Sync {
     /// The fault with which a state refuses a batch, or `None` where it takes it.
     ghost refusal: { Self → Self.Batch → Option Self.Fault };
 
-    /// The state after the batch.
+    /// The state after the batch. The old one stays.
     fn with_batch(&self, alloc: Global, batch: &Self::Batch) -> Result<Self, StepFault<Self::Fault>>
         ensures after { IfOk result (λ s. s ≡ after self.now batch.now) }
         ensures taken { OnOk result (refusal self.now batch.now ≡ None) }

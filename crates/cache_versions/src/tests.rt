@@ -6,26 +6,44 @@ mod digest;
 mod script;
 mod threads;
 
-use script::Answer::{At, Refused, Spent};
+use script::Answer::{At, Refused, Saw, Spent};
 use script::Step::{Insert, Learn, Read};
 use script::{Answer, Step, play};
 
-// Steps in turn with their answers, and then the places of each seat.
+// Steps in turn with their answers, and then the places of each seat. The state behind the batches b1,
+// b2, b3 is (b1 * 31 + b2) * 31 + b3, modulo 65,521.
 struct Row {
     steps: &'static [(Step, Answer)],
     places: [&'static [u32]; 3],
 }
 
-const ROWS: [Row; 6] = [
+const ROWS: [Row; 7] = [
     // What was placed is in the note, and in what is read.
     Row {
-        steps: &[(Insert(0, 7), At(1)), (Learn(1), At(1)), (Read(1), At(1))],
+        steps: &[
+            (Insert(0, 7), At(1)),
+            (Learn(1), At(1)),
+            (Read(1), Saw(1, 7)),
+        ],
         places: [&[0], &[], &[]],
     },
     // A seat that learnt nothing reads what is published.
     Row {
-        steps: &[(Read(2), At(0)), (Insert(0, 7), At(1)), (Read(2), At(1))],
+        steps: &[
+            (Read(2), Saw(0, 0)),
+            (Insert(0, 7), At(1)),
+            (Read(2), Saw(1, 7)),
+        ],
         places: [&[0], &[], &[]],
+    },
+    // A seat reads its own two batches, in their order.
+    Row {
+        steps: &[
+            (Insert(0, 1), At(1)),
+            (Insert(0, 2), At(2)),
+            (Read(0), Saw(2, 33)),
+        ],
+        places: [&[0, 1], &[], &[]],
     },
     // Each place goes to the seat that inserted.
     Row {
@@ -33,7 +51,7 @@ const ROWS: [Row; 6] = [
             (Insert(0, 1), At(1)),
             (Insert(1, 2), At(2)),
             (Insert(0, 3), At(3)),
-            (Read(0), At(3)),
+            (Read(0), Saw(3, 1026)),
         ],
         places: [&[0, 2], &[1], &[]],
     },
@@ -45,7 +63,7 @@ const ROWS: [Row; 6] = [
             (Insert(2, 1), At(3)),
             (Insert(1, 1), Spent(3)),
             (Insert(1, 0), Spent(3)),
-            (Read(1), At(3)),
+            (Read(1), Saw(3, 993)),
         ],
         places: [&[0, 1], &[], &[2]],
     },
@@ -55,7 +73,7 @@ const ROWS: [Row; 6] = [
             (Insert(0, 7), At(1)),
             (Insert(1, 0), Refused(1, 7)),
             (Insert(1, 2), At(2)),
-            (Read(0), At(2)),
+            (Read(0), Saw(2, 219)),
         ],
         places: [&[0], &[1], &[]],
     },

@@ -1,12 +1,10 @@
 -- Each step keeps the rule of the table.
-use Rattle.std.proofs.Common.{◌≡◌, ◌≢◌, ℕ, ◌<◌, eqb, List, [], ◌∷◌, ◌++◌, length, set, slice_index, sym, refl, ap, ◌∙◌, subst, ⊎_elim, arith, Option, Some, None, length-set, eq-eqb, ne_eqb}
-use mathlib.Core.Logic.{dite}
+use Rattle.std.proofs.Common.{◌≡◌, ◌≢◌, ℕ, eqb, List, [], ◌∷◌, length, set, slice_index, sym, refl, ◌∙◌, subst, ⊎_elim, arith, Option, Some, length-set, eq-eqb, ne_eqb}
 use mathlib.Core.Option.{none, some}
-use mathlib.Core.Option as maybe
 use native.Mathlib.Decide.{ℕ_discrete}
 use lib.ListN.{get_elem?}
 use prog.Atomic.{either}
-use Rattle.atomic_table.specs.Table.{State, Me, step, Act, keeps, takes, gives, stepped, Allows, Enters, Valid, carried_after}
+use Rattle.atomic_table.specs.Table.{State, step, Act, keeps, takes, gives, stepped, Allows, Enters, Valid, carried_after}
 use Rattle.atomic_table.proofs.Lists.{at_set, set_here, at_snoc}
 use Rattle.tied_lock.specs.Rule.{AtHomeWhileFree, sat, grabbed}
 

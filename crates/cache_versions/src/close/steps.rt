@@ -95,7 +95,7 @@ fn last<S: State, R: Wait>(rt: &R, lock: TiedLock<Desk<S>, RecordedOf<S>, Same>)
 }
 
 impl<S: State> Shared<S> {
-    /// Ends the object with its seats. The seats are all that were made with it.
+    /// Ends the object with its seats, which are all that were made with it. It takes no memory.
     pub fn close<R: Wait>(self, rt: &R, seats: Vec<Seat<S>>) -> Closed<S>
         requires made { All (IsOf self) seats.items }
         requires all { length seats.items ≡ seats_of self }

@@ -1,5 +1,5 @@
 //! What callers do with the shared object.
-ghost use Rattle.std.specs.Prelude.{◌≡◌, ◌≤◌, All, length, fold, IfSome, IfNone, IfOk};
+ghost use Rattle.std.specs.Prelude.{◌≡◌, ◌≤◌, ◌⊎◌, All, length, fold, IfSome, IfNone, IfOk};
 ghost use mathlib.Core.List.{IsPrefix};
 ghost use Rattle.std.specs.Arc.{arc_value};
 ghost use Rattle.cache_versions.specs.Inserts.{Answered};
@@ -38,7 +38,7 @@ impl<'a, S: State> VersionRef<'a, S> {
 }
 
 impl<S: State> Shared<S> {
-    /// The object, with seats that have seen the opening state alone. Want of memory also where
+    /// The object, with 1 to 32 seats, of which seat i has the number i. Want of memory also where
     /// `left_right` gives a seat no place.
     pub fn with_seats<R: Wait>(
         rt: &R,
@@ -127,7 +127,9 @@ impl<S: State> Shared<S> {
         Some(answer)
     }
 
-    /// Places the batch behind all that the seat has seen.
+    /// Places the batch behind all that the seat has seen, under the lock. All memory is taken before
+    /// the version is published. Want of memory also where `left_right` doesn't publish; each later
+    /// insert that would be placed then answers it too.
     pub fn insert<R: Wait>(
         &self,
         rt: &R,
@@ -154,7 +156,7 @@ impl<S: State> Shared<S> {
         unreachable!()
     }
 
-    /// The seat goes on to the note's version, if that is the longer one.
+    /// The seat keeps the longer of its own version and the note's.
     pub fn learn(&self, seat: &mut Seat<S>, note: Note<S>)
         requires seat { IsOf self.now seat.old }
         requires note { IsNoteOf self.now note }
@@ -162,6 +164,7 @@ impl<S: State> Shared<S> {
         ensures same { IsSameSeat seat.old seat.new }
         ensures begins { IsPrefix (seen_by seat.old) (seen_by seat.new) }
         ensures learnt { IsPrefix (noted_by note) (seen_by seat.new) }
+        ensures one { (seen_by seat.new ≡ seen_by seat.old) ⊎ (seen_by seat.new ≡ noted_by note) }
     {
         let Note { held } = note;
         if reaches(&seat.held.recorded, &held.recorded) {
@@ -169,7 +172,7 @@ impl<S: State> Shared<S> {
         }
     }
 
-    /// Ends the object, whatever became of its seats.
+    /// Ends the object, whatever became of its seats. It says nothing of the versions.
     pub fn give_up<R: Wait>(self, rt: &R) {
         let Shared {
             lock,

@@ -20,10 +20,12 @@ pub enum Step {
     Learn(usize),
 }
 
-/// What a call answered: a version's number, or why there is none.
+/// What a call answered: the number of the version that the seat has come to, or why there is none.
 #[derive(Debug, PartialEq, Eq, Clone, Copy)]
 pub enum Answer {
     At(u32),
+    /// A read's version, and its state.
+    Saw(u32, u64),
     Spent(u32),
     Refused(u32, u64),
     NoMemory,
@@ -59,7 +61,7 @@ fn read(shared: &Shared<Few>, seat: &mut Seat<Few>) -> Answer
     ensures { IsOf shared.now seat.new × (number_by seat.new ≡ number_by seat.old) }
 {
     let version = shared.read(seat);
-    Answer::At(version.number())
+    Answer::Saw(version.number(), version.state().value)
 }
 
 fn learn(shared: &Shared<Few>, seat: &mut Seat<Few>, notes: &mut Vec<Note<Few>>) -> Answer

@@ -1,4 +1,4 @@
-use Rattle.std.proofs.Common.{rules, ◌≡◌, ℕ, [], ◌∷◌, sym, ap, ◌∙◌, subst, Some, Option, List}
+use Rattle.std.proofs.Common.{rules, ◌≡◌, [], ◌∷◌, sym, ap, ◌∙◌, subst, Some, Option}
 use Rattle.atomic_table.specs.Table.{Me, Allows, rest}
 use Rattle.tied_lock.specs.Rule.{AtHomeWhileFree}
 use Rattle.tied_lock.proofs.Keeps.{gives_back}
