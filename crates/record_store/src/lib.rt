@@ -1,9 +1,25 @@
-//! A stub over the plain program: the real crate takes its place whole.
+//! The records that a cache holds, found by search: the held state of `cache_meaning`, in the order of keys.
+//!
+//! Public clauses cite the definitions of `cache_meaning` and `held_laws` (`KeyOrder`). Specs of its own, which serve the inner
+//! steps, in reading order: `Ranks`, `Holding`, `LookUp`, `Putting`, `Dropping`.
 #![tactic(auto)]
 
+mod dropping;
+mod goings;
+mod holding;
+mod look_up;
+mod phases;
+mod putting;
+mod ranks;
+mod set_search;
 mod store;
 mod zone_ref;
+mod zone_search;
+mod zones;
 
 pub use cache_meaning::{Chain, Place};
 pub use store::Store;
 pub use zone_ref::ZoneRef;
+
+#[cfg(test)]
+mod tests;

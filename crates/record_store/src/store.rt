@@ -1,33 +1,31 @@
-ghost use Rattle.std.specs.Prelude.{◌≡◌, length, IfOk};
+//! The store itself.
+ghost use Rattle.std.specs.Prelude.{◌≡◌, ◌≤◌, length, IfOk};
 ghost use Rattle.std.specs.Option.{option_map};
-ghost use Rattle.cache_meaning.specs.Zones.{zone_in, zone_for};
-ghost use Rattle.cache_meaning.specs.Held.{nothing_held};
+ghost use Rattle.cache_meaning.specs.Held.{nothing_held, most_records};
+ghost use Rattle.cache_meaning.specs.Zones.{TwoChains, zone_in, zone_for};
 ghost use Rattle.held_laws.specs.HeldLaws.{NoneDisplaces};
 ghost use Rattle.held_laws.specs.KeyOrder.{kept_after};
 
-use crate::ZoneRef;
-use crate::zone_ref::of_plain;
-use cache_meaning::PlainStore;
+use crate::holding::Holding;
 use denial_records::Batch;
-use dname::{Name, OutOfMemory};
-use std::alloc::{AllocError, Global};
+use dname::OutOfMemory;
+use std::alloc::Global;
 use std::marker::Model;
 
-/// The records that a cache holds after some batches.
+/// The records that a cache holds after some batches, found by search, seen as the held state in the order of keys. A batch makes
+/// the next one and leaves this; what it leaves alone is shared.
 #[derive(Drop)]
 pub struct Store {
-    plain: PlainStore,
+    pub(crate) holding: Holding,
 }
 
 impl Model for Store {
-    ghost use Rattle.std.specs.Prelude.{◌≡◌};
-    ghost use Rattle.cache_meaning.specs.Held.{Held, nothing_held};
+    ghost use Rattle.cache_meaning.specs.Held.{Held};
+    ghost use Rattle.held_laws.specs.KeyOrder.{in_key_order};
 
     ghost Value = { Held };
 
-    ghost view = { λ s. s.plain };
-
-    ghost invariant = { λ s. s.plain ≡ nothing_held };
+    ghost view = { λ s. in_key_order s.holding };
 }
 
 impl Store {
@@ -36,7 +34,7 @@ impl Store {
         ensures { IfOk result (λ store. store ≡ nothing_held) }
     {
         Ok(Store {
-            plain: PlainStore::empty(alloc),
+            holding: Holding::empty(alloc)?,
         })
     }
 
@@ -45,22 +43,15 @@ impl Store {
         ensures value { result ≡ length self.now.records }
         ensures apart { NoneDisplaces self.now.records }
     {
-        self.plain.len()
+        self.holding.len()
     }
 
     /// What is held after the batch, or want of memory.
     pub fn with_batch(&self, alloc: Global, batch: &Batch) -> Result<Store, OutOfMemory>
         ensures { IfOk result (λ store. store ≡ kept_after self.now batch.entry.now) }
     {
-        Err(AllocError)
-    }
-
-    /// The zone that may answer: the longest zone of a held record, expired or not, that the name is at or below; for a DS,
-    /// which is the parent's, strictly below (RFC 4035, section 3.1.4.1).
-    pub fn zone_for(&self, name: &Name, qtype: u16) -> Option<ZoneRef<'_>>
-        ensures { result ≡ option_map (zone_in self.now) (zone_for self.now name.now qtype) }
-    {
-        let zone = self.plain.zone_for(name, qtype)?;
-        Some(of_plain(zone))
+        Ok(Store {
+            holding: self.holding.after(alloc, batch)?,
+        })
     }
 }

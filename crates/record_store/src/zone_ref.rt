@@ -1,34 +1,45 @@
+//! A zone of a store.
 ghost use Rattle.std.specs.Prelude.{◌≡◌, ◌≤◌, [], ◌∷◌, length, map, slice_get, IfSome};
 ghost use Rattle.std.specs.Option.{option_map, option_copied};
 ghost use Rattle.std.specs.Str.{bytes_eq};
-ghost use Rattle.cache_meaning.specs.Zones.{IsInArc, chains_of, set_at, nsec_at, nsec3_at};
+ghost use Rattle.cache_meaning.specs.Zones.{IsInArc, zone_in, chains_of, set_at, nsec_at, nsec3_at};
 ghost use Rattle.cache_meaning.specs.Evidence.{nsec_matches};
-ghost use Rattle.cache_meaning.specs.Lent.{lent_chain, parameters_by, place_by};
+ghost use Rattle.cache_meaning.specs.Lent.{lent_chain, place_by, parameters_by};
+ghost use Rattle.held_laws.specs.KeyOrder.{in_key_order};
+ghost use Rattle.record_store.specs.LookUp.{IsZoneIn};
 
-use cache_meaning::{Chain, Place, PlainZone};
-use denial_records::{Nsec3Rec, NsecRec, SetRec};
+use crate::holding::Holding;
+use cache_meaning::{Chain, Place};
+use denial_records::{HASH_OCTETS, Nsec3Rec, NsecRec, SetRec};
 use dname::Name;
 use std::marker::Model;
+use zone_chains::ZoneRecords;
 
-/// A zone of which a store holds a record. What it lends lives as long as the store. A record that has expired is lent too.
+/// A zone of which a store holds a record. What it lends lives as long as the store. A record that has expired is lent too. No call
+/// takes memory.
 #[derive(Drop)]
 pub struct ZoneRef<'a> {
-    plain: PlainZone<'a>,
+    holding: &'a Holding,
+    zone: &'a ZoneRecords,
 }
 
 impl<'a> Model for ZoneRef<'a> {
-    ghost use Rattle.cache_meaning.specs.Zones.{HeldZone};
+    ghost use Rattle.cache_meaning.specs.Zones.{HeldZone, zone_in};
+    ghost use Rattle.held_laws.specs.KeyOrder.{in_key_order};
+    ghost use Rattle.record_store.specs.LookUp.{IsZoneIn};
 
     ghost Value = { HeldZone };
 
-    ghost view = { λ z. z.plain };
+    ghost view = { λ z. zone_in (in_key_order z.holding.now) z.zone.now.apex };
+
+    ghost invariant = { λ z. IsZoneIn (in_key_order z.holding.now) z.zone.now };
 }
 
 impl<'a> ZoneRef<'a> {
     pub fn apex(&self) -> &'a Name
         ensures { result.now ≡ self.now.apex }
     {
-        self.plain.apex()
+        self.zone.apex()
     }
 
     /// The chains of which a denial record is held, the newest first, and `Bare` where there is none.
@@ -38,14 +49,14 @@ impl<'a> ZoneRef<'a> {
             self.now.held self.now.apex) 1 ∷ [] }
         ensures all { length (chains_of self.now.held self.now.apex) ≤ 2 }
     {
-        self.plain.chains()
+        self.zone.chains()
     }
 
     /// The set at the owner name and type.
     pub fn set_at(&self, owner: &Name, rtype: u16) -> Option<&'a SetRec>
         ensures { option_copied result ≡ set_at self.now.held self.now.apex owner.now rtype }
     {
-        self.plain.set_at(owner, rtype)
+        self.holding.set_at(self.zone.apex(), owner, rtype)
     }
 
     /// The NSEC record whose arc, from its owner name to the next, has the name, and where in it (RFC 4034, section 4.1.1).
@@ -56,7 +67,7 @@ impl<'a> ZoneRef<'a> {
             found.1 ≡ place_by (nsec_matches found.0.now name.now)) }
         ensures arc { IfSome result (λ found. IsInArc name.now found.0.now) }
     {
-        self.plain.nsec_at(name)
+        self.zone.nsec_at(name)
     }
 
     /// The NSEC3 record of the chain of a salt and a number of iterations whose arc, from its hash to the next, has the hash,
@@ -65,20 +76,21 @@ impl<'a> ZoneRef<'a> {
         &self,
         salt: &[u8],
         iterations: u16,
-        hash: &[u8; 20],
+        hash: &[u8; HASH_OCTETS],
     ) -> Option<(&'a Nsec3Rec, Place)>
         ensures record { option_map (λ found. found.0.now) result
             ≡ nsec3_at self.now.held self.now.apex (parameters_by salt.now iterations) hash.now }
         ensures place { IfSome result (λ found.
             found.1 ≡ place_by (bytes_eq found.0.now.hash hash.now)) }
     {
-        self.plain.nsec3_at(salt, iterations, hash)
+        self.zone.nsec3_at(salt, iterations, hash)
     }
 }
 
-/// The same zone.
-pub(crate) fn of_plain<'a>(zone: PlainZone<'a>) -> ZoneRef<'a>
-    ensures { result ≡ zone.entry }
+/// A zone of what is held.
+pub(crate) fn zone_in<'a>(holding: &'a Holding, zone: &'a ZoneRecords) -> ZoneRef<'a>
+    requires { IsZoneIn (in_key_order holding.now) zone.now }
+    ensures { result ≡ zone_in (in_key_order holding.now) zone.now.apex }
 {
-    ZoneRef { plain: zone }
+    ZoneRef { holding, zone }
 }

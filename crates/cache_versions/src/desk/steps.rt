@@ -1,0 +1,106 @@
+//! How the writer publishes.
+ghost use Rattle.std.specs.Prelude.{◌≡◌, ◌++◌, [], ◌∷◌, drop, IfSome, IfNone, IsTrue, IsFalse};
+ghost use Rattle.std.specs.Arc.{arc_value};
+ghost use Rattle.cache_versions.specs.Book.{head_of};
+ghost use Rattle.cache_versions.specs.Kin.{IsMade, IsSame, Kin, Sound, journal_of, version_of};
+ghost use Rattle.cache_versions.specs.Desks.{published, IsNext};
+
+use super::{Desk, Pen};
+use crate::book::{Front, Head, record_entry};
+use crate::rule::Look;
+use crate::seat::Held;
+use crate::state::State;
+use crate::version::{Recorded, RecordedOf, VersionOf};
+use std::alloc::Global;
+use std::sync::{Arc, Wait};
+
+// Adds the batch to the book. There is none where the book is ahead of the version.
+fn next_front<S, B: Drop>(head: &Head<B>, now: &Recorded<S, B>, batch: &B) -> Option<Front<B>>
+    requires { head.now ≡ head_of now.now.front.book }
+    ensures book { IfSome result (λ f. f.book ≡ now.now.front.book) }
+    ensures log { IfSome result (λ f. f.log ≡ journal_of now.now ++ batch.now ∷ []) }
+{
+    let mut front = now.front.again();
+    if record_entry(head, &mut front, now.version.number as u64, batch) {
+        Some(front)
+    } else {
+        None
+    }
+}
+
+// Publishes the version, or nothing.
+fn show<S: State, R: Wait>(rt: &R, writer: Pen<S>, next: RecordedOf<S>) -> (Pen<S>, bool)
+    requires idle { drop writer.behind writer.log.items ≡ [] }
+    requires kin { Kin writer.desk.shown.value next }
+    requires sound { Sound S.after S.BATCHES next }
+    ensures shown { IsTrue result.1 → IsSame next result.0.desk.shown.value }
+    ensures not { IsFalse result.1 → result.0.desk.shown.value ≡ writer.desk.shown.value }
+{
+    let mut writer = writer;
+    if writer.append(next).is_err() {
+        return (writer, false);
+    }
+    let (writer, done) = writer.publish_as::<Look, R>(rt);
+    match done {
+        Ok(()) => (writer, true),
+        Err(_) => (writer, false),
+    }
+}
+
+impl<S: State> Desk<S> {
+    /// Publishes the version, whose last batch is added to the book first. Nothing is published
+    /// any more where a publication was refused before.
+    pub fn publish<R: Wait>(
+        self,
+        rt: &R,
+        next: Arc<VersionOf<S>, Global>,
+        batch: &S::Batch,
+    ) -> (Desk<S>, Option<(Held<S>, Held<S>)>)
+        requires next { IsNext (published self) batch.now (arc_value next) }
+        requires made { IsMade S.after S.BATCHES (arc_value next) }
+        ensures version { IfSome result.1 (λ t. version_of t.0.recorded ≡ arc_value next) }
+        ensures shown { IfSome result.1 (λ t. IsSame t.0.recorded (published result.0)) }
+        ensures noted { IfSome result.1 (λ t. IsSame t.0.recorded t.1.recorded) }
+        ensures kin { Kin (published self) (published result.0) }
+        ensures none { IfNone result.1 (published result.0 ≡ published self) }
+    {
+        let Desk { writer, head } = self;
+        let (Ok(kept), Ok(noted)) = (Arc::try_clone(&next), Arc::try_clone(&next)) else {
+            return (Desk { writer, head }, None);
+        };
+        if writer.has_pending_operations() {
+            return (Desk { writer, head }, None);
+        }
+        let Some(front) = next_front(&head, writer.published(), batch) else {
+            return (Desk { writer, head }, None);
+        };
+        let shown = Recorded {
+            version: next,
+            front: front.again(),
+        };
+        let (writer, done) = show(rt, writer, shown);
+        let desk = Desk { writer, head };
+        if !done {
+            return (desk, None);
+        }
+        let kept = Held {
+            recorded: Recorded {
+                version: kept,
+                front: front.again(),
+            },
+        };
+        let noted = Held {
+            recorded: Recorded {
+                version: noted,
+                front,
+            },
+        };
+        (desk, Some((kept, noted)))
+    }
+
+    /// Waits for the readers, and ends the writer.
+    pub fn end<R: Wait>(self, rt: &R) {
+        let Desk { writer, head: _ } = self;
+        drop(writer.take(rt));
+    }
+}

@@ -1,0 +1,188 @@
+//! What callers do with the shared object.
+ghost use Rattle.std.specs.Prelude.{◌≡◌, ◌≤◌, ◌⊎◌, All, length, fold, IfSome, IfNone, IfOk};
+ghost use mathlib.Core.List.{IsPrefix};
+ghost use Rattle.std.specs.Arc.{arc_value};
+ghost use Rattle.cache_versions.specs.Inserts.{Answered};
+ghost use Rattle.cache_versions.specs.Lends.{lender_of, seat_in};
+ghost use Rattle.cache_versions.specs.Rows.{AreNumbered};
+ghost use Rattle.cache_versions.specs.Seats.{IsSameSeat, noted_by, number_by, opening_by, seen_by};
+ghost use Rattle.cache_versions.specs.Shares.{IsFresh, IsNoteOf, IsOf, seats_of, start_of};
+
+use super::{Shared, VersionRef};
+use crate::dealer::Dealer;
+use crate::desk::Desk;
+use crate::open::{first_version, make_seats, open_writer};
+use crate::place::{InsertFault, Note, Placed, current, place};
+use crate::seat::Seat;
+use crate::state::State;
+use crate::version::reaches;
+use std::alloc::{AllocError, Global};
+use std::sync::{Arc, Wait};
+use tied_lock::TiedLock;
+
+impl<'a, S: State> VersionRef<'a, S> {
+    /// How many batches made the version.
+    pub fn number(&self) -> u32
+        ensures { result ≡ length (seen_by (seat_in self.now)) }
+    {
+        self.seat.held.recorded.version.number
+    }
+
+    /// The state that the batches made.
+    pub fn state(&self) -> &S
+        ensures { result.now ≡
+            fold S.after (opening_by (seat_in self.now)) (seen_by (seat_in self.now)) }
+    {
+        &*self.seat.held.recorded.version.state
+    }
+}
+
+impl<S: State> Shared<S> {
+    /// The object, with 1 to 32 seats, of which seat i has the number i. Want of memory also where
+    /// `left_right` gives a seat no place.
+    pub fn with_seats<R: Wait>(
+        rt: &R,
+        alloc: Global,
+        start: S,
+        seats: u8,
+    ) -> Result<(Shared<S>, Vec<Seat<S>>), AllocError>
+        requires { (1 ≤ seats) × (seats ≤ 32) }
+        ensures start { IfOk result (λ t. start_of t.0 ≡ start) }
+        ensures all { IfOk result (λ t. (seats_of t.0 ≡ seats) × (length t.1.items ≡ seats)) }
+        ensures numbers { IfOk result (λ t. AreNumbered t.1.items) }
+        ensures fresh { IfOk result (λ t. All (IsFresh t.0) t.1.items) }
+    {
+        let (head, held) = first_version(alloc, start)?;
+        let mut ended = Vec::new(alloc);
+        ended.reserve(seats as usize)?;
+        let (dealer, all) = Dealer::new(alloc, seats)?;
+        let mut writer = open_writer(rt, alloc, &held, seats)?;
+        let made = match make_seats(alloc, &mut writer, &held, &dealer, all, seats) {
+            Ok(made) => made,
+            Err(error) => {
+                writer.take(rt);
+                return Err(error);
+            }
+        };
+        match TiedLock::new(alloc, Desk { writer, head }, &held.recorded) {
+            Ok(lock) => Ok((
+                Shared {
+                    lock,
+                    dealer,
+                    ended,
+                },
+                made,
+            )),
+            Err(desk) => {
+                desk.end(rt);
+                Err(AllocError)
+            }
+        }
+    }
+
+    /// Goes on to the published version, and lends it. Where that can't be had the seat lends the
+    /// version that it keeps.
+    pub fn read<'a>(&self, seat: &'a mut Seat<S>) -> VersionRef<'a, S>
+        requires { IsOf self.now seat.old }
+        ensures same_reference { lender_of result ≡ seat.entry.ghost_name }
+        ensures begins { IsPrefix (seen_by seat.old) (seen_by (seat_in result)) }
+        ensures object { IsOf self.now (seat_in result) }
+        ensures same { IsSameSeat seat.old (seat_in result) }
+    {
+        seat.move_on();
+        VersionRef { seat }
+    }
+
+    // Takes the lock and places the batch. `None` where the seat is ahead of the published version,
+    // which no run shows.
+    fn attempt<R: Wait>(
+        &self,
+        rt: &R,
+        alloc: Global,
+        seat: &mut Seat<S>,
+        batch: &Arc<S::Batch, Global>,
+    ) -> Option<Result<Placed<S>, InsertFault<S::Fault>>>
+        requires { IsOf self.now seat.old }
+        ensures object { IsOf self.now seat.new }
+        ensures number { number_by seat.new ≡ number_by seat.old }
+        ensures begins { IsPrefix (seen_by seat.old) (seen_by seat.new) }
+        ensures answer { IfSome result (Answered seat.old seat.new (arc_value batch.now)) }
+        ensures note { IfSome result (λ r. IfOk r (λ p. IsNoteOf self.now p.note)) }
+        ensures none { IfNone result (seat.new ≡ seat.old) }
+    {
+        let (lease, desk) = self.lock.take(rt);
+        let now = match current(&desk) {
+            Ok(now) => now,
+            Err(_) => {
+                self.lock.give(lease, desk);
+                return Some(Err(InsertFault::OutOfMemory));
+            }
+        };
+        if !reaches(&seat.held.recorded, &now.recorded) {
+            self.lock.give(lease, desk);
+            return None;
+        }
+        let (desk, answer) = place(rt, alloc, desk, now, &self.dealer, seat, batch);
+        self.lock.give(lease, desk);
+        Some(answer)
+    }
+
+    /// Places the batch behind all that the seat has seen, under the lock. All memory is taken before
+    /// the version is published. Want of memory also where `left_right` doesn't publish; each later
+    /// insert that would be placed then answers it too.
+    pub fn insert<R: Wait>(
+        &self,
+        rt: &R,
+        alloc: Global,
+        seat: &mut Seat<S>,
+        batch: S::Batch,
+    ) -> Result<Placed<S>, InsertFault<S::Fault>>
+        requires { IsOf self.now seat.old }
+        ensures object { IsOf self.now seat.new }
+        ensures number { number_by seat.new ≡ number_by seat.old }
+        ensures begins { IsPrefix (seen_by seat.old) (seen_by seat.new) }
+        ensures answer { Answered seat.old seat.new batch result }
+        ensures note { IfOk result (λ p. IsNoteOf self.now p.note) }
+    {
+        let batch = match Arc::new(alloc, batch) {
+            Ok(batch) => batch,
+            Err(_) => return Err(InsertFault::OutOfMemory),
+        };
+        for _ in rt.forever() {
+            if let Some(answer) = self.attempt(rt, alloc, seat, &batch) {
+                return answer;
+            }
+        }
+        unreachable!()
+    }
+
+    /// The seat keeps the longer of its own version and the note's.
+    pub fn learn(&self, seat: &mut Seat<S>, note: Note<S>)
+        requires seat { IsOf self.now seat.old }
+        requires note { IsNoteOf self.now note }
+        ensures object { IsOf self.now seat.new }
+        ensures same { IsSameSeat seat.old seat.new }
+        ensures begins { IsPrefix (seen_by seat.old) (seen_by seat.new) }
+        ensures learnt { IsPrefix (noted_by note) (seen_by seat.new) }
+        ensures one { (seen_by seat.new ≡ seen_by seat.old) ⊎ (seen_by seat.new ≡ noted_by note) }
+    {
+        let Note { held } = note;
+        if reaches(&seat.held.recorded, &held.recorded) {
+            seat.go_on(held);
+        }
+    }
+
+    /// Ends the object, whatever became of its seats. It says nothing of the versions.
+    pub fn give_up<R: Wait>(self, rt: &R) {
+        let Shared {
+            lock,
+            dealer: _,
+            ended: _,
+        } = self;
+        match lock.into_value() {
+            Ok(desk) => desk.end(rt),
+            Err(Some(desk)) => desk.end(rt),
+            Err(None) => {}
+        }
+    }
+}
