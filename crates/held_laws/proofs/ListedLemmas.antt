@@ -53,12 +53,12 @@ equal x y same =
 pub itself : (chain : ZoneChain) → same_zone_chain chain chain ≡ true
 itself chain = rw (name_itself chain.zone, chain_itself chain.chain)
 
-of_chain : (chain : ZoneChain) (item : Record) → is_of_chain chain item ≡ true → chain_of item ≡ Some chain
+pub of_chain : (chain : ZoneChain) (item : Record) → is_of_chain chain item ≡ true → chain_of item ≡ Some chain
 of_chain chain (Set set) is = absurd (true≢false (sym is))
 of_chain chain (Nsec nsec) is = ap (λ c. Some c) (sym (equal chain _ is))
 of_chain chain (Nsec3 nsec3) is = ap (λ c. Some c) (sym (equal chain _ is))
 
-is_of : (chain : ZoneChain) (item : Record) → chain_of item ≡ Some chain → is_of_chain chain item ≡ true
+pub is_of : (chain : ZoneChain) (item : Record) → chain_of item ≡ Some chain → is_of_chain chain item ≡ true
 is_of chain item is = rw is (itself chain)
 
 pub none_some : {X : Type 0} {x : X} → None ≡ Some x → ⊥
@@ -109,7 +109,7 @@ third_listed None held l = l
 third_listed (Some gone) held l = without_listed gone held l
 
 -- what a denial record displaces is of its chain
-chain_displaced : (new old : Record) (chain : ZoneChain) → displaces new old ≡ true → chain_of old ≡ Some chain → chain_of new ≡ Some chain
+pub chain_displaced : (new old : Record) (chain : ZoneChain) → displaces new old ≡ true → chain_of old ≡ Some chain → chain_of new ≡ Some chain
 chain_displaced (Set new) (Set old) chain is of = absurd (none_some of)
 chain_displaced (Set new) (Nsec old) chain is of = absurd (true≢false (sym is))
 chain_displaced (Set new) (Nsec3 old) chain is of = absurd (true≢false (sym is))

@@ -42,7 +42,7 @@ in_both xs ys alike chain has =
 pub same_listed : (xs ys : List ZoneChain) → ListAlike xs ys → SameMembers xs ys
 same_listed xs ys alike chain = (in_both xs ys alike chain, in_both ys xs (λ zone. sym (alike zone)) chain)
 
-filter_twice : {X : Type 0} (p q : X → Bool) (xs : List X) → filter p (filter q xs) ≡ filter q (filter p xs)
+pub filter_twice : {X : Type 0} (p q : X → Bool) (xs : List X) → filter p (filter q xs) ≡ filter q (filter p xs)
 filter_twice p q [] = refl
 filter_twice {X} p q (x ∷ xs) = by (p x) (q x) refl refl (filter_twice p q xs)
   where

@@ -1,0 +1,14 @@
+pub mod DenialLemmas
+pub mod DroppingLemmas
+pub mod GoingLemmas
+pub mod LongestLemmas
+pub mod LookUpLemmas
+pub mod PhaseLemmas
+pub mod PutLemmas
+pub mod RestLemmas
+pub mod SearchLemmas
+pub mod SetLemmas
+pub mod TiedLemmas
+pub mod ZoneChainLemmas
+pub mod ZoneForLemmas
+pub mod ZoneLemmas

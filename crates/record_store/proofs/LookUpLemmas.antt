@@ -1,0 +1,271 @@
+-- What is looked up in the parts of a store is what is looked up in what they hold.
+use Rattle.std.proofs.Common.{◌≡◌, ◌↔◌, ℕ, ◌<◌, ◌≤◌, ◌⊎◌, inl, inr, ⊎_elim, Bool, true, false, true≢false, cond, List, [], ◌∷◌, ◌++◌, length, get_or, map, filter, find, Contains, Option, Some, None, refl, sym, ◌∙◌, ap, subst, arith}
+use Rattle.std.specs.List.{list_any, prefix_len}
+use Rattle.std.specs.Option.{option_or}
+use Rattle.std.specs.Ordering.{is_lt, nat_cmp}
+use Rattle.std.specs.Cmp.{IsTotalOrder}
+use Rattle.std.specs.declared.cmp.Ordering.{Ordering}
+use Rattle.std.specs.declared.cmp.Ordering.TheVariants.{Less, Equal}
+use Rattle.std.proofs.lemmas.Bool.{cases_lt}
+use Rattle.std.proofs.lemmas.Bool.Decides.{Decides-eqb}
+use Rattle.std.proofs.lemmas.Cmp.{nat_cmp_total, tied_itself}
+use Rattle.std.proofs.lemmas.Grind.{common_steps}
+use Rattle.std.proofs.lemmas.List.{append-nil, get_or_read}
+use Rattle.std.proofs.lemmas.List.Elements.{All-contains, filter-append}
+use Rattle.std.proofs.lemmas.List.Sums.{prefix_len_passes, prefix_len_stops}
+use Rattle.dname.specs.Name.{Label, canonical_cmp}
+use Rattle.dname.specs.Order.{canonical_same}
+use Rattle.dname.specs.Tests.{same_name}
+use Rattle.denial_records.specs.declared.nsec_rec.NsecRec.{NsecRec}
+use Rattle.denial_records.specs.declared.nsec3_rec.Nsec3Rec.{Nsec3Rec}
+use Rattle.denial_records.specs.declared.set_rec.SetRec.{SetRec}
+use Rattle.denial_records.specs.declared.record.Record.{Record}
+use Rattle.denial_records.specs.declared.record.Record.TheVariants.{Set, Nsec, Nsec3}
+use Rattle.cache_meaning.specs.Held.{Held, HashParameters, ZoneChain, chain_of, zone_of, key_cmp}
+use Rattle.cache_meaning.specs.Zones.{candidates, zone_for, first_of, as_set_at, as_nsec_at, as_nsec3_at, set_at, nsec_at, nsec3_at}
+use Rattle.held_laws.specs.HeldLaws.{NoneDisplaces, IsReordered}
+use Rattle.held_laws.specs.KeyOrder.{in_key_order}
+use Rattle.held_laws.proofs.ListLemmas.{here, there, here_or_there, nothing_in, found, is_found}
+use Rattle.held_laws.proofs.ListedLemmas.{both, name_equal, none_some}
+use Rattle.held_laws.proofs.OrderedLemmas.{key_order_same, apart_in_key_order}
+use Rattle.held_laws.proofs.SameLemmas.{same_set, same_nsec, same_nsec3, same_zone}
+use Rattle.ordered_list.specs.Order.{IsInOrder}
+use Rattle.ordered_list.proofs.FilterLemmas.{filter_all, filter_none}
+use Rattle.ordered_list.proofs.OrderLemmas.{below_rest, rest_in_order}
+use Rattle.zone_chains.specs.Zone.{OneZone, chains_in, records_in, IsOneZone, IsDenialOf, IsChosen}
+use Rattle.record_store.specs.Holding.{held_in, chains_of_zones, IsTied}
+use Rattle.record_store.specs.LookUp.{is_apex, first_apex, IsFirstZone, IsZoneIn, set_like}
+use Rattle.record_store.specs.Ranks.{apex_cmp, keys_total}
+use Rattle.record_store.proofs.SearchLemmas.{same_names}
+
+-- ---- the zone for a question
+
+module _ (goings sets : List Record) (zones : List OneZone) (tied : IsTied goings sets zones) where
+  -- a zone is listed just where a record of it is held
+  apex_of_held : (name : List Label) → is_apex zones name ≡ list_any (λ item. same_name (zone_of item) name) goings
+  apex_of_held name = by (is_apex zones name) (list_any (λ item. same_name (zone_of item) name) goings) refl refl
+    where
+      by : (b d : Bool) → is_apex zones name ≡ b → list_any (λ item. same_name (zone_of item) name) goings ≡ d → b ≡ d
+      by true true is are = refl
+      by false false is are = refl
+      by true false is are =
+          let zone = found (λ (z : OneZone). same_name z.apex name) zones is in
+          let item = tied.zone_used zone.0 zone.1 in
+          sym (is_found (λ (r : Record). same_name (zone_of r) name) goings item.0 item.1 (ap (λ l. same_name l name) item.2 ∙ zone.2)) ∙ are
+      by false true is are =
+          let item = found (λ (r : Record). same_name (zone_of r) name) goings are in
+          let zone = tied.zone_listed item.0 item.1 in
+          sym is ∙ is_found (λ (z : OneZone). same_name z.apex name) zones zone.0 zone.1 (ap (λ l. same_name l name) zone.2 ∙ item.2)
+
+  pub zone_for_held : (name : List Label) (qtype : ℕ) → first_apex zones (candidates name qtype) ≡ zone_for (in_key_order (held_in goings zones)) name qtype
+  zone_for_held name qtype =
+      (λ i. find (λ apex. apex_of_held apex i) (candidates name qtype))
+      ∙ same_zone (held_in goings zones) (in_key_order (held_in goings zones)) (key_order_same (held_in goings zones)) name qtype
+
+-- ---- a zone's chains
+
+names_apart : (x y : List Label) → (x ≡ y → ⊥) → same_name x y ≡ false
+names_apart x y differ = by (same_name x y) refl
+  where
+    by : (b : Bool) → same_name x y ≡ b → b ≡ false
+    by false is = refl
+    by true is = absurd (differ (name_equal x y is))
+
+module _ (key : List Label) where
+  abbrev of_key : ZoneChain → Bool
+  of_key chain = same_name chain.zone key
+
+  all_its : (zone : OneZone) → IsOneZone zone → zone.apex ≡ key → filter of_key (chains_in zone) ≡ chains_in zone
+  all_its zone whole same = filter_all of_key (chains_in zone) (λ k d within. same_names _ key (whole.here k d within ∙ same))
+
+  none_its : (zone : OneZone) → IsOneZone zone → (zone.apex ≡ key → ⊥) → filter of_key (chains_in zone) ≡ []
+  none_its zone whole differ = filter_none of_key (chains_in zone) (λ k d within. ap (λ l. same_name l key) (whole.here k d within) ∙ names_apart zone.apex key differ)
+
+  none_of : (zones : List OneZone) → ((zone : OneZone) → Contains zones zone → IsOneZone zone) → ((zone : OneZone) → Contains zones zone → zone.apex ≡ key → ⊥) → filter of_key (chains_of_zones zones) ≡ []
+  none_of [] whole differ = refl
+  none_of (zone ∷ rest) whole differ =
+      filter-append of_key (chains_in zone) (chains_of_zones rest)
+      ∙ rw (none_its zone (whole zone (here zone rest)) (differ zone (here zone rest)))
+      (none_of rest (λ each has. whole each (there zone rest each has)) (λ each has. differ each (there zone rest each has)))
+
+  one_of : (zones : List OneZone) → IsInOrder apex_cmp zones → ((zone : OneZone) → Contains zones zone → IsOneZone zone) → (zone : OneZone) → Contains zones zone → zone.apex ≡ key → filter of_key (chains_of_zones zones) ≡ chains_in zone
+  one_of [] order whole zone has same = absurd (nothing_in zone has)
+  one_of (first ∷ rest) order whole zone has same =
+      filter-append of_key (chains_in first) (chains_of_zones rest)
+      ∙ by (here_or_there first rest zone has) (one_of rest (rest_in_order apex_cmp first rest order) (λ each later. whole each (there first rest each later)) zone)
+    where
+      apart : (each : OneZone) → Contains rest each → first.apex ≡ each.apex → ⊥
+      apart each later equal =
+          let less : canonical_cmp first.apex each.apex ≡ Less = All-contains (λ (z : OneZone). apex_cmp first z ≡ Less) rest each (below_rest apex_cmp first rest order) later in
+          let tie = canonical_same first.apex each.apex equal in
+          cc
+
+      by : (first ≡ zone) ⊎ Contains rest zone → (Contains rest zone → zone.apex ≡ key → filter of_key (chains_of_zones rest) ≡ chains_in zone) → filter of_key (chains_in first) ++ filter of_key (chains_of_zones rest) ≡ chains_in zone
+      by (inl is) more =
+          let at_key : first.apex ≡ key = ap (λ (z : OneZone). z.apex) is ∙ same in
+          rw (all_its first (whole first (here first rest)) at_key, none_of rest (λ each later. whole each (there first rest each later)) (λ each later is_key. apart each later (at_key ∙ sym is_key)), append-nil)
+          (ap chains_in is)
+      by (inr later) more =
+          rw (none_its first (whole first (here first rest)) (λ at_key. apart zone later (at_key ∙ sym same)))
+          (more later same)
+
+-- ---- a zone of what is held
+
+is_zone_in : (goings sets : List Record) (zones : List OneZone) → IsTied goings sets zones → IsInOrder apex_cmp zones → (zone : OneZone) → Contains zones zone → IsZoneIn (in_key_order (held_in goings zones)) zone
+is_zone_in goings sets zones tied order zone has =
+    let held = held_in goings zones in
+    let same = key_order_same held in
+    record {
+      apart = apart_in_key_order held tied.apart;
+      its = λ item. (
+        λ h. (let is = (tied.zones_are zone has item).0 h in ((same.records item).0 is.0, is.1)),
+        λ h. (tied.zones_are zone has item).1 ((same.records item).1 h.0, h.1),
+      );
+      chains = sym (same.chains zone.apex) ∙ ap (map (λ (c : ZoneChain). c.chain)) (one_of zone.apex zones order tied.whole zone has refl);
+    }
+
+pub zone_is_found : (goings sets : List Record) (zones : List OneZone) → IsTied goings sets zones → (name : List Label) (qtype : ℕ) (zone : OneZone) → IsFirstZone zones (candidates name qtype) zone
+    → (zone_for (in_key_order (held_in goings zones)) name qtype ≡ Some zone.apex) × IsZoneIn (in_key_order (held_in goings zones)) zone
+zone_is_found goings sets zones tied name qtype zone is =
+    (sym (zone_for_held goings sets zones tied name qtype) ∙ is.first, is_zone_in goings sets zones tied is.in_order zone is.listed)
+
+-- ---- what is chosen is what is looked up
+
+module _ {A : Type 0} (choose : Record → Option A) where
+  none_first : (records : List Record) → ((item : Record) → Contains records item → choose item ≡ None) → first_of choose records ≡ None
+  none_first [] none = refl
+  none_first (item ∷ rest) none = rw (none item (here item rest)) (none_first rest (λ each has. none each (there item rest each has)))
+
+  chosen_among : (records others : List Record) → ((item : Record) (a : A) → choose item ≡ Some a → Contains records item ↔ Contains others item) → (result : Option A) → IsChosen choose records result → IsChosen choose others result
+  chosen_among records others same (Some a) chosen = (chosen.0, (same chosen.0 a chosen.2).0 chosen.1, chosen.2)
+  chosen_among records others same None none = λ item has. by item has (choose item) refl
+    where
+      by : (item : Record) → Contains others item → (o : Option A) → choose item ≡ o → choose item ≡ None
+      by item has None is = is
+      by item has (Some a) is = absurd (none_some (sym (none item ((same item a is).1 has)) ∙ is))
+
+-- a record once more
+same_again : (held : Held) (item : Record) → Contains held.records item → IsReordered held (record { records = item ∷ held.records; chains = held.chains })
+same_again held item has = record {
+  records = λ each. (there item held.records each, λ h. ⊎_elim (λ same. subst (Contains held.records) same has) (λ later. later) (here_or_there item held.records each h));
+  chains = λ zone. refl;
+}
+
+module _ (held : Held) (apart : NoneDisplaces held.records) where
+  set_chosen : (zone owner : List Label) (rtype : ℕ) (result : Option SetRec) → IsChosen (as_set_at zone owner rtype) held.records result → result ≡ set_at held zone owner rtype
+  set_chosen zone owner rtype None none = sym (none_first (as_set_at zone owner rtype) held.records none)
+  set_chosen zone owner rtype (Some set) chosen =
+      sym (same_set held _ apart (same_again held chosen.0 chosen.1) zone owner rtype ∙ ap (λ o. option_or o (first_of (as_set_at zone owner rtype) held.records)) chosen.2)
+
+  nsec_chosen : (zone name : List Label) (result : Option NsecRec) → IsChosen (as_nsec_at zone name) held.records result → result ≡ nsec_at held zone name
+  nsec_chosen zone name None none = sym (none_first (as_nsec_at zone name) held.records none)
+  nsec_chosen zone name (Some nsec) chosen =
+      sym (same_nsec held _ apart (same_again held chosen.0 chosen.1) zone name ∙ ap (λ o. option_or o (first_of (as_nsec_at zone name) held.records)) chosen.2)
+
+  nsec3_chosen : (zone : List Label) (parameters : HashParameters) (hash : List ℕ) (result : Option Nsec3Rec) → IsChosen (as_nsec3_at zone parameters hash) held.records result → result ≡ nsec3_at held zone parameters hash
+  nsec3_chosen zone parameters hash None none = sym (none_first (as_nsec3_at zone parameters hash) held.records none)
+  nsec3_chosen zone parameters hash (Some nsec3) chosen =
+      sym (same_nsec3 held _ apart (same_again held chosen.0 chosen.1) zone parameters hash ∙ ap (λ o. option_or o (first_of (as_nsec3_at zone parameters hash) held.records)) chosen.2)
+
+-- what a choice takes is a denial record of the zone, or a set
+
+if_so : {A : Type 0} (b : Bool) (x y : A) → cond b (Some x) None ≡ Some y → b ≡ true
+if_so true x y is = refl
+if_so false x y is = absurd (none_some is)
+
+nsec_is_denial : (zone name : List Label) (item : Record) (a : NsecRec) → as_nsec_at zone name item ≡ Some a → IsDenialOf zone item
+nsec_is_denial zone name (Set set) a is = absurd (none_some is)
+nsec_is_denial zone name (Nsec nsec) a is = name_equal nsec.zone zone (both _ _ (if_so _ nsec a is)).0
+nsec_is_denial zone name (Nsec3 nsec3) a is = absurd (none_some is)
+
+nsec3_is_denial : (zone : List Label) (parameters : HashParameters) (hash : List ℕ) (item : Record) (a : Nsec3Rec) → as_nsec3_at zone parameters hash item ≡ Some a → IsDenialOf zone item
+nsec3_is_denial zone parameters hash (Set set) a is = absurd (none_some is)
+nsec3_is_denial zone parameters hash (Nsec nsec) a is = absurd (none_some is)
+nsec3_is_denial zone parameters hash (Nsec3 nsec3) a is = name_equal nsec3.zone zone (both _ _ (if_so _ nsec3 a is)).0
+
+set_has_no_chain : (zone owner : List Label) (rtype : ℕ) (item : Record) (a : SetRec) → as_set_at zone owner rtype item ≡ Some a → chain_of item ≡ None
+set_has_no_chain zone owner rtype (Set set) a is = refl
+set_has_no_chain zone owner rtype (Nsec nsec) a is = absurd (none_some is)
+set_has_no_chain zone owner rtype (Nsec3 nsec3) a is = absurd (none_some is)
+
+module _ (held : Held) (zone : OneZone) (is : IsZoneIn held zone) where
+  pub nsec_in_zone : (name : List Label) (result : Option NsecRec) → IsChosen (as_nsec_at zone.apex name) (records_in zone) result → result ≡ nsec_at held zone.apex name
+  nsec_in_zone name result chosen =
+      nsec_chosen held is.apart zone.apex name result
+      (chosen_among (as_nsec_at zone.apex name) (records_in zone) held.records (λ item a choice.
+      (λ h. ((is.its item).0 h).0, λ h. (is.its item).1 (h, nsec_is_denial zone.apex name item a choice))) result chosen)
+
+  pub nsec3_in_zone : (parameters : HashParameters) (hash : List ℕ) (result : Option Nsec3Rec) → IsChosen (as_nsec3_at zone.apex parameters hash) (records_in zone) result → result ≡ nsec3_at held zone.apex parameters hash
+  nsec3_in_zone parameters hash result chosen =
+      nsec3_chosen held is.apart zone.apex parameters hash result
+      (chosen_among (as_nsec3_at zone.apex parameters hash) (records_in zone) held.records (λ item a choice.
+      (λ h. ((is.its item).0 h).0, λ h. (is.its item).1 (h, nsec3_is_denial zone.apex parameters hash item a choice))) result chosen)
+
+pub set_in_sets : (goings sets : List Record) (zones : List OneZone) → IsTied goings sets zones → (zone owner : List Label) (rtype : ℕ) (result : Option SetRec) → IsChosen (as_set_at zone owner rtype) sets result → result ≡ set_at (in_key_order (held_in goings zones)) zone owner rtype
+set_in_sets goings sets zones tied zone owner rtype result chosen =
+    let held = held_in goings zones in
+    set_chosen held tied.apart zone owner rtype result
+    (chosen_among (as_set_at zone owner rtype) sets goings (λ item a choice.
+    (λ h. ((tied.sets_are item).0 h).0, λ h. (tied.sets_are item).1 (h, set_has_no_chain zone owner rtype item a choice))) result chosen)
+    ∙ same_set held (in_key_order held) tied.apart (key_order_same held) zone owner rtype
+
+-- ---- the place of what ties, in a list in order
+
+module _ {X : Type 0} (cmp : X → X → Ordering) (total : IsTotalOrder cmp) (like : X) (xs : List X) (order : IsInOrder cmp xs) (n : ℕ) (start : n ≡ prefix_len (λ x. is_lt (cmp x like)) xs) where
+  abbrev below : X → Bool
+  below x = is_lt (cmp x like)
+
+  less_than_tied : (x y : X) → cmp x y ≡ Less → cmp y like ≡ Equal → is_lt (cmp x like) ≡ true
+  less_than_tied x y less tie = grind (arith, common_steps, total)
+
+  not_before : (x : X) (has : Contains xs x) → cmp x like ≡ Equal → n ≤ has.0
+  not_before x has tie = by (cases_lt has.0 n)
+    where
+      by : (has.0 < n) ⊎ (n ≤ has.0) → n ≤ has.0
+      by (inl before) = absurd (true≢false (sym (prefix_len_passes below xs has.0 x (omega (arith, start, before))) ∙ (ap below has.2 ∙ ap is_lt tie)))
+      by (inr from) = from
+
+  tied_is_here : (x : X) → Contains xs x → cmp x like ≡ Equal → (y : X) → n < length xs → y ≡ get_or xs n y → y ≡ x
+  tied_is_here x has tie y within is = by (cases_lt n has.0)
+    where
+      y_here : y ≡ get_or xs n x
+      y_here = get_or_read xs n y within is x
+
+      by : (n < has.0) ⊎ (has.0 ≤ n) → y ≡ x
+      by (inl behind) =
+          let less : cmp (get_or xs n x) x ≡ Less = subst (λ z. cmp (get_or xs n x) z ≡ Less) has.2 (order n has.0 x behind has.1) in
+          let stops : below (get_or xs n x) ≡ false = ap (λ k. below (get_or xs k x)) start ∙ prefix_len_stops below xs x (omega (arith, start, within)) in
+          absurd (true≢false (sym (less_than_tied (get_or xs n x) x less tie) ∙ stops))
+      by (inr upto) =
+          let same : n ≡ has.0 = omega (arith, upto, not_before x has tie) in
+          y_here ∙ (ap (λ k. get_or xs k x) same ∙ has.2)
+
+-- a set that is chosen ties with such a set
+set_ties : (zone owner : List Label) (rtype : ℕ) (item : Record) (a : SetRec) → as_set_at zone owner rtype item ≡ Some a → key_cmp item (set_like zone owner rtype) ≡ Equal
+set_ties zone owner rtype (Nsec nsec) a is = absurd (none_some is)
+set_ties zone owner rtype (Nsec3 nsec3) a is = absurd (none_some is)
+set_ties zone owner rtype (Set set) a is =
+    let first = both _ _ (if_so _ set a is) in
+    let second = both _ _ first.1 in
+    let zones = canonical_same set.zone zone (name_equal _ _ first.0) in
+    let owners = canonical_same set.owner owner (name_equal _ _ second.0) in
+    let types = subst (λ n. nat_cmp set.rtype n ≡ Equal) ((Decides-eqb set.rtype rtype).0 second.1) (tied_itself nat_cmp_total set.rtype) in
+    rw (zones, owners) types
+
+module _ (zone owner : List Label) (rtype : ℕ) (sets : List Record) (order : IsInOrder key_cmp sets) (n : ℕ) (start : n ≡ prefix_len (λ item. is_lt (key_cmp item (set_like zone owner rtype))) sets) where
+  pub chosen_here : (item : Record) → n < length sets → item ≡ get_or sets n item → (result : Option SetRec) → result ≡ as_set_at zone owner rtype item → IsChosen (as_set_at zone owner rtype) sets result
+  chosen_here item within is (Some set) result = (item, (n, within, sym is), sym result)
+  chosen_here item within is None result = λ each has. by each has (as_set_at zone owner rtype each) refl
+    where
+      by : (each : Record) → Contains sets each → (o : Option SetRec) → as_set_at zone owner rtype each ≡ o → as_set_at zone owner rtype each ≡ None
+      by each has None none = none
+      by each has (Some set) some =
+          let same = tied_is_here key_cmp keys_total (set_like zone owner rtype) sets order n start each has (set_ties zone owner rtype each set some) item within is in
+          absurd (none_some (result ∙ (ap (as_set_at zone owner rtype) same ∙ some)))
+
+  pub none_here : length sets ≤ n → IsChosen (as_set_at zone owner rtype) sets None
+  none_here past each has = by (as_set_at zone owner rtype each) refl
+    where
+      by : (o : Option SetRec) → as_set_at zone owner rtype each ≡ o → as_set_at zone owner rtype each ≡ None
+      by None none = none
+      by (Some set) some = absurd (omega (arith, past, has.1, not_before key_cmp keys_total (set_like zone owner rtype) sets order n start each has (set_ties zone owner rtype each set some)))

@@ -1,0 +1,5 @@
+pub mod Ranks
+pub mod Holding
+pub mod Dropping
+pub mod Putting
+pub mod LookUp

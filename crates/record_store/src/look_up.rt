@@ -1,0 +1,46 @@
+//! What is looked up in a store.
+ghost use Rattle.std.specs.Prelude.{◌≡◌, None, Some, MatchOption};
+ghost use Rattle.std.specs.Option.{option_map, option_copied};
+ghost use Rattle.cache_meaning.specs.Zones.{zone_in, zone_for, set_at};
+ghost use Rattle.held_laws.specs.KeyOrder.{in_key_order};
+ghost use Rattle.record_store.specs.LookUp.{IsZoneIn};
+
+use crate::holding::{Holding, Sets, Zones};
+use crate::set_search::set_in;
+use crate::zone_ref::zone_in;
+use crate::zone_search::zone_for;
+use crate::{Store, ZoneRef};
+use denial_records::SetRec;
+use dname::Name;
+use zone_chains::ZoneRecords;
+
+impl Store {
+    /// The zone that may answer: the longest zone of a held record, expired or not, that the name is at or below; for a DS,
+    /// which is the parent's, strictly below (RFC 4035, section 3.1.4.1). It takes no memory.
+    pub fn zone_for(&self, name: &Name, qtype: u16) -> Option<ZoneRef<'_>>
+        ensures { result ≡ option_map (zone_in self.now) (zone_for self.now name.now qtype) }
+    {
+        let zone = self.holding.zone_for(name, qtype)?;
+        Some(zone_in(&self.holding, zone))
+    }
+}
+
+impl Holding {
+    fn zone_for(&self, name: &Name, qtype: u16) -> Option<&ZoneRecords>
+        ensures { MatchOption result (zone_for (in_key_order self.now) name.now qtype ≡ None)
+            (λ zone. (zone_for (in_key_order self.now) name.now qtype ≡ Some zone.now.apex)
+            × IsZoneIn (in_key_order self.now) zone.now) }
+    {
+        let zones: &Zones = &self.zones;
+        let zone: &ZoneRecords = zone_for(zones, name, qtype)?;
+        Some(zone)
+    }
+
+    /// The set of the zone at the owner name and type.
+    pub(crate) fn set_at(&self, zone: &Name, owner: &Name, rtype: u16) -> Option<&SetRec>
+        ensures { option_copied result ≡ set_at (in_key_order self.now) zone.now owner.now rtype }
+    {
+        let sets: &Sets = &self.sets;
+        set_in(sets, zone, owner, rtype)
+    }
+}

@@ -1,0 +1,3 @@
+mod against_the_plain_store;
+mod full;
+mod records;

@@ -1,0 +1,72 @@
+//! A full store makes room.
+
+use super::records::name;
+use crate::Store;
+use denial_records::{Batch, Record, RecordList, SetRec};
+use dname::{Name, OctetsList};
+use std::alloc::Global;
+use std::test::Fail;
+
+const THEN: u32 = 1_000_000_000;
+
+// The name of four letters that a number has, below the root.
+fn numbered(number: u32) -> Result<Name, Fail> {
+    let letters = [
+        b'a' + (number / 17_576 % 26) as u8,
+        b'a' + (number / 676 % 26) as u8,
+        b'a' + (number / 26 % 26) as u8,
+        b'a' + (number % 26) as u8,
+    ];
+    let [a, b, c, d] = letters;
+    Ok(name(&[4, a, b, c, d, 0])?)
+}
+
+// A set of the root zone at the numbered name, of the type.
+fn numbered_set(alloc: Global, number: u32, rtype: u16, expiry: u64) -> Result<Record, Fail> {
+    Ok(Record::Set(SetRec {
+        zone: Name::root(),
+        owner: numbered(number)?,
+        rtype,
+        life: 3600,
+        expiry,
+        items: OctetsList::empty(alloc),
+        signatures: OctetsList::empty(alloc),
+    }))
+}
+
+// So many sets from a number on, each expiring a second after the one before.
+fn sets_from(alloc: Global, first: u32, count: u32) -> Result<Batch, Fail> {
+    let mut records = RecordList::empty(alloc);
+    for i in 0..count {
+        let number = first.saturating_add(i);
+        let expiry = u64::from(THEN) + 1 + u64::from(number);
+        records.push(numbered_set(alloc, number, 1, expiry)?)?;
+    }
+    Ok(Batch { now: THEN, records })
+}
+
+fn has(store: &Store, number: u32) -> Result<bool, Fail> {
+    let owner = numbered(number)?;
+    match store.zone_for(&owner, 1) {
+        Some(zone) => Ok(zone.set_at(&owner, 1).is_some()),
+        None => Ok(false),
+    }
+}
+
+// The 131,073rd record is held, and the one that expires first goes.
+#[test]
+fn what_expires_first_makes_room(rt: HostRuntime) -> Result<(), Fail> {
+    let alloc = rt.alloc();
+    let mut store = Store::empty(alloc)?;
+    for batch in 0..128 {
+        store = store.with_batch(alloc, &sets_from(alloc, batch * 1024, 1024)?)?;
+    }
+    assert_eq!(rt; store.len(), 131_072);
+    assert!(rt; has(&store, 0)? && has(&store, 131_071)?);
+    let fuller = store.with_batch(alloc, &sets_from(alloc, 131_072, 1)?)?;
+    assert_eq!(rt; fuller.len(), 131_072);
+    assert!(rt; !has(&fuller, 0)? && has(&fuller, 1)? && has(&fuller, 131_072)?);
+    // The old one stays.
+    assert!(rt; has(&store, 0)? && !has(&store, 131_072)?);
+    Ok(())
+}
