@@ -59,12 +59,6 @@ no_set_is_of_a_chain (Set set) no_set none = no_set set refl
 no_set_is_of_a_chain (Nsec nsec) no_set none = none_some (sym none)
 no_set_is_of_a_chain (Nsec3 nsec3) no_set none = none_some (sym none)
 
--- a denial record is of its zone
-pub denial_of_zone : (apex : List Label) (item : Record) → ((set : SetRec) → item ≡ Set set → ⊥) → zone_of item ≡ apex → IsDenialOf apex item
-denial_of_zone apex (Set set) no_set of = absurd (no_set set refl)
-denial_of_zone apex (Nsec nsec) no_set of = of
-denial_of_zone apex (Nsec3 nsec3) no_set of = of
-
 -- what a zone has is of a chain
 in_zone_of_chain : (zone : OneZone) → IsOneZone zone → (item : Record) → Contains (records_in zone) item → chain_of item ≡ None → ⊥
 in_zone_of_chain zone is item has none =
@@ -82,7 +76,7 @@ chains_have goings sets zones tied chain listed =
 
 -- ---- without the first
 
-pub but_first : (xs ys : List Record) → IsInOrder going_cmp xs → (x : Record) → 0 < length xs → x ≡ get_or xs 0 x → ys ≡ drop 1 xs → AreBut x xs ys
+but_first : (xs ys : List Record) → IsInOrder going_cmp xs → (x : Record) → 0 < length xs → x ≡ get_or xs 0 x → ys ≡ drop 1 xs → AreBut x xs ys
 but_first [] ys order x some is rest item = absurd (omega (arith, some))
 but_first (y ∷ xs) ys order x some is rest item = (
   λ has. (let later = subst (λ l. Contains l item) rest has in

@@ -56,7 +56,7 @@ rest_alike xs held other order =
     reordered (held_rest xs held) (held_rest xs other) (λ item. (λ has. has, λ has. has))
     (alike_filtered (λ chain. list_any (is_of_chain chain) xs) (λ chain. list_any (is_of_chain chain) xs) (λ chain. refl) held.chains other.chains (list_alike held other order))
 
-pub dropped_was : {X : Type 0} (n : ℕ) (xs : List X) (x : X) → Contains (drop n xs) x → Contains xs x
+dropped_was : {X : Type 0} (n : ℕ) (xs : List X) (x : X) → Contains (drop n xs) x → Contains xs x
 dropped_was zero xs x has = has
 dropped_was (suc n) [] x has = has
 dropped_was (suc n) (y ∷ ys) x has = there y ys x (dropped_was n ys x has)
