@@ -1,6 +1,6 @@
 -- What one frame writes.
 use Rattle.std.proofs.Common.{◌≡◌, ℕ, ◌⊎◌, inl, inr, List, [], ◌∷◌, refl, sym, ◌∙◌, ap, subst}
-use Rattle.std.specs.Prelude.{Result, Ok, Err, OnOk, Option, Some, None}
+use Rattle.std.specs.Prelude.{Result, Ok, Err, OnOk, Some, None}
 use Rattle.dnswire.specs.Query.{IsReadAs}
 use Rattle.dnswire.specs.declared.question.Question.{Question}
 use Rattle.dnswire.specs.declared.query_read.QueryRead.{QueryRead}
@@ -10,13 +10,12 @@ use Rattle.intake.specs.declared.taken.Taken.{Taken}
 use Rattle.intake.specs.declared.intake_fault.IntakeFault.{IntakeFault}
 use Rattle.intake.specs.declared.intake_fault.IntakeFault.TheVariants.{OutOfMemory}
 use Rattle.replay_meaning.specs.Frame.{Input}
-use Rattle.replay_meaning.specs.OutFrame.{Output}
-use Rattle.replay_meaning.specs.Outcome.{reply_in, stored_octets, refusal_code}
-use Rattle.replay_meaning.specs.Step.{Step, query_step, answer_step, DoesBy, Does}
-use Rattle.replay_meaning.specs.Fits.{query_output, insert_output, told_output}
+use Rattle.replay_meaning.specs.Outcome.{stored_octets, refusal_code}
+use Rattle.replay_meaning.specs.Step.{query_step, answer_step, DoesBy, Does}
+use Rattle.replay_meaning.specs.Fits.{query_output, told_output}
 use Rattle.replay_meaning.specs.Version.{Version, output_at}
 use Rattle.replay_meaning.specs.declared.frame.FrameKind.TheVariants as kinds
-use Rattle.replay_meaning.specs.declared.out_frame.OutKind.TheVariants.{Reply, Forward, Stored, Refused}
+use Rattle.replay_meaning.specs.declared.out_frame.OutKind.TheVariants.{Stored, Refused}
 use Rattle.dnsreplay.specs.Cache.{IsOutcome, with_batch, with_step}
 use Rattle.dnsreplay.specs.OneFrame.{Writes, WritesOneFrame}
 use Rattle.dnsreplay.specs.declared.cache.Outcome.TheVariants.{Answered, Forward as Forwarded}

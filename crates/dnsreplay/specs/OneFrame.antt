@@ -24,7 +24,7 @@ pub record IsKeptFrame (version : Version) (input : Input) (output : Output) (ne
   pub output_is : output ≡ output_at version input step
   pub next_is : next ≡ with_step version step
 
--- the octets have got its output
+-- such a frame is done, and the octets have got its output at their end
 pub record WritesOneFrame (version : Version) (input : Input) (next : Version) (before after : List ℕ) : Type 0 where
   pub output : Output
   pub frame : IsKeptFrame version input output next

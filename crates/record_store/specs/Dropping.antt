@@ -8,7 +8,8 @@ use Rattle.record_store.specs.Holding.{IsZoneOf}
 
 -- the sets among the records
 abbrev pub AreSets : List Record → List Record → Type 0
-AreSets records sets = (item : Record) → Contains sets item ↔ (Contains records item × (chain_of item ≡ None))
+AreSets records sets =
+    (item : Record) → Contains sets item ↔ (Contains records item × (chain_of item ≡ None))
 
 -- the zone without the record, and with the chains that still have one, in their order
 pub record IsZoneLeft (gone : Record) (zone left : OneZone) : Type 0 where
@@ -16,7 +17,9 @@ pub record IsZoneLeft (gone : Record) (zone left : OneZone) : Type 0 where
   pub records :
       (item : Record) → Contains (records_in left) item
       ↔ (Contains (records_in zone) item × (item ≡ gone → ⊥))
-  pub chains : (records : List Record) → IsZoneOf records left → chains_in left ≡ chains_held records (chains_in zone)
+  pub chains :
+      (records : List Record) → IsZoneOf records left
+      → chains_in left ≡ chains_held records (chains_in zone)
   pub used : All (λ each. 0 < length each.records) left.chains
   pub whole : IsOneZone left
 

@@ -17,7 +17,8 @@ pub const MOST_RECORDS: usize = 131_072;
 impl Holding {
     /// After the batch: what has expired goes, its records come in order, and what is too much goes.
     pub(crate) fn after(&self, alloc: Global, batch: &Batch) -> Result<Holding, OutOfMemory>
-        ensures made { IfOk result (λ made. IsReordered (held_after self.now batch.entry.now) made) }
+        ensures made { IfOk result (λ made.
+            IsReordered (held_after self.now batch.entry.now) made) }
         ensures apart { NoneDisplaces self.now.records }
         ensures made_apart { IfOk result (λ made. NoneDisplaces made.records) }
     {

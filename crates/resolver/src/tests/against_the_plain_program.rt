@@ -256,7 +256,7 @@ fn random_states_prove_the_same(rt: HostRuntime) -> Result<(), Fail> {
     };
     for round in 0..400 {
         let batch = any_batch(alloc, &mut random)?;
-        let store = Store::empty(alloc).with_batch(alloc, &batch)?;
+        let store = Store::empty(alloc)?.with_batch(alloc, &batch)?;
         let plain = PlainStore::empty(alloc).with_batch(alloc, &batch)?;
         assert_eq!(rt; store.len(), plain.len());
         for place in 0..NAMES {

@@ -166,7 +166,7 @@ fn held_in(alloc: Global, case: u8) -> Result<Store, Fail> {
         now: THEN,
         records: records_of(alloc, case)?,
     };
-    Ok(Store::empty(alloc).with_batch(alloc, &batch)?)
+    Ok(Store::empty(alloc)?.with_batch(alloc, &batch)?)
 }
 
 fn denials(verdict: &Verdict<'_>) -> u8 {

@@ -1,5 +1,5 @@
 use Rattle.std.proofs.Common.{arith, refl}
-use Rattle.dnsreplay.proofs.FramesLemmas.{frames_pushed, frames_all, no_frame, other_worker, some_left, none_left}
+use Rattle.dnsreplay.proofs.FramesLemmas.{frames_pushed, no_frame, other_worker, some_left}
 use Rattle.dnsreplay.proofs.frames.read_frames.Goals as goal
 
 pub returns-in_default : goal.returns-in_default

@@ -1,4 +1,4 @@
-use Rattle.std.proofs.Common.{ap, map, sym, subst}
+use Rattle.std.proofs.Common.{map, subst}
 use Rattle.std.proofs.lemmas.List.{take_all}
 use Rattle.replay_meaning.specs.Frame.{input_of}
 use Rattle.dnsreplay.proofs.ReplayLemmas.{HasDone, done_first, done_more, done_all}

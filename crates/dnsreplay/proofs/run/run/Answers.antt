@@ -1,5 +1,4 @@
-use Rattle.std.proofs.Common.{length, ap, subst, sym, arith}
-use Rattle.dnsreplay.specs.Frames.{AreFramesOf}
+use Rattle.std.proofs.Common.{length, ap, arith}
 use Rattle.dnsreplay.proofs.FramesLemmas.{few_frames}
 use Rattle.dnsreplay.proofs.run.run.Goals as goal
 
