@@ -69,11 +69,11 @@ fn any_chain(random: &mut Random) -> (&'static [u8], u16) {
 
 // A record that expires in so many seconds at most.
 fn any_record(alloc: Global, random: &mut Random, now: u32, longest: u64) -> Result<Record, Fail> {
-    let expiry = u64::from(now) + 1 + random.below(longest.max(1));
+    let expiry = u64::from(now).saturating_add(1 + random.below(longest.max(1)));
     let (zone, from, count) = any_zone(random);
     let count = count.max(1);
-    let owner = in_order(from + random.below(count));
-    let next = in_order(from + random.below(count));
+    let owner = in_order(from.saturating_add(random.below(count)));
+    let next = in_order(from.saturating_add(random.below(count)));
     match random.below(5) {
         0 => set(alloc, zone, owner, 1 + random.below(2) as u16, expiry),
         1 | 2 => nsec(alloc, zone, owner, next, expiry),
