@@ -4,8 +4,8 @@ ghost use Rattle.std.specs.Prelude.{◌≤◌, ◌<◌};
 use super::records::{hash_of, name, nsec, nsec3, set};
 use crate::{Chain, Place, Store, ZoneRef};
 use cache_meaning::{PlainStore, PlainZone};
-use denial_records::{Batch, Nsec3Rec, NsecRec, Record, RecordList, SetRec};
-use dname::Name;
+use denial_records::{Batch, HASH_OCTETS, Nsec3Rec, NsecRec, Record, RecordList, SetRec};
+use dname::{Name, OutOfMemory};
 use std::alloc::Global;
 use std::test::Fail;
 
@@ -139,25 +139,39 @@ fn same_nsec3(one: Option<(&Nsec3Rec, Place)>, other: Option<(&Nsec3Rec, Place)>
     }
 }
 
-fn same_in_zone(fast: &ZoneRef<'_>, slow: &PlainZone<'_>, asked: &Name, hash: u8) -> bool {
+fn same_sets(fast: &ZoneRef<'_>, slow: &PlainZone<'_>, asked: &Name) -> bool {
+    same_set(fast.set_at(asked, 1), slow.set_at(asked, 1))
+        && same_set(fast.set_at(asked, 2), slow.set_at(asked, 2))
+}
+
+fn same_by_hash(
+    fast: &ZoneRef<'_>,
+    slow: &PlainZone<'_>,
+    salt: &[u8],
+    iterations: u16,
+    hash: &[u8; HASH_OCTETS],
+) -> bool {
+    same_nsec3(
+        fast.nsec3_at(salt, iterations, hash),
+        slow.nsec3_at(salt, iterations, hash),
+    )
+}
+
+fn same_chains(fast: &ZoneRef<'_>, slow: &PlainZone<'_>) -> bool {
     let [newer, older] = fast.chains();
     let [slow_newer, slow_older] = slow.chains();
-    let hash = hash_of(hash);
+    same_chain(newer, slow_newer) && same_chain(older, slow_older)
+}
+
+fn same_in_zone(fast: &ZoneRef<'_>, slow: &PlainZone<'_>, asked: &Name, number: u8) -> bool {
+    let hash = hash_of(number);
     fast.apex() == slow.apex()
-        && same_chain(newer, slow_newer)
-        && same_chain(older, slow_older)
-        && same_set(fast.set_at(asked, 1), slow.set_at(asked, 1))
-        && same_set(fast.set_at(asked, 2), slow.set_at(asked, 2))
+        && same_chains(fast, slow)
+        && same_sets(fast, slow, asked)
         && same_nsec(fast.nsec_at(asked), slow.nsec_at(asked))
-        && same_nsec3(fast.nsec3_at(b"", 0, &hash), slow.nsec3_at(b"", 0, &hash))
-        && same_nsec3(
-            fast.nsec3_at(b"\xAA", 0, &hash),
-            slow.nsec3_at(b"\xAA", 0, &hash),
-        )
-        && same_nsec3(
-            fast.nsec3_at(b"\xAA", 1, &hash),
-            slow.nsec3_at(b"\xAA", 1, &hash),
-        )
+        && same_by_hash(fast, slow, b"", 0, &hash)
+        && same_by_hash(fast, slow, b"\xAA", 0, &hash)
+        && same_by_hash(fast, slow, b"\xAA", 1, &hash)
 }
 
 fn same_answers(store: &Store, plain: &PlainStore, asked: &Name, qtype: u16, hash: u8) -> bool {
@@ -180,19 +194,36 @@ fn all_the_same(store: &Store, plain: &PlainStore) -> Result<bool, Fail> {
     Ok(same)
 }
 
+// The two after the same batches.
+#[derive(Drop)]
+struct Both {
+    store: Store,
+    plain: PlainStore,
+}
+
+impl Both {
+    fn after(&self, alloc: Global, batch: &Batch) -> Result<Both, OutOfMemory> {
+        Ok(Both {
+            store: self.store.with_batch(alloc, batch)?,
+            plain: self.plain.with_batch(alloc, batch)?,
+        })
+    }
+}
+
 #[test]
 fn random_batches_are_found_alike(rt: HostRuntime) -> Result<(), Fail> {
     let alloc = rt.alloc();
     let mut random = Random { state: 7 };
-    let mut store = Store::empty(alloc)?;
-    let mut plain = PlainStore::empty(alloc);
+    let mut both = Both {
+        store: Store::empty(alloc)?,
+        plain: PlainStore::empty(alloc),
+    };
     let mut most = 0;
     for turn in 0..2000 {
         let batch = any_batch(alloc, &mut random, THEN + turn)?;
-        store = store.with_batch(alloc, &batch)?;
-        plain = plain.with_batch(alloc, &batch)?;
-        assert!(rt; all_the_same(&store, &plain)?, "{turn}");
-        most = most.max(store.len());
+        both = both.after(alloc, &batch)?;
+        assert!(rt; all_the_same(&both.store, &both.plain)?, "{turn}");
+        most = most.max(both.store.len());
     }
     // Enough stay to displace one another, and enough expire.
     assert!(rt; 20 <= most && most <= 200, "{most}");

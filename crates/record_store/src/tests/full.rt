@@ -53,20 +53,34 @@ fn has(store: &Store, number: u32) -> Result<bool, Fail> {
     }
 }
 
-// The 131,073rd record is held, and the one that expires first goes.
+// 131,072 sets, each expiring a second after the one before.
+fn filled(alloc: Global) -> Result<Store, Fail> {
+    let mut store = Store::empty(alloc)?;
+    for batch in 0..128 {
+        let sets = sets_from(alloc, batch * 1024, 1024)?;
+        store = store.with_batch(alloc, &sets)?;
+    }
+    Ok(store)
+}
+
+// Whether the first set of a full store is held, the second, the last, and one more.
+fn holds(store: &Store) -> Result<[bool; 4], Fail> {
+    let first = has(store, 0)?;
+    let second = has(store, 1)?;
+    let last = has(store, 131_071)?;
+    let more = has(store, 131_072)?;
+    Ok([first, second, last, more])
+}
+
+// The 131,073rd record is held, and the one that expires first goes; the old store stays.
 #[test]
 fn what_expires_first_makes_room(rt: HostRuntime) -> Result<(), Fail> {
     let alloc = rt.alloc();
-    let mut store = Store::empty(alloc)?;
-    for batch in 0..128 {
-        store = store.with_batch(alloc, &sets_from(alloc, batch * 1024, 1024)?)?;
-    }
-    assert_eq!(rt; store.len(), 131_072);
-    assert!(rt; has(&store, 0)? && has(&store, 131_071)?);
-    let fuller = store.with_batch(alloc, &sets_from(alloc, 131_072, 1)?)?;
-    assert_eq!(rt; fuller.len(), 131_072);
-    assert!(rt; !has(&fuller, 0)? && has(&fuller, 1)? && has(&fuller, 131_072)?);
-    // The old one stays.
-    assert!(rt; has(&store, 0)? && !has(&store, 131_072)?);
+    let store = filled(alloc)?;
+    let one_more = sets_from(alloc, 131_072, 1)?;
+    let fuller = store.with_batch(alloc, &one_more)?;
+    assert_eq!(rt; (store.len(), fuller.len()), (131_072, 131_072));
+    assert_eq!(rt; holds(&fuller)?, [false, true, true, true]);
+    assert_eq!(rt; holds(&store)?, [true, true, true, false]);
     Ok(())
 }
