@@ -13,7 +13,7 @@ use Rattle.held_laws.proofs.OrderedLemmas.{all_alike, apart_in_key_order, key_or
 use Rattle.held_laws.proofs.ReorderLemmas.{Alike, after_alike}
 use Rattle.replay_meaning.specs.Frame.{Input, input_of}
 use Rattle.replay_meaning.specs.OutFrame.{Output, IsOutput, output_spelling, outputs_spelling}
-use Rattle.replay_meaning.specs.Outcome.{proof_octets, reply_in}
+use Rattle.reply_core.specs.Answered.{proof_octets, reply_in}
 use Rattle.replay_meaning.specs.Step.{Step, Query, Insert, Tell}
 use Rattle.replay_meaning.specs.Fits.{query_output, insert_output}
 use Rattle.replay_meaning.specs.Replay.{SpellsFrames, IsReplay}

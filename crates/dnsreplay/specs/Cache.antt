@@ -3,7 +3,7 @@ use Rattle.std.specs.Prelude.{◌≡◌, ℕ, ◌+◌, List, Some, None}
 use Rattle.dnswire.specs.declared.question.Question.{Question}
 use Rattle.denial_records.specs.declared.batch.Batch.{Batch}
 use Rattle.held_laws.specs.KeyOrder.{kept_after}
-use Rattle.replay_meaning.specs.Outcome.{reply_in}
+use Rattle.reply_core.specs.Answered.{reply_in}
 use Rattle.replay_meaning.specs.Step.{Step, Query, Insert, Tell}
 use Rattle.replay_meaning.specs.Version.{Version}
 use Rattle.dnsreplay.specs.declared.cache.Outcome.{Outcome}

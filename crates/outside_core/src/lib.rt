@@ -8,6 +8,7 @@
 
 mod failed;
 mod fault_plan;
+mod gate;
 mod memory_sink;
 mod memory_source;
 mod sink;
@@ -18,6 +19,7 @@ mod stream;
 mod tests;
 
 pub use failed::Failed;
+pub use gate::{Gate, OpenGate, Side};
 pub use memory_sink::MemorySink;
 pub use memory_source::MemorySource;
 pub use sink::Sink;

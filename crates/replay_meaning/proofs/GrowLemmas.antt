@@ -10,7 +10,7 @@ use Rattle.intake.specs.declared.taken.Taken.{Taken}
 use Rattle.cache_meaning.specs.Held.{held_after, held_of, nothing_held}
 use Rattle.replay_meaning.specs.Frame.{Input}
 use Rattle.replay_meaning.specs.OutFrame.{Output}
-use Rattle.replay_meaning.specs.Outcome.{reply_in}
+use Rattle.reply_core.specs.Answered.{reply_in}
 use Rattle.replay_meaning.specs.Step.{Step, Query, Insert, Tell, Does}
 use Rattle.replay_meaning.specs.Fits.{IsOutputOf, IsFor, Fits, is_placed, query_output}
 use Rattle.replay_meaning.specs.Version.{Version, version_of, output_at, version_after}

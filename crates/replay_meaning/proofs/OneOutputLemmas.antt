@@ -9,7 +9,7 @@ use Rattle.intake.specs.declared.taken.Taken.{Taken}
 use Rattle.cache_meaning.specs.Held.{held_of}
 use Rattle.replay_meaning.specs.Frame.{Input}
 use Rattle.replay_meaning.specs.OutFrame.{Output}
-use Rattle.replay_meaning.specs.Outcome.{reply_in}
+use Rattle.reply_core.specs.Answered.{reply_in}
 use Rattle.replay_meaning.specs.Step.{Step, Query, Insert, Tell, Does}
 use Rattle.replay_meaning.specs.Fits.{IsOutputOf, IsFor, IsInOrder, Fits, is_call, is_placed, places, query_output, insert_output, told_output}
 use Rattle.replay_meaning.specs.Replay.{IsReplay}

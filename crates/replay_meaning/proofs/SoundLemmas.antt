@@ -15,7 +15,7 @@ use Rattle.cache_meaning.specs.Held.{held_of}
 use Rattle.soundness.proofs.QueryLemmas.{outcome_sound}
 use Rattle.replay_meaning.specs.Frame.{Input}
 use Rattle.replay_meaning.specs.OutFrame.{Output, out_number}
-use Rattle.replay_meaning.specs.Outcome.{proof_in, proof_octets}
+use Rattle.reply_core.specs.Answered.{proof_in, proof_octets}
 use Rattle.replay_meaning.specs.Step.{Step, Query, Insert, Tell, query_step, answer_step, DoesBy, Does}
 use Rattle.replay_meaning.specs.Fits.{IsOutputOf, IsFor, is_call, is_placed, query_output}
 use Rattle.replay_meaning.specs.Sound.{IsSoundReply}

@@ -11,7 +11,7 @@ use Rattle.cache_meaning.specs.Verdict.{IsVerdict, IsVerdictOf}
 use Rattle.reply_core.specs.Reply.{reply_octets}
 use Rattle.reply_core.specs.Shown.{shown_by}
 use Rattle.reply_core.proofs.ShownLemmas.{shown_is}
-use Rattle.replay_meaning.specs.Outcome.{proof_in, proof_octets, reply_in}
+use Rattle.reply_core.specs.Answered.{proof_in, proof_octets, reply_in}
 
 -- the verdict's proof and TTL are those of the proof
 written_of : (question : Question) (now : ℕ) (proof : Proof) (verdict : Verdict) → IsVerdict now proof verdict → proof_octets question now proof ≡ reply_octets question (shown_by verdict) verdict.ttl

@@ -7,7 +7,7 @@ use Rattle.denial_records.specs.Proof.{Proof}
 use Rattle.denial_records.specs.declared.batch.Batch.{Batch}
 use Rattle.cache_meaning.specs.Held.{held_of}
 use Rattle.soundness.specs.Sound.{IsSound}
-use Rattle.replay_meaning.specs.Outcome.{proof_in, proof_octets}
+use Rattle.reply_core.specs.Answered.{proof_in, proof_octets}
 use Rattle.replay_meaning.specs.Frame.{Input}
 use Rattle.replay_meaning.specs.OutFrame.{Output}
 use Rattle.replay_meaning.specs.declared.out_frame.OutKind.TheVariants.{Reply}

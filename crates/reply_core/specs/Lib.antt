@@ -5,3 +5,4 @@ pub mod Error
 pub mod Draft
 pub mod Owner
 pub mod Count
+pub mod Answered

@@ -1,7 +1,7 @@
 //! Replies to DNS queries, written octet by octet (RFC 1035, section 4.1).
 //!
-//! Specs, in reading order: `Kept`, `Reply`, `Shown` and `Error`, which public clauses cite; and for the inner steps
-//! `Draft`, `Owner` and `Count`.
+//! Specs, in reading order: `Kept`, `Reply`, `Shown` and `Error`, which public clauses cite; `Answered`, the reply that held
+//! records give; and for the inner steps `Draft`, `Owner` and `Count`.
 #![tactic(auto)]
 
 mod counts;

@@ -50,14 +50,14 @@ collected owner rtype (r ∷ records) =
     ))
     (so_or_not (is_at owner rtype r) (at_decides owner rtype r))
 
-turned_back : (r s : Ordering) → r ≡ ordering_reverse s → is_gt r ≡ true → is_gt s ≡ false
+pub turned_back : (r s : Ordering) → r ≡ ordering_reverse s → is_gt r ≡ true → is_gt s ≡ false
 turned_back Less s back greater = cc
 turned_back Equal s back greater = cc
 turned_back Greater Less back greater = refl
 turned_back Greater Equal back greater = refl
 turned_back Greater Greater back greater = cc
 
-not_greater : (r : Ordering) → is_gt r ≡ false → r ≢ Greater
+pub not_greater : (r : Ordering) → is_gt r ≡ false → r ≢ Greater
 not_greater r most e = differs (sym (ap is_gt e) ∙ most)
   where
     differs : true ≡ false → ⊥

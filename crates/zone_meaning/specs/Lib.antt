@@ -7,3 +7,4 @@ pub mod HashedDenial
 pub mod HashedExamples
 pub mod Lookup
 pub mod Zone
+pub mod ZoneTable

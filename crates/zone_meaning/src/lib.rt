@@ -3,14 +3,19 @@
 //! `Lookup`, `Consistent`, `Denial`, `Hashed`, `HashedDenial`, and laws of them as functions with an empty body.
 #![tactic(auto)]
 
+mod add_fault;
 mod denial;
 mod denial_examples;
 mod examples;
+mod group;
 mod hashed_denial;
 mod hashed_examples;
+mod looked;
 mod lookup;
 mod same_records;
+mod zone_table;
 
+pub use add_fault::AddFault;
 pub use denial::{
     answer_by_a_set, closest_encloser, existence_inside, name_error, no_bar_above,
     no_data_by_a_match, no_data_by_a_wildcard, no_data_of_a_proof_type,
@@ -31,5 +36,7 @@ pub use hashed_examples::{
     a_zone_of_one_name, an_opt_out_match, the_zone_of_rfc_5155, what_each_hash_condition_keeps_out,
     what_is_not_true_of_a_hashed_zone, what_the_nsec3s_prove,
 };
+pub use looked::Looked;
 pub use lookup::{one_answer, some_answer};
 pub use same_records::order_means_nothing;
+pub use zone_table::ZoneTable;

@@ -1,5 +1,5 @@
 use Rattle.std.proofs.Common.{◌∙◌, Some, refl, sym, ap}
-use Rattle.replay_meaning.specs.Outcome.{reply_in}
+use Rattle.reply_core.specs.Answered.{reply_in}
 use Rattle.replay_meaning.proofs.VerdictLemmas.{verdict_is_reply}
 use Rattle.dnsreplay.proofs.cache.Cache.query.Goals as goal
 
