@@ -1,0 +1,5 @@
+pub mod OrderLemmas
+pub mod RingLemmas
+pub mod OwnerLemmas
+pub mod RecordLemmas
+pub mod TrueLemmas
