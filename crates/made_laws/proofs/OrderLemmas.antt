@@ -21,13 +21,29 @@ level a b xs ys upper least rest = by (nat_cmp (digit a) (digit b)) (ranked (dig
     by Equal same = rest (omega (arith, upper, same))
     by Greater more = absurd (omega (arith, upper, least, more))
 
+-- the last digits
+abbrev one_digit : ℕ → List ℕ
+one_digit i = digit i ∷ []
+
+abbrev two_digits : ℕ → List ℕ
+two_digits i = digit (i / 10) ∷ one_digit i
+
+abbrev three_digits : ℕ → List ℕ
+three_digits i = digit (i / 100) ∷ two_digits i
+
+abbrev four_digits : ℕ → List ℕ
+four_digits i = digit (i / 1000) ∷ three_digits i
+
+abbrev five_digits : ℕ → List ℕ
+five_digits i = digit (i / 10000) ∷ four_digits i
+
 pub digits_in_order : (i j : ℕ) → i < j → j < 1000000 → slice_cmp nat_cmp (six_digits i) (six_digits j) ≡ Less
 digits_in_order i j less small =
-    level (i / 100000) (j / 100000) _ _ (omega (arith, less, small)) (omega (arith, less)) (λ e.
-    level (i / 10000) (j / 10000) _ _ (omega (arith, e)) (omega (arith, less)) (λ e.
-    level (i / 1000) (j / 1000) _ _ (omega (arith, e)) (omega (arith, less)) (λ e.
-    level (i / 100) (j / 100) _ _ (omega (arith, e)) (omega (arith, less)) (λ e.
-    level (i / 10) (j / 10) _ _ (omega (arith, e)) (omega (arith, less)) (λ e.
+    level (i / 100000) (j / 100000) (five_digits i) (five_digits j) (omega (arith, less, small)) (omega (arith, less)) (λ e.
+    level (i / 10000) (j / 10000) (four_digits i) (four_digits j) (omega (arith, e)) (omega (arith, less)) (λ e.
+    level (i / 1000) (j / 1000) (three_digits i) (three_digits j) (omega (arith, e)) (omega (arith, less)) (λ e.
+    level (i / 100) (j / 100) (two_digits i) (two_digits j) (omega (arith, e)) (omega (arith, less)) (λ e.
+    level (i / 10) (j / 10) (one_digit i) (one_digit j) (omega (arith, e)) (omega (arith, less)) (λ e.
     level i j [] [] e (omega (arith, less)) (λ e. absurd (omega (arith, e, less))))))))
 
 -- ---- names

@@ -14,6 +14,7 @@ use Rattle.zone_meaning.specs.ZoneTable.{zone_record}
 use Rattle.zone_meaning.specs.Consistent.{SetPart, NsecPart, IsConsistentSet, IsConsistentNsec}
 use Rattle.zone_meaning.proofs.ZoneTests.{here, later, first_or_later, nowhere}
 use Rattle.zone_maker.specs.Made.{made_example, name_server, name_at, Turn, Host, Above, Cut, Wild, turn_at, owner_in, type_in, data_in, record_in, address_at, soa_data, made_zone, made_owner, next_owner}
+use Rattle.made_laws.specs.MadeNsec.{types_at, nsec_at}
 use Rattle.made_laws.proofs.OrderLemmas.{label_at, owner_is_no_apex, owners_rise}
 use Rattle.made_laws.proofs.RingLemmas.{none_before_next, none_after_last}
 use Rattle.made_laws.proofs.OwnerLemmas.{one_owner}
@@ -21,11 +22,6 @@ use Rattle.made_laws.proofs.RecordLemmas.{IsMade, made_record, has_soa, has_serv
 use Rattle.made_laws.proofs.RecordLemmas.IsMade.{soa, servers, named}
 
 -- ---- types
-
--- the types in the bit map of an owner's NSEC
-abbrev pub types_at : ℕ → List ℕ
-types_at zero = NS_TYPE ∷ SOA_TYPE ∷ RRSIG_TYPE ∷ NSEC_TYPE ∷ []
-types_at (suc i) = type_in (turn_at i) ∷ RRSIG_TYPE ∷ NSEC_TYPE ∷ []
 
 one_of : (types : List ℕ) (rtype other : ℕ) → rtype ≡ other → Contains types other → Contains types rtype
 one_of types rtype other same in' = subst (λ t. Contains types t) (sym same) in'
@@ -70,10 +66,6 @@ there_type seed names (suc i) rtype small ordinary in' = ⊎_elim
     (first_or_later (type_in (turn_at i)) (RRSIG_TYPE ∷ NSEC_TYPE ∷ []) rtype in')
 
 -- ---- NSEC records
-
--- the NSEC of an owner
-abbrev pub nsec_at : ℕ → ℕ → NsecPart
-nsec_at names k = record { zone = made_example; owner = made_owner k; next = next_owner names k; types = types_at k }
 
 -- behind it the next owner, or behind the last the apex
 pub next_by : (names k : ℕ) → k ≤ names → ((k < names) × (next_owner names k ≡ made_owner (suc k))) ⊎ ((k ≡ names) × (next_owner names k ≡ made_example))

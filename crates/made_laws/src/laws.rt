@@ -1,8 +1,13 @@
-ghost use Rattle.std.specs.Prelude.{◌≤◌, ℕ};
+ghost use Rattle.std.specs.Prelude.{◌≤◌, ◌<◌, ℕ, suc};
+ghost use Rattle.dname.specs.Name.{canonical_cmp};
+ghost use Rattle.zone_meaning.specs.Zone.{IsLive};
 ghost use Rattle.zone_meaning.specs.Consistent.{IsConsistentNsec};
-ghost use Rattle.zone_maker.specs.Made.{made_zone, made_owner, next_owner};
+ghost use Rattle.zone_maker.specs.Made.{made_zone, made_owner};
+ghost use Rattle.made_laws.specs.MadeNsec.{nsec_at};
 
-/// Nothing.
+/// Each owner's NSEC is true of the made zone: the owners stand in canonical order, all of them are live and no other name
+/// is, and the types are the owner's.
 pub fn each_made_nsec_is_true()
-    ensures { (names : ℕ) → names ≤ names }
+    ensures { (seed names k : ℕ) → names ≤ 10000 → k ≤ names
+        → IsConsistentNsec (made_zone seed names) (nsec_at names k) }
 {}
