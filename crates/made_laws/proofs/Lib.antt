@@ -3,3 +3,4 @@ pub mod RingLemmas
 pub mod OwnerLemmas
 pub mod RecordLemmas
 pub mod TrueLemmas
+pub mod WrittenLemmas
