@@ -4,3 +4,6 @@ pub mod OwnerLemmas
 pub mod RecordLemmas
 pub mod TrueLemmas
 pub mod WrittenLemmas
+pub mod PlainLemmas
+pub mod MessageLemmas
+pub mod SectionLemmas

@@ -22,19 +22,19 @@ level a b xs ys upper least rest = by (nat_cmp (digit a) (digit b)) (ranked (dig
     by Greater more = absurd (omega (arith, upper, least, more))
 
 -- the last digits
-abbrev one_digit : ℕ → List ℕ
+abbrev pub one_digit : ℕ → List ℕ
 one_digit i = digit i ∷ []
 
-abbrev two_digits : ℕ → List ℕ
+abbrev pub two_digits : ℕ → List ℕ
 two_digits i = digit (i / 10) ∷ one_digit i
 
-abbrev three_digits : ℕ → List ℕ
+abbrev pub three_digits : ℕ → List ℕ
 three_digits i = digit (i / 100) ∷ two_digits i
 
-abbrev four_digits : ℕ → List ℕ
+abbrev pub four_digits : ℕ → List ℕ
 four_digits i = digit (i / 1000) ∷ three_digits i
 
-abbrev five_digits : ℕ → List ℕ
+abbrev pub five_digits : ℕ → List ℕ
 five_digits i = digit (i / 10000) ∷ four_digits i
 
 pub digits_in_order : (i j : ℕ) → i < j → j < 1000000 → slice_cmp nat_cmp (six_digits i) (six_digits j) ≡ Less
