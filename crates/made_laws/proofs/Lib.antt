@@ -7,3 +7,5 @@ pub mod WrittenLemmas
 pub mod PlainLemmas
 pub mod MessageLemmas
 pub mod SectionLemmas
+pub mod ContainLemmas
+pub mod TakenLemmas

@@ -1,13 +1,23 @@
-ghost use Rattle.std.specs.Prelude.{◌≤◌, ◌<◌, ℕ, suc};
-ghost use Rattle.dname.specs.Name.{canonical_cmp};
-ghost use Rattle.zone_meaning.specs.Zone.{IsLive};
+ghost use Rattle.std.specs.Prelude.{◌≤◌, ℕ, Ok};
+ghost use Rattle.std.specs.List.{All};
 ghost use Rattle.zone_meaning.specs.Consistent.{IsConsistentNsec};
-ghost use Rattle.zone_maker.specs.Made.{made_zone, made_owner};
+ghost use Rattle.soundness.specs.True.{IsTrueOf};
+ghost use Rattle.intake.specs.Batch.{Gives};
+ghost use Rattle.intake.specs.declared.taken.Taken.{Taken};
+ghost use Rattle.zone_maker.specs.Made.{made_zone};
+ghost use Rattle.zone_maker.specs.Messages.{message_at};
 ghost use Rattle.made_laws.specs.MadeNsec.{nsec_at};
 
-/// Each owner's NSEC is true of the made zone: the owners stand in canonical order, all of them are live and no other name
-/// is, and the types are the owner's.
+/// Each owner's NSEC is true of the made zone: the owners are its live names, in canonical order, and the types are the
+/// owner's.
 pub fn each_made_nsec_is_true()
     ensures { (seed names k : ℕ) → names ≤ 10000 → k ≤ names
         → IsConsistentNsec (made_zone seed names) (nsec_at names k) }
+{}
+
+/// Whatever intake takes from a made message, at whatever moment, is true of the made zone.
+pub fn every_made_record_is_true()
+    ensures { (seed names k now : ℕ) (taken : Taken) → names ≤ 10000 → k ≤ names
+        → Gives (message_at seed names k) now (Ok taken)
+        → All (IsTrueOf (made_zone seed names)) taken.batch.records }
 {}

@@ -1,7 +1,9 @@
-//! The laws of the made zone: what a resolver's intake takes from its messages is true of it.
-//! Read `laws.rt`.
+//! The laws of the made zone: what intake takes from its messages is true of it.
+//!
+//! The zone and its messages are `zone_maker`'s, for every seed and number of names; what is true of a zone is
+//! `soundness`'s.
 #![tactic(auto)]
 
 mod laws;
 
-pub use laws::each_made_nsec_is_true;
+pub use laws::{each_made_nsec_is_true, every_made_record_is_true};
