@@ -45,7 +45,7 @@ into_map {Y = Y} f (y ∷ ys) x in' = ⊎_elim
     (λ (more : Contains ys x). later (f y) (map f ys) (f x) (into_map f ys x more))
     (first_or_later y ys x in')
 
-all_once : {X : Type 0} (alike : X → X → Bool) (P : X → Type 0) (xs : List X) → All P xs → All P (each_once alike xs)
+pub all_once : {X : Type 0} (alike : X → X → Bool) (P : X → Type 0) (xs : List X) → All P xs → All P (each_once alike xs)
 all_once alike P [] all = All-nil P
 all_once alike P (x ∷ xs) all = All-cons P x (filter (λ y. not (alike x y)) (each_once alike xs)) (All-head P x xs all)
     (All-filter (λ y. not (alike x y)) P (each_once alike xs) (all_once alike P xs (All-tail P x xs all)))

@@ -9,3 +9,6 @@ pub mod MessageLemmas
 pub mod SectionLemmas
 pub mod ContainLemmas
 pub mod TakenLemmas
+pub mod GivenLemmas
+pub mod KeptLemmas
+pub mod WholeLemmas

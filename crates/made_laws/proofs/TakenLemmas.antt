@@ -88,7 +88,7 @@ module _ (seed names k : ℕ) where
 
 -- ---- signatures
 
-not_signing : (rr : Rr) → is_rrsig rr ≡ false → rr.rtype ≡ RRSIG_TYPE → ⊥
+pub not_signing : (rr : Rr) → is_rrsig rr ≡ false → rr.rtype ≡ RRSIG_TYPE → ⊥
 not_signing rr plain is =
     let e : is_rrsig rr ≡ true = (Decides-eqb rr.rtype RRSIG_TYPE).1 is in
     cc
@@ -100,19 +100,22 @@ is_signing seed names k rr (of_soa is) yes-is = absurd (omega (arith, (Decides-e
 is_signing seed names k rr (of_nsec is) yes-is = absurd (omega (arith, (Decides-eqb rr.rtype RRSIG_TYPE).0 yes-is, ap (λ (r : Rr). r.rtype) is))
 is_signing seed names k rr (of_wildcard i n at is) yes-is = absurd (omega (arith, (Decides-eqb rr.rtype RRSIG_TYPE).0 yes-is, ap (λ (r : Rr). r.rtype) is))
 
+-- the signer's name stands behind 18 octets
+pub apex_spelled : Spells (wire_of made_example ++ 0x5a ∷ 0x5a ∷ 0x5a ∷ 0x5a ∷ []) made_example (length (wire_of made_example))
+apex_spelled = record {
+  labels = made_example;
+  rest = 0x5a ∷ 0x5a ∷ 0x5a ∷ 0x5a ∷ [];
+  spelled = refl;
+  sizes = plain_apex.sizes;
+  size = refl;
+  fits = plain_apex.fits;
+  lower = plain_apex.lower;
+}
+
 -- what it says: the apex signed, and the labels are the owner's
 pub signature_says : (owner : List Label) (covered : ℕ) (rrsig : Rrsig) → IsRrsig (signature_data owner covered) rrsig → (rrsig.signer ≡ made_example) × (rrsig.labels ≡ owner_labels owner)
 signature_says owner covered rrsig reads = (
-  (one_name (drop 18 (signature_data owner covered)) rrsig.signer made_example reads.taken (length (wire_of made_example)) reads.name
-  (record {
-    labels = made_example;
-    rest = 0x5a ∷ 0x5a ∷ 0x5a ∷ 0x5a ∷ [];
-    spelled = refl;
-    sizes = plain_apex.sizes;
-    size = refl;
-    fits = plain_apex.fits;
-    lower = plain_apex.lower;
-  })).0,
+  (one_name (drop 18 (signature_data owner covered)) rrsig.signer made_example reads.taken (length (wire_of made_example)) reads.name apex_spelled).0,
   reads.label_count,
 )
 
@@ -130,7 +133,7 @@ group_signature seed names k now rrs rr all signature in' =
     let signs = is_signing seed names k from.0 (All-contains (IsOne seed names k) rrs from.0 all kept.0) tests.0 in
     record { covered = signs.0; is = sym from.2 ∙ signs.1 ∙ ap (λ o. signature_data o signs.0) (sym ((same_name_decides rr.owner from.0.owner).0 owners)) }
 
-not_fewer : (n : ℕ) → nat_lt n n ≡ false
+pub not_fewer : (n : ℕ) → nat_lt n n ≡ false
 not_fewer n = grind (arith, nat_tests)
 
 -- a group that is kept is the zone's, and as it stands there
@@ -200,7 +203,7 @@ map_types : (k : ℕ) → types_at k ≡ types_of (record { window = 0; bitmap =
 map_types zero = refl
 map_types (suc i) = block_types (turn_at i)
 
-is_map : (k : ℕ) → IsTypeMap (type_map (first_of k)) (types_at k)
+pub is_map : (k : ℕ) → IsTypeMap (type_map (first_of k)) (types_at k)
 is_map k = record {
   blocks = record { window = 0; bitmap = first_of k ∷ 0 ∷ 0 ∷ 0 ∷ 0 ∷ 3 ∷ [] } ∷ [];
   written = refl;
