@@ -13,7 +13,7 @@ use Rattle.made_laws.proofs.OwnerLemmas.{one_owner, none_below_cut}
 
 -- ---- a list made of numbers
 
-at_number : {X : Type 0} (f : ℕ → X) (n : ℕ) (x : X) → Contains (map f (range_with_len 0 n)) x → (i : ℕ) × (i < n) × (f i ≡ x)
+pub at_number : {X : Type 0} (f : ℕ → X) (n : ℕ) (x : X) → Contains (map f (range_with_len 0 n)) x → (i : ℕ) × (i < n) × (f i ≡ x)
 at_number f n x in' =
     let short : in'.0 < n = subst (λ m. in'.0 < m) (length-map-range_with_len f 0 n) in'.1 in
     (in'.0, short, sym (get_or-map-range_with_len f 0 n in'.0 in'.0 x short (omega arith)) ∙ in'.2)

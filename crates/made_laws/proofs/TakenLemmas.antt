@@ -36,8 +36,9 @@ use Rattle.intake.proofs.GroupLemmas.{together}
 use Rattle.intake.proofs.MessageLemmas.{one_message}
 use Rattle.intake.proofs.StoredLemmas.{nsec_same}
 use Rattle.zone_maker.specs.Made.{made_example, Turn, Host, Above, Cut, Wild, turn_at, type_in, data_in, address_at, soa_data, made_zone, made_owner, next_owner}
-use Rattle.zone_maker.specs.Messages.{signature_data, first_in, first_of, type_map, nsec_data, message_at}
+use Rattle.zone_maker.specs.Messages.{signature_data, first_in, first_of, type_map, nsec_data, message_at, messages_of}
 use Rattle.made_laws.specs.MadeNsec.{types_at, nsec_at}
+use Rattle.made_laws.proofs.RecordLemmas.{at_number}
 use Rattle.made_laws.proofs.TrueLemmas.{HasOnly, nsec_true, soa_true, named_true}
 use Rattle.made_laws.proofs.WrittenLemmas.{IsPlain, rr_of, rr_in}
 use Rattle.made_laws.proofs.PlainLemmas.{plain_apex, plain_next}
@@ -308,3 +309,8 @@ taken_true seed names k now taken few small gives = all_by_member (IsTrueOf (mad
         let in_group : Contains (groups_of now rrs) pair.0 = subst (λ (m : Message). Contains (groups_of now (m.answer ++ m.authority)) pair.0) is_message pair.1 in
         let from = group_from seed names k now few small rrs (each_one seed names k) pair.0 in_group in
         stored_true seed names k now few small rrs (each_one seed names k) from.0 kept from.1 from.2 (subst (λ (g : Group). IsStored now g kept) (sym from.3) pair.2)
+
+pub taken_true_among : (seed names now : ℕ) (message : List ℕ) (taken : Taken) → names ≤ 1000000 → Contains (messages_of seed names) message → Gives message now (Ok taken) → All (IsTrueOf (made_zone seed names)) taken.batch.records
+taken_true_among seed names now message taken few in' gives =
+    let at = at_number (message_at seed names) (names + 1) message in' in
+    taken_true seed names at.0 now taken few (omega (arith, at.1)) (subst (λ octets. Gives octets now (Ok taken)) (sym at.2) gives)

@@ -1,11 +1,11 @@
-ghost use Rattle.std.specs.Prelude.{◌≤◌, ℕ, Ok};
-ghost use Rattle.std.specs.List.{All};
+ghost use Rattle.std.specs.Prelude.{◌≡◌, ◌<◌, ◌≤◌, ℕ, List, Ok};
+ghost use Rattle.std.specs.List.{All, Contains};
 ghost use Rattle.zone_meaning.specs.Consistent.{IsConsistentNsec};
 ghost use Rattle.soundness.specs.True.{IsTrueOf};
 ghost use Rattle.intake.specs.Batch.{Gives};
 ghost use Rattle.intake.specs.declared.taken.Taken.{Taken};
 ghost use Rattle.zone_maker.specs.Made.{made_zone};
-ghost use Rattle.zone_maker.specs.Messages.{message_at};
+ghost use Rattle.zone_maker.specs.Messages.{message_at, messages_of};
 ghost use Rattle.made_laws.specs.MadeNsec.{nsec_at};
 
 /// Each owner's NSEC is true of the made zone: the owners are its live names, in canonical order, and the types are the
@@ -17,7 +17,17 @@ pub fn each_made_nsec_is_true()
 
 /// Whatever intake takes from a made message, at whatever moment, is true of the made zone.
 pub fn every_made_record_is_true()
-    ensures { (seed names k now : ℕ) (taken : Taken) → names ≤ 10000 → k ≤ names
+    ensures by_number { (seed names k now : ℕ) (taken : Taken) → names ≤ 10000 → k ≤ names
         → Gives (message_at seed names k) now (Ok taken)
         → All (IsTrueOf (made_zone seed names)) taken.batch.records }
+    ensures among_all { (seed names now : ℕ) (message : List ℕ) (taken : Taken) → names ≤ 10000
+        → Contains (messages_of seed names) message → Gives message now (Ok taken)
+        → All (IsTrueOf (made_zone seed names)) taken.batch.records }
+{}
+
+/// Before its signatures expire, intake takes each group of a made message.
+pub fn every_made_message_is_taken()
+    ensures { (seed names k now : ℕ) → names ≤ 10000 → k ≤ names → now < 2000000000
+        → (taken : Taken) × Gives (message_at seed names k) now (Ok taken)
+        × (taken.skipped ≡ 0) }
 {}
