@@ -12,3 +12,4 @@ pub mod TakenLemmas
 pub mod GivenLemmas
 pub mod KeptLemmas
 pub mod WholeLemmas
+pub mod HeldLemmas

@@ -6,7 +6,7 @@ use Rattle.std.specs.Option.{option_to_list}
 use Rattle.std.proofs.lemmas.Bool.{and_parts, cond-false}
 use Rattle.std.proofs.lemmas.Bool.Decides.{Decides-eqb, nat_tests}
 use Rattle.std.proofs.lemmas.List.{drop_at}
-use Rattle.std.proofs.lemmas.List.Elements.{All-nil, All-cons, All-append, All-contains, All-map, Contains-get_or}
+use Rattle.std.proofs.lemmas.List.Elements.{All-nil, All-cons, All-append, All-contains, All-map, All-weaker, Contains-get_or}
 use Rattle.dname.specs.Name.{Label, without_asterisk, wire_of}
 use Rattle.dname.specs.Read.{Spells}
 use Rattle.dname.specs.declared.types.TheConstants.{A_TYPE, DS_TYPE, NS_TYPE, NSEC_TYPE, NSEC3_TYPE, RRSIG_TYPE, SOA_TYPE}
@@ -23,9 +23,10 @@ use Rattle.denial_records.specs.declared.set_rec.SetRec.{SetRec}
 use Rattle.denial_records.specs.declared.nsec_rec.NsecRec.{NsecRec}
 use Rattle.denial_records.specs.declared.record.Record.{Record}
 use Rattle.denial_records.specs.declared.record.Record.TheVariants.{Set, Nsec, Nsec3}
+use Rattle.zone_meaning.specs.Zone.{Zone}
 use Rattle.zone_meaning.specs.Consistent.{SetPart, NsecPart, IsConsistentSet, IsConsistentNsec}
 use Rattle.zone_meaning.proofs.ZoneTests.{all_by_member, here, same_name_decides}
-use Rattle.soundness.specs.True.{set_part, nsec_part, IsTrueOf}
+use Rattle.soundness.specs.True.{set_part, nsec_part, IsTrueOf, IsClashFreeFor}
 use Rattle.intake.specs.Group.{Group, each_once, same_name, same_octets, is_together, is_rrsig, covers, group_of, groups_of}
 use Rattle.intake.specs.Signed.{Says, Agree}
 use Rattle.intake.specs.Stored.{owner_labels, signed_name, is_denial_type, IsKept, IsStored, IsStoredSet, IsStoredNsec}
@@ -223,6 +224,11 @@ nsec_reads names k small parts reads =
       map = subst (λ octets. IsTypeMap octets (types_at k)) (sym (drop_at (wire_of next) (type_map (first_of k)) (length (wire_of next)) refl)) (is_map k);
     })
 
+-- a record is true of the zone, and no hash has part in it
+pub record IsPlainlyTrue (zone : Zone) (kept : Record) : Type 0 where
+  pub is_true : IsTrueOf zone kept
+  pub no_clash : (name : List Label) → IsClashFreeFor zone name kept
+
 module _ (seed names k now : ℕ) (few : names ≤ 1000000) (small : k ≤ names) (rrs : List Rr) (all : All (IsOne seed names k) rrs) where
   denial : (rtype : ℕ) → rtype ≡ NSEC_TYPE → is_denial_type rtype ≡ false → ⊥
   denial rtype is plain = let e = ap is_denial_type is in cc
@@ -277,9 +283,9 @@ module _ (seed names k now : ℕ) (few : names ≤ 1000000) (small : k ≤ names
   no_nsec3 rr (of_wildcard i n at is) same = omega (arith, ap (λ (r : Rr). r.rtype) is, same)
 
   -- whatever a group of these records is stored as is true of the zone
-  pub stored_true : (rr : Rr) (kept : Record) → Contains rrs rr → is_rrsig rr ≡ false → IsStored now (group_of now rrs rr) kept → IsTrueOf (made_zone seed names) kept
-  stored_true rr (Set set) in' plain stored = set_true rr set (All-contains (IsOne seed names k) rrs rr all in') plain in' stored
-  stored_true rr (Nsec nsec) in' plain stored = nsec_rec_true rr nsec (All-contains (IsOne seed names k) rrs rr all in') in' stored
+  pub stored_true : (rr : Rr) (kept : Record) → Contains rrs rr → is_rrsig rr ≡ false → IsStored now (group_of now rrs rr) kept → IsPlainlyTrue (made_zone seed names) kept
+  stored_true rr (Set set) in' plain stored = record { is_true = set_true rr set (All-contains (IsOne seed names k) rrs rr all in') plain in' stored; no_clash = λ name. tt }
+  stored_true rr (Nsec nsec) in' plain stored = record { is_true = nsec_rec_true rr nsec (All-contains (IsOne seed names k) rrs rr all in') in' stored; no_clash = λ name. tt }
   stored_true rr (Nsec3 nsec3) in' plain stored = absurd (no_nsec3 rr (All-contains (IsOne seed names k) rrs rr all in') stored.type_is)
 
   -- each group is that of one of the records
@@ -294,14 +300,14 @@ module _ (seed names k now : ℕ) (few : names ≤ 1000000) (small : k ≤ names
       false_from_not false e = refl
 
 -- each record that intake takes from a made message is true of the zone
-pub taken_true : (seed names k now : ℕ) (taken : Taken) → names ≤ 1000000 → k ≤ names → Gives (message_at seed names k) now (Ok taken) → All (IsTrueOf (made_zone seed names)) taken.batch.records
-taken_true seed names k now taken few small gives = all_by_member (IsTrueOf (made_zone seed names)) taken.batch.records by
+pub taken_plain : (seed names k now : ℕ) (taken : Taken) → names ≤ 1000000 → k ≤ names → Gives (message_at seed names k) now (Ok taken) → All (IsPlainlyTrue (made_zone seed names)) taken.batch.records
+taken_plain seed names k now taken few small gives = all_by_member (IsPlainlyTrue (made_zone seed names)) taken.batch.records by
   where
     rrs : List Rr
     rrs = (made_message seed names k).answer ++ (made_message seed names k).authority
     is_message : gives.accepted.message ≡ made_message seed names k
     is_message = one_message (message_at seed names k) gives.accepted.message (made_message seed names k) gives.accepted.reads (made_reads seed names k small)
-    by : (kept : Record) → Contains taken.batch.records kept → IsTrueOf (made_zone seed names) kept
+    by : (kept : Record) → Contains taken.batch.records kept → IsPlainlyTrue (made_zone seed names) kept
     by kept in' =
         let brings = gives.accepted.brings in
         let in_taken : Contains (flat_map option_to_list brings.taken) kept = subst (λ (b : Batch). Contains b.records kept) brings.batch_is in' in
@@ -310,7 +316,15 @@ taken_true seed names k now taken few small gives = all_by_member (IsTrueOf (mad
         let from = group_from seed names k now few small rrs (each_one seed names k) pair.0 in_group in
         stored_true seed names k now few small rrs (each_one seed names k) from.0 kept from.1 from.2 (subst (λ (g : Group). IsStored now g kept) (sym from.3) pair.2)
 
+pub taken_true : (seed names k now : ℕ) (taken : Taken) → names ≤ 1000000 → k ≤ names → Gives (message_at seed names k) now (Ok taken) → All (IsTrueOf (made_zone seed names)) taken.batch.records
+taken_true seed names k now taken few small gives =
+    All-weaker (IsPlainlyTrue (made_zone seed names)) (IsTrueOf (made_zone seed names)) (λ item h. h.is_true) taken.batch.records (taken_plain seed names k now taken few small gives)
+
+pub taken_plain_among : (seed names now : ℕ) (message : List ℕ) (taken : Taken) → names ≤ 1000000 → Contains (messages_of seed names) message → Gives message now (Ok taken) → All (IsPlainlyTrue (made_zone seed names)) taken.batch.records
+taken_plain_among seed names now message taken few in' gives =
+    let at = at_number (message_at seed names) (names + 1) message in' in
+    taken_plain seed names at.0 now taken few (omega (arith, at.1)) (subst (λ octets. Gives octets now (Ok taken)) (sym at.2) gives)
+
 pub taken_true_among : (seed names now : ℕ) (message : List ℕ) (taken : Taken) → names ≤ 1000000 → Contains (messages_of seed names) message → Gives message now (Ok taken) → All (IsTrueOf (made_zone seed names)) taken.batch.records
 taken_true_among seed names now message taken few in' gives =
-    let at = at_number (message_at seed names) (names + 1) message in' in
-    taken_true seed names at.0 now taken few (omega (arith, at.1)) (subst (λ octets. Gives octets now (Ok taken)) (sym at.2) gives)
+    All-weaker (IsPlainlyTrue (made_zone seed names)) (IsTrueOf (made_zone seed names)) (λ item h. h.is_true) taken.batch.records (taken_plain_among seed names now message taken few in' gives)

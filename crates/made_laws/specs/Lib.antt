@@ -1,1 +1,2 @@
 pub mod MadeNsec
+pub mod MadeBatch

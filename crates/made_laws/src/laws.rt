@@ -1,11 +1,19 @@
-ghost use Rattle.std.specs.Prelude.{◌≡◌, ◌<◌, ◌≤◌, ℕ, List, Ok};
+ghost use Rattle.std.specs.Prelude.{◌≡◌, ◌<◌, ◌≤◌, ℕ, List, Some, Ok};
 ghost use Rattle.std.specs.List.{All, Contains};
+ghost use Rattle.dname.specs.Name.{Label};
+ghost use Rattle.denial_records.specs.Proof.{Proof};
+ghost use Rattle.denial_records.specs.declared.batch.Batch.{Batch};
 ghost use Rattle.zone_meaning.specs.Consistent.{IsConsistentNsec};
+ghost use Rattle.zone_meaning.specs.Lookup.{LooksUp};
+ghost use Rattle.cache_meaning.specs.Held.{held_of};
+ghost use Rattle.cache_meaning.specs.Prove.{outcome_of};
 ghost use Rattle.soundness.specs.True.{IsTrueOf};
+ghost use Rattle.soundness.specs.Sound.{said_by};
 ghost use Rattle.intake.specs.Batch.{Gives};
 ghost use Rattle.intake.specs.declared.taken.Taken.{Taken};
 ghost use Rattle.zone_maker.specs.Made.{made_zone};
 ghost use Rattle.zone_maker.specs.Messages.{message_at, messages_of};
+ghost use Rattle.made_laws.specs.MadeBatch.{IsMadeBatch};
 ghost use Rattle.made_laws.specs.MadeNsec.{nsec_at};
 
 /// Each owner's NSEC is true of the made zone: the owners are its live names, in canonical order, and the types are the
@@ -30,4 +38,13 @@ pub fn every_made_message_is_taken()
     ensures { (seed names k now : ℕ) → names ≤ 10000 → k ≤ names → now < 2000000000
         → (taken : Taken) × Gives (message_at seed names k) now (Ok taken)
         × (taken.skipped ≡ 0) }
+{}
+
+/// What the cache proves from made messages alone is what the made zone says.
+pub fn each_made_answer_is_the_zones()
+    ensures { (seed names now : ℕ) (batches : List Batch) (name : List Label) (qtype qclass : ℕ)
+        (proof : Proof)
+        → names ≤ 10000 → All (IsMadeBatch seed names) batches
+        → outcome_of (held_of batches) now name qtype qclass ≡ Some proof
+        → LooksUp (made_zone seed names) name qtype (said_by proof) }
 {}
