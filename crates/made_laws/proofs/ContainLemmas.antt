@@ -1,9 +1,8 @@
 -- What is in a list that was filtered, mapped, or of which each value was kept once.
-use Rattle.std.proofs.Common.{◌≡◌, ◌↔◌, Bool, true, false, not, ℕ, ◌<◌, ◌≤◌, if◌then◌else◌, List, [], ◌∷◌, ◌++◌, length, map, Option, Some, None, refl, sym, ◌∙◌, ap, subst, arith, ◌⊎◌, ⊎_elim}
-use Rattle.std.specs.Prelude.{slice_index_or}
+use Rattle.std.proofs.Common.{◌≡◌, Bool, true, false, not, ◌≤◌, if◌then◌else◌, List, [], ◌∷◌, length, map, Option, Some, None, refl, sym, ◌∙◌, ap, subst, arith, ⊎_elim}
 use Rattle.std.specs.List.{All, AllZip, Contains, filter, flat_map}
 use Rattle.std.specs.Option.{option_to_list}
-use Rattle.std.proofs.lemmas.List.Elements.{All-nil, All-cons, All-head, All-tail, All-map, All-contains, All-filter, All-weaker, All-contains_itself, filter_passes, Contains-append_cases}
+use Rattle.std.proofs.lemmas.List.Elements.{All-nil, All-cons, All-head, All-tail, All-contains, All-filter, All-contains_itself, filter_passes}
 use Rattle.zone_meaning.proofs.ZoneTests.{here, later, first_or_later, nowhere}
 use Rattle.intake.specs.Group.{each_once}
 
@@ -20,6 +19,7 @@ into_filter {X} p (y ∷ ys) x in' passes = kept (p y) refl (λ more. into_filte
   where
     differs : false ≡ true → ⊥
     differs e = cc
+
     kept : (b : Bool) → p y ≡ b → (Contains ys x → Contains (filter p ys) x) → Contains (if b then y ∷ filter p ys else filter p ys) x
     kept true is rest = ⊎_elim
         (λ (same : y ≡ x). subst (λ z. Contains (y ∷ filter p ys) z) same (here y (filter p ys)))

@@ -1,41 +1,27 @@
 -- Until its signatures expire, intake takes all groups of a made message.
-use Rattle.std.proofs.Common.{◌≡◌, ◌≢◌, Bool, true, false, not, ◌&&◌, ℕ, zero, suc, ◌+◌, ◌-◌, ◌%◌, ◌^◌, ◌<◌, ◌≤◌, min, fold, if◌then◌else◌, ◌⊎◌, List, [], ◌∷◌, ◌++◌, length, map, drop, count_by, IsTrue, is_none, Option, Some, None, Result, Ok, refl, sym, ◌∙◌, ap, subst, arith}
-use Rattle.std.specs.Prelude.{◌==◌, nat_lt}
-use Rattle.std.specs.List.{All, AllZip, Contains, filter, flat_map}
-use Rattle.std.specs.Option.{option_to_list}
-use Rattle.std.proofs.lemmas.Bool.{and_from, cond-true, cond-false}
+use Rattle.std.proofs.Common.{◌≡◌, Bool, true, false, not, ℕ, ◌-◌, ◌^◌, ◌<◌, ◌≤◌, min, fold, List, [], ◌∷◌, length, drop, refl, sym, ◌∙◌, ap, subst, arith}
+use Rattle.std.specs.Prelude.{◌==◌}
+use Rattle.std.specs.List.{All, AllZip, Contains, filter}
+use Rattle.std.proofs.lemmas.Bool.{and_from, cond-false}
 use Rattle.std.proofs.lemmas.Bool.Decides.{Decides-eqb, Decides-ltb}
-use Rattle.std.proofs.lemmas.List.{drop_at, length-map}
-use Rattle.std.proofs.lemmas.List.Elements.{All-nil, All-cons, All-head, All-tail, All-append, All-contains, All-map, All-weaker, All-from_recursion, Contains-get_or, Contains-append_left, Contains-append_right}
-use Rattle.byteorder.specs.Endian.{big_number, big_bytes}
+use Rattle.std.proofs.lemmas.List.Elements.{All-nil, All-cons, All-head, All-tail, All-weaker}
+use Rattle.byteorder.specs.Endian.{big_number}
 use Rattle.byteorder.specs.Numbers.{big_number-reads_back}
-use Rattle.dname.specs.Name.{Label, IsUnder, without_asterisk, wire_of}
-use Rattle.dname.specs.Read.{Spells}
-use Rattle.dname.specs.declared.types.TheConstants.{A_TYPE, DS_TYPE, IN_CLASS, NSEC_TYPE, RRSIG_TYPE, SOA_TYPE}
+use Rattle.dname.specs.Name.{Label, wire_of}
+use Rattle.dname.specs.declared.types.TheConstants.{IN_CLASS, RRSIG_TYPE}
 use Rattle.dnswire.specs.declared.rr.Rr.{Rr}
 use Rattle.denial_records.specs.Rrsig.{IsRrsig}
 use Rattle.denial_records.specs.declared.rrsig.Rrsig.{Rrsig}
-use Rattle.denial_records.specs.declared.record.Record.{Record}
-use Rattle.denial_records.specs.declared.record.Record.TheVariants.{Set, Nsec}
-use Rattle.zone_meaning.proofs.ZoneTests.{here, later, first_or_later, nowhere, same_name_decides}
+use Rattle.zone_meaning.proofs.ZoneTests.{here, later, nowhere, same_name_decides}
 use Rattle.std.specs.Cmp.Lexicographic.{bytes_decides}
-use Rattle.intake.specs.Group.{Group, each_once, same_octets, same_name, is_together, is_rrsig, is_ahead, seconds_to, covered_type, expiration_of, covers, group_of, groups_of}
-use Rattle.intake.specs.Signed.{Says, Agree, counted_ttl, least_of, life_of}
-use Rattle.intake.specs.Stored.{is_kept_type, is_single_type, is_own_type, is_apex_type, is_denial_type, owner_labels, signed_name, limit_of, IsInside, IsKept, IsStored}
-use Rattle.intake.specs.Batch.{IsTakenAs, Gives}
-use Rattle.intake.specs.declared.taken.Taken.{Taken}
-use Rattle.intake.proofs.GroupLemmas.{together}
-use Rattle.zone_maker.specs.Made.{made_example, Turn, Host, Above, Cut, Wild, turn_at, name_at, owner_in, address_at, soa_data, made_owner, next_owner}
-use Rattle.zone_maker.specs.Messages.{signature_data, first_of, type_map, nsec_data, message_at}
-use Rattle.made_laws.specs.MadeNsec.{types_at}
-use Rattle.made_laws.proofs.OrderLemmas.{label_at, owner_under}
-use Rattle.made_laws.proofs.TrueLemmas.{next_by}
-use Rattle.made_laws.proofs.WrittenLemmas.{rr_of, rr_in}
-use Rattle.made_laws.proofs.PlainLemmas.{plain_apex, plain_next}
-use Rattle.made_laws.proofs.SectionLemmas.{answer_for, answer_at, authority_at, made_message, made_reads}
-use Rattle.made_laws.proofs.ContainLemmas.{all_once, in_filter, into_filter, in_once, in_map, into_map}
-use Rattle.made_laws.proofs.TakenLemmas.{IsOne, each_one, apex_spelled, is_map, not_signing, not_fewer, IsSignedBy, group_signature, same_data, group_from}
-use Rattle.made_laws.proofs.TakenLemmas.IsOne.{signing, of_soa, of_nsec, of_wildcard}
+use Rattle.intake.specs.Group.{each_once, same_octets, same_name, is_rrsig, is_ahead, seconds_to, covered_type, covers}
+use Rattle.intake.specs.Signed.{Says}
+use Rattle.intake.specs.Stored.{owner_labels}
+use Rattle.zone_maker.specs.Made.{made_example}
+use Rattle.zone_maker.specs.Messages.{signature_data}
+use Rattle.made_laws.proofs.WrittenLemmas.{rr_of}
+use Rattle.made_laws.proofs.ContainLemmas.{all_once}
+use Rattle.made_laws.proofs.TakenLemmas.{apex_spelled, IsSignedBy}
 
 -- ---- lists
 

@@ -1,17 +1,16 @@
 -- What made messages alone bring to the cache is true of the made zone, and so is what is proved from it.
-use Rattle.std.proofs.Common.{◌≡◌, Bool, true, false, not, ℕ, ◌<◌, ◌≤◌, if◌then◌else◌, fold, List, [], ◌∷◌, ◌++◌, Option, Some, None, Result, Ok, refl, sym, ap, subst, arith}
-use Rattle.std.specs.List.{All, Contains, filter, list_any}
+use Rattle.std.proofs.Common.{◌≡◌, Bool, true, false, not, ℕ, ◌≤◌, if◌then◌else◌, fold, List, [], ◌∷◌, Option, Some, None, sym, subst}
+use Rattle.std.specs.List.{All, filter, list_any}
 use Rattle.std.proofs.lemmas.List.Elements.{All-nil, All-head, All-tail, All-push, All-filter, All-contains, All-weaker}
 use Rattle.dname.specs.Name.{Label}
 use Rattle.denial_records.specs.Proof.{Proof, used_in}
 use Rattle.denial_records.specs.declared.batch.Batch.{Batch}
 use Rattle.denial_records.specs.declared.record.Record.{Record}
 use Rattle.zone_meaning.specs.Lookup.{LooksUp}
-use Rattle.cache_meaning.specs.Held.{Held, ZoneChain, nothing_held, chain_of, same_zone_chain, is_usable, displaces, goes, held_where, without_chain, without_third, third_of, with_new_chain, with_chain, held_with, within_limit, held_after, held_of}
+use Rattle.cache_meaning.specs.Held.{Held, ZoneChain, nothing_held, chain_of, same_zone_chain, is_usable, displaces, held_where, without_third, with_new_chain, with_chain, held_with, held_after, held_of}
 use Rattle.cache_meaning.specs.Prove.{outcome_of}
 use Rattle.soundness.specs.True.{IsTrueOf, IsClashFreeFor}
-use Rattle.soundness.specs.Sound.{said_by, HasUsed, IsUsable}
-use Rattle.soundness.proofs.SoundLemmas.{IsProved}
+use Rattle.soundness.specs.Sound.{said_by, IsUsable}
 use Rattle.soundness.proofs.QueryLemmas.{outcome_sound}
 use Rattle.zone_maker.specs.Made.{made_zone}
 use Rattle.zone_maker.proofs.MadeLemmas.{made_is_zone}

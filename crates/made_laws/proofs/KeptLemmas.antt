@@ -1,15 +1,13 @@
 -- Each group of a made message is stored until its signatures expire.
-use Rattle.std.proofs.Common.{◌≡◌, ◌≢◌, Bool, true, false, not, ℕ, zero, suc, ◌+◌, ◌-◌, ◌%◌, ◌^◌, ◌<◌, ◌≤◌, if◌then◌else◌, ◌⊎◌, ⊎_elim, List, [], ◌∷◌, ◌++◌, length, map, drop, count_by, IsTrue, is_none, Option, Some, None, Result, Ok, refl, sym, ◌∙◌, ap, subst, arith}
-use Rattle.std.specs.Prelude.{◌==◌, nat_lt, fold, min}
-use Rattle.std.specs.List.{All, AllZip, Contains, filter, flat_map}
-use Rattle.std.specs.Option.{option_to_list}
+use Rattle.std.proofs.Common.{◌≡◌, Bool, true, false, ℕ, zero, suc, ◌+◌, ◌^◌, ◌<◌, ◌≤◌, if◌then◌else◌, ⊎_elim, List, [], ◌∷◌, ◌++◌, length, map, IsTrue, refl, sym, ◌∙◌, ap, subst, arith}
+use Rattle.std.specs.Prelude.{nat_lt}
+use Rattle.std.specs.List.{All, Contains, filter}
 use Rattle.std.proofs.lemmas.Bool.{cond-false}
-use Rattle.std.proofs.lemmas.List.{drop_at, length-map}
-use Rattle.std.proofs.lemmas.List.Elements.{All-nil, All-cons, All-append, All-contains, All-map, All-weaker, Contains-get_or, Contains-append_left, Contains-append_right}
-use Rattle.dname.specs.Name.{Label, IsUnder, without_asterisk, wire_of}
-use Rattle.dname.specs.declared.types.TheConstants.{A_TYPE, DS_TYPE, IN_CLASS, NSEC_TYPE, RRSIG_TYPE, SOA_TYPE}
+use Rattle.std.proofs.lemmas.List.{drop_at}
+use Rattle.std.proofs.lemmas.List.Elements.{All-cons, All-append, All-contains, All-map, Contains-get_or}
+use Rattle.dname.specs.Name.{Label, IsUnder, wire_of}
+use Rattle.dname.specs.declared.types.TheConstants.{NSEC_TYPE, RRSIG_TYPE}
 use Rattle.dnswire.specs.declared.rr.Rr.{Rr}
-use Rattle.denial_records.specs.NsecParts.{IsNsec}
 use Rattle.denial_records.specs.TypeSet.{IsTypeMap}
 use Rattle.denial_records.specs.declared.rrsig.Rrsig.{Rrsig}
 use Rattle.denial_records.specs.declared.nsec_parts.NsecParts.{NsecParts}
@@ -17,12 +15,11 @@ use Rattle.denial_records.specs.declared.set_rec.SetRec.{SetRec}
 use Rattle.denial_records.specs.declared.nsec_rec.NsecRec.{NsecRec}
 use Rattle.denial_records.specs.declared.record.Record.{Record}
 use Rattle.denial_records.specs.declared.record.Record.TheVariants.{Set, Nsec}
-use Rattle.zone_meaning.proofs.ZoneTests.{here, later, first_or_later, nowhere}
-use Rattle.intake.specs.Group.{Group, each_once, same_octets, is_together, is_rrsig, seconds_to, covers, group_of, groups_of}
-use Rattle.intake.specs.Signed.{counted_ttl, least_of, life_of}
-use Rattle.intake.specs.Stored.{is_kept_type, is_single_type, is_own_type, is_apex_type, is_denial_type, owner_labels, signed_name, limit_of, IsInside, IsKept, IsStored}
+use Rattle.intake.specs.Group.{Group, same_octets, is_together, is_rrsig, seconds_to, covers, group_of}
+use Rattle.intake.specs.Signed.{counted_ttl, life_of}
+use Rattle.intake.specs.Stored.{is_kept_type, is_denial_type, owner_labels, limit_of, IsInside, IsKept, IsStored}
 use Rattle.intake.proofs.GroupLemmas.{together}
-use Rattle.zone_maker.specs.Made.{made_example, Turn, Host, Above, Cut, Wild, turn_at, name_at, owner_in, address_at, soa_data, made_owner, next_owner}
+use Rattle.zone_maker.specs.Made.{made_example, Turn, Host, Above, Cut, Wild, turn_at, name_at, owner_in, made_owner, next_owner}
 use Rattle.zone_maker.specs.Messages.{signature_data, first_of, type_map, nsec_data}
 use Rattle.made_laws.specs.MadeNsec.{types_at}
 use Rattle.made_laws.proofs.OrderLemmas.{label_at, owner_under}

@@ -1,12 +1,10 @@
 -- A message that is written out reads as what was written.
-use Rattle.std.proofs.Common.{◌≡◌, ℕ, zero, suc, ◌+◌, ◌*◌, ◌%◌, ◌^◌, ◌<◌, ◌≤◌, List, [], ◌∷◌, ◌++◌, length, map, drop, refl, sym, ◌∙◌, ap, subst, arith, append_assoc, append-nil, length-append}
+use Rattle.std.proofs.Common.{◌≡◌, ℕ, ◌+◌, ◌%◌, ◌^◌, ◌<◌, List, [], ◌++◌, length, map, drop, refl, sym, ◌∙◌, ap, arith, append_assoc, append-nil}
 use Rattle.std.proofs.lemmas.List.{length-map}
-use Rattle.byteorder.specs.Endian.{big_number, big_bytes}
+use Rattle.byteorder.specs.Endian.{big_bytes}
 use Rattle.dname.specs.Name.{Label, wire_of}
 use Rattle.dname.specs.declared.types.TheConstants.{IN_CLASS}
-use Rattle.dnswire.specs.Header.{low_rcode}
-use Rattle.dnswire.specs.Message.{IsRr, IsMessage}
-use Rattle.dnswire.specs.InTurn.{StandInTurn}
+use Rattle.dnswire.specs.Message.{IsMessage}
 use Rattle.dnswire.specs.declared.message.Message.{Message}
 use Rattle.zone_maker.specs.Messages.{header_octets, question_octets}
 use Rattle.made_laws.proofs.WrittenLemmas.{behind, stands_within, number_stands, IsPlain, name_stands, Written, rr_in, octets_in, AreWritten, all_stand}

@@ -1,5 +1,5 @@
 -- Names with six decimal digits stand in the order of their numbers.
-use Rattle.std.proofs.Common.{◌≡◌, ◌≢◌, ℕ, zero, suc, ◌+◌, ◌/◌, ◌%◌, ◌<◌, ◌≤◌, List, [], ◌∷◌, ◌++◌, length, reverse, refl, sym, ◌∙◌, ap, arith}
+use Rattle.std.proofs.Common.{◌≡◌, ◌≢◌, ℕ, zero, suc, ◌/◌, ◌<◌, ◌≤◌, List, [], ◌∷◌, ◌++◌, length, reverse, refl, ◌∙◌, ap, arith}
 use Rattle.std.specs.Prelude.{codes}
 use Rattle.std.specs.declared.cmp.Ordering.{Ordering}
 use Rattle.std.specs.declared.cmp.Ordering.TheVariants.{Less, Equal, Greater}
@@ -8,7 +8,7 @@ use Rattle.std.specs.Cmp.Lexicographic.{slice_cmp}
 use Rattle.std.proofs.lemmas.Cmp.{ranked}
 use Rattle.dname.specs.Name.{Label, IsUnder, asterisk, label_cmp, canonical_cmp}
 use Rattle.dname.proofs.TogetherLemmas.{above_is_first}
-use Rattle.zone_maker.specs.Made.{made_example, digit, six_digits, name_at, Turn, Host, Above, Cut, Wild, turn_at, owner_in, made_owner}
+use Rattle.zone_maker.specs.Made.{made_example, digit, six_digits, Turn, Host, Above, Cut, Wild, turn_at, owner_in, made_owner}
 
 -- ---- numbers
 

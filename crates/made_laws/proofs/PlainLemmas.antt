@@ -1,12 +1,11 @@
 -- The names of a made zone are plain: short, and without capitals.
-use Rattle.std.proofs.Common.{◌≡◌, ℕ, zero, suc, ◌+◌, ◌/◌, ◌%◌, ◌<◌, ◌≤◌, ⊎_elim, ◌⊎◌, List, [], ◌∷◌, ◌++◌, length, map, refl, sym, ◌∙◌, ap, subst, arith}
+use Rattle.std.proofs.Common.{◌≡◌, ℕ, zero, suc, ◌/◌, ◌<◌, ◌≤◌, ⊎_elim, List, [], ◌∷◌, length, refl, sym, ◌∙◌, ap, subst, arith}
 use Rattle.std.specs.Prelude.{codes}
-use Rattle.std.specs.List.{All}
 use Rattle.std.specs.Char.{to_ascii_lowercase}
 use Rattle.std.proofs.lemmas.List.Elements.{All-nil, All-cons}
 use Rattle.std.proofs.lemmas.Str.Ascii.{lowercase_is}
 use Rattle.dname.specs.Name.{Label, HasLabelLength, asterisk, lowered, wire_of}
-use Rattle.zone_maker.specs.Made.{made_example, digit, six_digits, name_at, Turn, Host, Above, Cut, Wild, turn_at, owner_in, made_owner, next_owner}
+use Rattle.zone_maker.specs.Made.{made_example, digit, name_at, Turn, Host, Above, Cut, Wild, turn_at, owner_in, made_owner, next_owner}
 use Rattle.made_laws.proofs.OrderLemmas.{label_at, one_digit, two_digits, three_digits, four_digits, five_digits}
 use Rattle.made_laws.proofs.TrueLemmas.{next_by}
 use Rattle.made_laws.proofs.WrittenLemmas.{IsPlain}

@@ -1,15 +1,14 @@
 -- The records of a made zone, its cuts and its live names.
-use Rattle.std.proofs.Common.{◌≡◌, ◌≢◌, ℕ, zero, suc, ◌+◌, ◌<◌, ◌≤◌, ◌⊎◌, inl, inr, ⊎_elim, List, [], ◌∷◌, length, map, refl, sym, ◌∙◌, ap, subst, arith}
+use Rattle.std.proofs.Common.{◌≡◌, ℕ, zero, suc, ◌<◌, ◌≤◌, ◌⊎◌, inl, inr, ⊎_elim, List, ◌∷◌, map, refl, sym, ◌∙◌, ap, subst, arith}
 use Rattle.std.specs.List.{Contains, range_with_len}
 use Rattle.std.proofs.lemmas.List.FromFn.{length-map-range_with_len, get_or-map-range_with_len}
 use Rattle.dname.specs.Name.{Label, IsUnder, wire_of}
-use Rattle.dname.specs.declared.types.TheConstants.{A_TYPE, DNAME_TYPE, NS_TYPE, SOA_TYPE}
+use Rattle.dname.specs.declared.types.TheConstants.{DNAME_TYPE, NS_TYPE, SOA_TYPE}
 use Rattle.zone_meaning.specs.Zone.{ZoneRecord, HasType, IsBar, IsBelow, IsCut, IsLive, IsOwner}
 use Rattle.zone_meaning.specs.ZoneTable.{zone_record}
 use Rattle.zone_meaning.proofs.ZoneTests.{here, later, first_or_later}
 use Rattle.zone_maker.specs.Made.{made_example, name_server, name_at, Turn, Host, Above, Cut, Wild, turn_at, owner_in, type_in, data_in, record_in, soa_data, made_zone, made_owner}
-use Rattle.made_laws.proofs.OrderLemmas.{label_at, owner_is_no_apex}
-use Rattle.made_laws.proofs.OwnerLemmas.{one_owner, none_below_cut}
+use Rattle.made_laws.proofs.OwnerLemmas.{none_below_cut}
 
 -- ---- a list made of numbers
 

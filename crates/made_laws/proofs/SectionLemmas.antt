@@ -1,17 +1,14 @@
 -- The messages of a made zone read as their records.
-use Rattle.std.proofs.Common.{◌≡◌, ℕ, zero, suc, ◌+◌, ◌%◌, ◌^◌, ◌<◌, ◌≤◌, ⊎_elim, ◌⊎◌, List, [], ◌∷◌, ◌++◌, length, map, refl, sym, ◌∙◌, ap, subst, arith, append_assoc, append-nil, length-append}
-use Rattle.std.specs.List.{All}
-use Rattle.std.proofs.lemmas.List.Elements.{All-nil, All-cons, All-append}
+use Rattle.std.proofs.Common.{◌≡◌, ℕ, zero, suc, ◌%◌, ◌^◌, ◌≤◌, List, [], ◌∷◌, ◌++◌, length, refl, sym, ◌∙◌, ap, subst, arith, append_assoc, append-nil, length-append}
+use Rattle.std.proofs.lemmas.List.Elements.{All-nil}
 use Rattle.byteorder.specs.Endian.{big_bytes}
 use Rattle.dname.specs.Name.{Label, without_asterisk, wire_of}
 use Rattle.dname.specs.declared.types.TheConstants.{A_TYPE, NSEC_TYPE, RRSIG_TYPE, SOA_TYPE}
 use Rattle.dnswire.specs.Message.{IsMessage}
 use Rattle.dnswire.specs.declared.message.Message.{Message}
-use Rattle.dnswire.specs.declared.rr.Rr.{Rr}
-use Rattle.zone_maker.specs.Made.{made_example, name_at, Turn, Host, Above, Cut, Wild, turn_at, owner_in, address_at, soa_data, made_owner, next_owner}
+use Rattle.zone_maker.specs.Made.{made_example, Turn, Host, Above, Cut, Wild, turn_at, address_at, soa_data, made_owner, next_owner}
 use Rattle.zone_maker.specs.Messages.{header_octets, question_octets, record_octets, signature_data, signed_octets, first_of, type_map, nsec_data, answer_in, answers_in, answer_of, answers_of, message_flags, message_at}
-use Rattle.made_laws.proofs.TrueLemmas.{next_by}
-use Rattle.made_laws.proofs.WrittenLemmas.{IsPlain, IsLaidOut, nothing, the_rest, name_then, laid_none, laid_rest, laid_numbers, laid_name, rr_of, IsWritten, Written, rr_in, octets_of, octets_in, AreWritten}
+use Rattle.made_laws.proofs.WrittenLemmas.{IsPlain, nothing, the_rest, name_then, laid_none, laid_rest, laid_numbers, laid_name, IsWritten, Written, octets_in, AreWritten}
 use Rattle.made_laws.proofs.PlainLemmas.{plain_apex, plain_owner, plain_next}
 use Rattle.made_laws.proofs.MessageLemmas.{message_of, message_octets, message_reads}
 

@@ -1,21 +1,21 @@
 -- What intake takes from a made message is true of the made zone.
-use Rattle.std.proofs.Common.{◌≡◌, ◌≢◌, ◌↔◌, Bool, true, false, not, ◌&&◌, ℕ, zero, suc, ◌+◌, ◌-◌, ◌%◌, ◌^◌, ◌<◌, ◌≤◌, if◌then◌else◌, ◌⊎◌, inl, inr, ⊎_elim, List, [], ◌∷◌, ◌++◌, length, map, drop, Option, Some, None, Result, Ok, refl, sym, ◌∙◌, ap, subst, arith}
-use Rattle.std.specs.Prelude.{◌==◌, nat_lt, slice_index}
+use Rattle.std.proofs.Common.{◌≡◌, Bool, true, false, not, ℕ, zero, suc, ◌+◌, ◌≤◌, List, [], ◌∷◌, ◌++◌, length, map, drop, Ok, refl, sym, ◌∙◌, ap, subst, arith}
+use Rattle.std.specs.Prelude.{◌==◌, nat_lt}
 use Rattle.std.specs.List.{All, Contains, filter, flat_map}
 use Rattle.std.specs.Option.{option_to_list}
 use Rattle.std.proofs.lemmas.Bool.{and_parts, cond-false}
 use Rattle.std.proofs.lemmas.Bool.Decides.{Decides-eqb, nat_tests}
 use Rattle.std.proofs.lemmas.List.{drop_at}
 use Rattle.std.proofs.lemmas.List.Elements.{All-nil, All-cons, All-append, All-contains, All-map, All-weaker, Contains-get_or}
-use Rattle.dname.specs.Name.{Label, without_asterisk, wire_of}
+use Rattle.dname.specs.Name.{Label, wire_of}
 use Rattle.dname.specs.Read.{Spells}
-use Rattle.dname.specs.declared.types.TheConstants.{A_TYPE, DS_TYPE, NS_TYPE, NSEC_TYPE, NSEC3_TYPE, RRSIG_TYPE, SOA_TYPE}
+use Rattle.dname.specs.declared.types.TheConstants.{A_TYPE, NSEC_TYPE, NSEC3_TYPE, RRSIG_TYPE, SOA_TYPE}
 use Rattle.dname.proofs.ReadLemmas.{one_name}
 use Rattle.dnswire.specs.declared.rr.Rr.{Rr}
 use Rattle.dnswire.specs.declared.message.Message.{Message}
 use Rattle.denial_records.specs.Rrsig.{IsRrsig}
 use Rattle.denial_records.specs.NsecParts.{IsNsec}
-use Rattle.denial_records.specs.TypeSet.{Block, IsTypeMap, types_of}
+use Rattle.denial_records.specs.TypeSet.{IsTypeMap, types_of}
 use Rattle.denial_records.specs.declared.rrsig.Rrsig.{Rrsig}
 use Rattle.denial_records.specs.declared.nsec_parts.NsecParts.{NsecParts}
 use Rattle.denial_records.specs.declared.batch.Batch.{Batch}
@@ -28,20 +28,19 @@ use Rattle.zone_meaning.specs.Consistent.{SetPart, NsecPart, IsConsistentSet, Is
 use Rattle.zone_meaning.proofs.ZoneTests.{all_by_member, here, same_name_decides}
 use Rattle.soundness.specs.True.{set_part, nsec_part, IsTrueOf, IsClashFreeFor}
 use Rattle.intake.specs.Group.{Group, each_once, same_name, same_octets, is_together, is_rrsig, covers, group_of, groups_of}
-use Rattle.intake.specs.Signed.{Says, Agree}
+use Rattle.intake.specs.Signed.{Says}
 use Rattle.intake.specs.Stored.{owner_labels, signed_name, is_denial_type, IsKept, IsStored, IsStoredSet, IsStoredNsec}
 use Rattle.intake.specs.Batch.{IsTakenAs, Gives}
-use Rattle.intake.specs.Pile.{key_of}
 use Rattle.intake.specs.declared.taken.Taken.{Taken}
 use Rattle.intake.proofs.GroupLemmas.{together}
 use Rattle.intake.proofs.MessageLemmas.{one_message}
 use Rattle.intake.proofs.StoredLemmas.{nsec_same}
 use Rattle.zone_maker.specs.Made.{made_example, Turn, Host, Above, Cut, Wild, turn_at, type_in, data_in, address_at, soa_data, made_zone, made_owner, next_owner}
 use Rattle.zone_maker.specs.Messages.{signature_data, first_in, first_of, type_map, nsec_data, message_at, messages_of}
-use Rattle.made_laws.specs.MadeNsec.{types_at, nsec_at}
+use Rattle.made_laws.specs.MadeNsec.{types_at}
 use Rattle.made_laws.proofs.RecordLemmas.{at_number}
 use Rattle.made_laws.proofs.TrueLemmas.{HasOnly, nsec_true, soa_true, named_true}
-use Rattle.made_laws.proofs.WrittenLemmas.{IsPlain, rr_of, rr_in}
+use Rattle.made_laws.proofs.WrittenLemmas.{rr_of, rr_in}
 use Rattle.made_laws.proofs.PlainLemmas.{plain_apex, plain_next}
 use Rattle.made_laws.proofs.SectionLemmas.{answer_for, answer_at, authority_at, made_message, made_reads}
 use Rattle.made_laws.proofs.ContainLemmas.{in_filter, into_filter, in_map, into_map, in_once, one_kept, in_pairs, first_pair}
@@ -182,13 +181,16 @@ group_data seed names k now rrs rr all in' plain octets = (
   where
     one : IsOne seed names k rr
     one = All-contains (IsOne seed names k) rrs rr all in'
+
     same : (other : Rr) → Contains (filter (is_together rr) rrs) other → other.octets ≡ rr.octets
     same other there =
         let kept = in_filter (is_together rr) rrs other there in
         let keys = (together.decides rr other).0 kept.1 in
         same_data seed names k rr other one (All-contains (IsOne seed names k) rrs other all kept.0) (not_signing rr plain) (λ i. (keys i).rtype)
+
     each : All (λ o. o ≡ rr.octets) (found_in rrs rr)
     each = All-map (λ o. o ≡ rr.octets) (λ (x : Rr). x.octets) (filter (is_together rr) rrs) (λ n d short. same _ (Contains-get_or (filter (is_together rr) rrs) n d short))
+
     own : Contains (found_in rrs rr) rr.octets
     own = into_map (λ (x : Rr). x.octets) (filter (is_together rr) rrs) rr (into_filter (is_together rr) rrs rr in' ((together.decides rr rr).1 refl))
 
@@ -305,8 +307,10 @@ taken_plain seed names k now taken few small gives = all_by_member (IsPlainlyTru
   where
     rrs : List Rr
     rrs = (made_message seed names k).answer ++ (made_message seed names k).authority
+
     is_message : gives.accepted.message ≡ made_message seed names k
     is_message = one_message (message_at seed names k) gives.accepted.message (made_message seed names k) gives.accepted.reads (made_reads seed names k small)
+
     by : (kept : Record) → Contains taken.batch.records kept → IsPlainlyTrue (made_zone seed names) kept
     by kept in' =
         let brings = gives.accepted.brings in

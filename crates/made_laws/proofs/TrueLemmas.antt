@@ -1,5 +1,5 @@
 -- The NSEC records and the sets of a made zone are true of it.
-use Rattle.std.proofs.Common.{◌≡◌, ◌≢◌, ℕ, zero, suc, ◌+◌, ◌<◌, ◌≤◌, ◌⊎◌, ◌↔◌, inl, inr, ⊎_elim, List, [], ◌∷◌, length, refl, sym, ◌∙◌, ap, subst, arith}
+use Rattle.std.proofs.Common.{◌≡◌, ◌≢◌, ℕ, zero, suc, ◌<◌, ◌≤◌, ◌⊎◌, ◌↔◌, inl, inr, ⊎_elim, List, [], ◌∷◌, refl, sym, ◌∙◌, ap, subst, arith}
 use Rattle.std.specs.List.{Contains}
 use Rattle.std.specs.Prelude.{◌==◌}
 use Rattle.std.specs.declared.cmp.Ordering.TheVariants.{Less}
@@ -8,17 +8,17 @@ use Rattle.std.proofs.lemmas.Bool.Decides.{Decides-eqb}
 use Rattle.dname.specs.Name.{Label, canonical_cmp}
 use Rattle.dname.specs.Arc.{IsInside}
 use Rattle.dname.specs.Order.{canonical_total}
-use Rattle.dname.specs.declared.types.TheConstants.{A_TYPE, DS_TYPE, NS_TYPE, NSEC_TYPE, RRSIG_TYPE, SOA_TYPE}
+use Rattle.dname.specs.declared.types.TheConstants.{NS_TYPE, NSEC_TYPE, RRSIG_TYPE, SOA_TYPE}
 use Rattle.zone_meaning.specs.Zone.{ZoneRecord, HasData, HasType, IsCut, IsLive, IsProofType}
 use Rattle.zone_meaning.specs.ZoneTable.{zone_record}
-use Rattle.zone_meaning.specs.Consistent.{SetPart, NsecPart, IsConsistentSet, IsConsistentNsec}
+use Rattle.zone_meaning.specs.Consistent.{IsConsistentSet, IsConsistentNsec}
 use Rattle.zone_meaning.proofs.ZoneTests.{here, later, first_or_later, nowhere}
-use Rattle.zone_maker.specs.Made.{made_example, name_server, name_at, Turn, Host, Above, Cut, Wild, turn_at, owner_in, type_in, data_in, record_in, address_at, soa_data, made_zone, made_owner, next_owner}
+use Rattle.zone_maker.specs.Made.{made_example, name_at, Cut, turn_at, owner_in, type_in, data_in, soa_data, made_zone, made_owner, next_owner}
 use Rattle.made_laws.specs.MadeNsec.{types_at, nsec_at}
 use Rattle.made_laws.proofs.OrderLemmas.{label_at, owner_is_no_apex, owners_rise}
 use Rattle.made_laws.proofs.RingLemmas.{none_before_next, none_after_last}
 use Rattle.made_laws.proofs.OwnerLemmas.{one_owner}
-use Rattle.made_laws.proofs.RecordLemmas.{IsMade, made_record, has_soa, has_servers, has_named, IsCutOf, cut_has_number, live_at, live_has_number}
+use Rattle.made_laws.proofs.RecordLemmas.{IsMade, made_record, has_soa, has_servers, has_named, cut_has_number, live_at, live_has_number}
 use Rattle.made_laws.proofs.RecordLemmas.IsMade.{soa, servers, named}
 
 -- ---- types
@@ -88,6 +88,7 @@ nsec_true seed names k few small = record {
   where
     rise : (i j : ℕ) → i < j → j ≤ names → canonical_cmp (made_owner i) (made_owner j) ≡ Less
     rise i j less within = owners_rise i j less (omega (arith, few, within))
+
     inside_one : (n : List Label) (j : ℕ) → j ≤ names → n ≡ next_owner names k → IsInside canonical_cmp (made_owner k) n (made_owner j) → ⊥
     inside_one n j within is inside = ⊎_elim
         (λ (h : (k < names) × (next_owner names k ≡ made_owner (suc k))).
@@ -96,6 +97,7 @@ nsec_true seed names k few small = record {
         none_after_last canonical_cmp canonical_total made_owner names rise j within
         (subst (λ m. IsInside canonical_cmp (made_owner m) made_example (made_owner j)) h.0 (subst (λ (m : List Label). IsInside canonical_cmp (made_owner k) m (made_owner j)) (is ∙ h.1) inside)))
         (next_by names k small)
+
     none : (name : List Label) → IsLive (made_zone seed names) name → IsInside canonical_cmp (made_owner k) (next_owner names k) name → ⊥
     none name live inside =
         let h = live_has_number seed names name live in
@@ -148,6 +150,7 @@ named_true seed names i items few short no_cut only = record {
         let same : suc i ≡ suc j = one_owner (suc i) (suc j) (omega (arith, few, short)) (omega (arith, few, within)) (ap (λ (r : ZoneRecord). r.owner) e) in
         let one : j ≡ i = omega (arith, same) in
         ap (λ (r : ZoneRecord). r.octets) e ∙ ap (λ n. data_in (turn_at n) seed n) one
+
     at_cut : IsCut (made_zone seed names) (made_owner (suc i)) → ⊥
     at_cut cut =
         let c = cut_has_number seed names (made_owner (suc i)) cut in

@@ -1,22 +1,22 @@
 -- Intake takes each group of a made message, and so it gives a batch.
-use Rattle.std.proofs.Common.{◌≡◌, Bool, true, false, not, ℕ, zero, suc, ◌+◌, ◌<◌, ◌≤◌, List, [], ◌∷◌, ◌++◌, length, map, count_by, is_none, Option, Some, None, Result, Ok, refl, sym, ◌∙◌, ap, subst, arith}
+use Rattle.std.proofs.Common.{◌≡◌, true, false, not, ℕ, suc, ◌<◌, ◌≤◌, List, [], ◌∷◌, ◌++◌, length, map, count_by, is_none, Option, Some, Ok, refl, sym, subst, arith}
 use Rattle.std.specs.List.{AllZip, Contains, filter, flat_map}
 use Rattle.std.specs.Option.{option_to_list}
 use Rattle.std.proofs.lemmas.List.{length-map}
 use Rattle.std.proofs.lemmas.List.Elements.{All-contains, Contains-append_left, Contains-append_right}
-use Rattle.dname.specs.Name.{Label, IsUnder}
+use Rattle.dname.specs.Name.{Label}
 use Rattle.dname.specs.declared.types.TheConstants.{A_TYPE, DS_TYPE, NSEC_TYPE, RRSIG_TYPE, SOA_TYPE}
 use Rattle.dnswire.specs.declared.rr.Rr.{Rr}
 use Rattle.denial_records.specs.declared.record.Record.{Record}
 use Rattle.zone_meaning.proofs.ZoneTests.{here, later}
 use Rattle.intake.specs.Group.{Group, each_once, is_together, is_rrsig, group_of, groups_of}
-use Rattle.intake.specs.Stored.{is_apex_type, IsInside, IsStored}
+use Rattle.intake.specs.Stored.{IsStored}
 use Rattle.intake.specs.Batch.{IsTakenAs, Gives}
 use Rattle.intake.specs.declared.taken.Taken.{Taken}
-use Rattle.zone_maker.specs.Made.{made_example, Turn, Wild, turn_at, address_at, soa_data, made_owner}
+use Rattle.zone_maker.specs.Made.{made_example, Wild, turn_at, address_at, soa_data, made_owner}
 use Rattle.zone_maker.specs.Messages.{signature_data, nsec_data, message_at}
 use Rattle.made_laws.proofs.WrittenLemmas.{rr_of, rr_in}
-use Rattle.made_laws.proofs.SectionLemmas.{answer_for, answer_at, authority_at, made_message, made_reads}
+use Rattle.made_laws.proofs.SectionLemmas.{answer_for, answer_at, made_message, made_reads}
 use Rattle.made_laws.proofs.ContainLemmas.{into_filter}
 use Rattle.made_laws.proofs.TakenLemmas.{IsOne, each_one, not_signing, group_from}
 use Rattle.made_laws.proofs.TakenLemmas.IsOne.{signing, of_soa, of_nsec, of_wildcard}

@@ -1,14 +1,14 @@
 -- Records that are written out stand where they were written.
-use Rattle.std.proofs.Common.{◌≡◌, ℕ, zero, suc, ◌+◌, ◌*◌, ◌^◌, ◌<◌, ◌≤◌, List, [], ◌∷◌, ◌++◌, length, map, drop, refl, sym, ◌∙◌, ap, subst, arith, append_assoc, append-nil, length-append, length-drop, drop-drop, drop_at}
+use Rattle.std.proofs.Common.{◌≡◌, ℕ, ◌+◌, ◌^◌, ◌<◌, ◌≤◌, List, [], ◌∷◌, ◌++◌, length, map, drop, refl, sym, ◌∙◌, ap, subst, arith, append_assoc, append-nil, length-append, length-drop, drop-drop, drop_at}
 use Rattle.std.specs.List.{All}
 use Rattle.std.proofs.lemmas.List.Elements.{All-head, All-tail}
 use Rattle.byteorder.specs.Endian.{big_number, big_bytes}
 use Rattle.byteorder.specs.Numbers.{big_number-reads_back}
 use Rattle.dname.specs.Name.{Label, HasLabelLength, lowered, wire_of}
 use Rattle.dname.specs.declared.types.TheConstants.{IN_CLASS}
-use Rattle.dnswire.specs.MessageName.{BeginsWithEnd, BeginsWithLabel, Reads, NameAt}
+use Rattle.dnswire.specs.MessageName.{Reads, NameAt}
 use Rattle.dnswire.specs.MessageName.Reads.{closed, labelled}
-use Rattle.dnswire.specs.RrHead.{RrHead, AreRrFields, IsRrHead}
+use Rattle.dnswire.specs.RrHead.{RrHead, AreRrFields}
 use Rattle.dnswire.specs.Data.{layout_of, IsData, AreOctets, IsWrittenOut}
 use Rattle.dnswire.specs.Message.{IsRr}
 use Rattle.dnswire.specs.InTurn.{StandInTurn}
@@ -225,5 +225,5 @@ all_stand message at (w ∷ ws) rest written stands =
       at + length (octets_of w),
       record_stands message at w.owner w.rtype w.rdata (octets_in ws ++ rest) written.0 apart,
       subst (λ n. StandInTurn (IsRr message) (at + length (octets_of w)) (map rr_in ws) n) ends
-      (all_stand message (at + length (octets_of w)) ws rest written.1 (behind message at (octets_of w) (octets_in ws ++ rest) apart)),
+          (all_stand message (at + length (octets_of w)) ws rest written.1 (behind message at (octets_of w) (octets_in ws ++ rest) apart)),
     )

@@ -1,8 +1,10 @@
 ghost use Rattle.std.specs.Prelude.{◌≡◌, ◌<◌, ◌≤◌, ℕ, List, Some, Ok};
 ghost use Rattle.std.specs.List.{All, Contains};
-ghost use Rattle.dname.specs.Name.{Label};
+ghost use Rattle.std.specs.declared.cmp.Ordering.TheVariants.{Less};
+ghost use Rattle.dname.specs.Name.{Label, canonical_cmp};
 ghost use Rattle.denial_records.specs.Proof.{Proof};
 ghost use Rattle.denial_records.specs.declared.batch.Batch.{Batch};
+ghost use Rattle.zone_meaning.specs.Zone.{IsLive};
 ghost use Rattle.zone_meaning.specs.Consistent.{IsConsistentNsec};
 ghost use Rattle.zone_meaning.specs.Lookup.{LooksUp};
 ghost use Rattle.cache_meaning.specs.Held.{held_of};
@@ -11,13 +13,22 @@ ghost use Rattle.soundness.specs.True.{IsTrueOf};
 ghost use Rattle.soundness.specs.Sound.{said_by};
 ghost use Rattle.intake.specs.Batch.{Gives};
 ghost use Rattle.intake.specs.declared.taken.Taken.{Taken};
-ghost use Rattle.zone_maker.specs.Made.{made_zone};
+ghost use Rattle.zone_maker.specs.Made.{made_zone, made_owner};
 ghost use Rattle.zone_maker.specs.Messages.{message_at, messages_of};
 ghost use Rattle.made_laws.specs.MadeBatch.{IsMadeBatch};
 ghost use Rattle.made_laws.specs.MadeNsec.{nsec_at};
 
-/// Each owner's NSEC is true of the made zone: the owners are its live names, in canonical order, and the types are the
-/// owner's.
+/// The live names of the made zone are its owners, which are numbered in canonical order.
+pub fn the_owners_are_the_live_names()
+    ensures live { (seed names k : ℕ) → names ≤ 10000 → k ≤ names
+        → IsLive (made_zone seed names) (made_owner k) }
+    ensures no_other { (seed names : ℕ) (name : List Label) → IsLive (made_zone seed names) name
+        → (k : ℕ) × (k ≤ names) × (name ≡ made_owner k) }
+    ensures in_order { (i j : ℕ) → i < j → j ≤ 10000
+        → canonical_cmp (made_owner i) (made_owner j) ≡ Less }
+{}
+
+/// Each owner's NSEC is true of the made zone.
 pub fn each_made_nsec_is_true()
     ensures { (seed names k : ℕ) → names ≤ 10000 → k ≤ names
         → IsConsistentNsec (made_zone seed names) (nsec_at names k) }

@@ -8,5 +8,5 @@ mod laws;
 
 pub use laws::{
     each_made_answer_is_the_zones, each_made_nsec_is_true, every_made_message_is_taken,
-    every_made_record_is_true,
+    every_made_record_is_true, the_owners_are_the_live_names,
 };
