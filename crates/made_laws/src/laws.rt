@@ -44,7 +44,7 @@ pub fn every_made_record_is_true()
         → All (IsTrueOf (made_zone seed names)) taken.batch.records }
 {}
 
-/// Before its signatures expire, intake takes each group of a made message.
+/// Before its signatures expire, at the moment 2,000,000,000, intake takes each group of a made message.
 pub fn every_made_message_is_taken()
     ensures { (seed names k now : ℕ) → names ≤ 10000 → k ≤ names → now < 2000000000
         → (taken : Taken) × Gives (message_at seed names k) now (Ok taken)

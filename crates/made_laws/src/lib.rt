@@ -1,7 +1,8 @@
 //! The laws of the made zone: what intake takes from its messages is true of it, for every seed and number of names.
 //!
-//! The zone and its messages are those of `zone_maker`; what is true of a zone is said in `soundness`. Here stands what an
-//! owner's NSEC says (`specs/MadeNsec.antt`).
+//! So soundness has a witness of every size that is no example. The zone and its messages are those of `zone_maker`; what is
+//! true of a zone is said in `soundness`. Its specs: `MadeNsec` (what an owner's NSEC says), `MadeBatch` (the batches that
+//! intake takes from the messages).
 #![tactic(auto)]
 
 mod laws;
