@@ -5,13 +5,19 @@ docs/FRAMES.md has the format. Faults go to standard error, with exit status 1.
 """
 
 import argparse
+import collections
 import signal
 import struct
 import sys
 
-try:  # python3-dnspython; hex and pcap do without it
+try:  # Debian's python3-dnspython; hex and pcap do without it
+    import dns.edns
     import dns.exception
+    import dns.flags
     import dns.message
+    import dns.opcode
+    import dns.rcode
+    import dns.rdataclass
     import dns.rdatatype
 except ImportError:
     dns = None
@@ -28,11 +34,18 @@ LINK_OCTETS = {LOOPBACK: 4, ETHERNET: 14, RAW: 0, COOKED: 16}  # how many stand 
 VLAN_TAGS = (b"\x81\x00", b"\x88\xa8", b"\x91\x00")
 IP_TYPES = (b"\x08\x00", b"\x86\xdd")
 PASSED_EXTENSIONS = (0, 43, 60)  # of IPv6: hop-by-hop options, routing, destination options
-UDP, DNS_PORT = 17, 53
+UDP, TCP, DNS_PORT = 17, 6, 53
+
+COLUMNS = (24, 32, 40, 48)  # where dig begins the TTL, the class, the type and the data of a record
+FLAGS = ("QR", "AA", "TC", "RD", "RA", "AD", "CD")
 
 
 class Fault(Exception):
     """What is wrong with the input, in words."""
+
+
+class Passed(Exception):
+    """Why a packet is passed over, in words."""
 
 
 def tell(text):
@@ -98,30 +111,40 @@ def ip_packet(link, octets):
         while octets[at - 2 : at] in VLAN_TAGS:
             at += 4
         if octets[at - 2 : at] not in IP_TYPES:
-            return b""
+            raise Passed("not IP")
     return octets[at:]
 
 
 def udp_packet(packet):
-    """The UDP packet in an IP packet; empty where there is none, or a fragment."""
+    """The UDP packet in an IP packet."""
     version = packet[0] >> 4 if packet else 0
     if version == 4 and len(packet) >= 20:
         end, fragment = struct.unpack_from(">HxxH", packet, 2)
-        whole = fragment & 0x3FFF == 0  # no more fragments, and offset 0
-        return packet[(packet[0] & 15) * 4 : end] if packet[9] == UDP and whole else b""
-    if version == 6 and len(packet) >= 40:
+        start, protocol = (packet[0] & 15) * 4, packet[9]
+        if fragment & 0x3FFF:  # more fragments, or an offset
+            raise Passed("a fragment")
+    elif version == 6 and len(packet) >= 40:
         end = 40 + struct.unpack_from(">H", packet, 4)[0]
-        protocol, at = packet[6], 40
-        while protocol in PASSED_EXTENSIONS and at + 8 <= len(packet):
-            protocol, at = packet[at], at + 8 + 8 * packet[at + 1]
-        return packet[at:end] if protocol == UDP else b""
-    return b""
+        protocol, start = packet[6], 40
+        while protocol in PASSED_EXTENSIONS and start + 8 <= len(packet):
+            protocol, start = packet[start], start + 8 + 8 * packet[start + 1]
+    else:
+        raise Passed("not IP")
+    if protocol != UDP:
+        raise Passed("TCP, whose streams aren't read" if protocol == TCP else "another protocol than UDP")
+    return packet[start:end]
 
 
-def dns_message(packet):
-    """The DNS message in a UDP packet; empty where there is none, or not all of it was captured."""
+def dns_message(packet, port):
+    """The DNS message in a UDP packet from or to the port."""
     source, target, size = struct.unpack_from(">HHH", packet) if len(packet) >= 8 else (0, 0, 0)
-    return packet[8:size] if DNS_PORT in (source, target) and 8 + 12 <= size <= len(packet) else b""
+    if size > len(packet) or len(packet) < 8:
+        raise Passed("not wholly captured")
+    if port not in (source, target):
+        raise Passed(f"another port than {port}")
+    if size < 8 + 12:
+        raise Passed("shorter than a DNS header")
+    return packet[8:size]
 
 
 def pcap(args):
@@ -130,15 +153,16 @@ def pcap(args):
     link = next(packets)
     if link not in LINK_OCTETS:
         raise Fault(f"link type {link} isn't read")
-    passed = 0
+    passed = collections.Counter()
     for second, octets in packets:
-        message = dns_message(udp_packet(ip_packet(link, octets)))
-        if message:
-            write_frame(UPSTREAM if message[2] & 0x80 else QUERY, args.worker, second, message)
+        try:
+            message = dns_message(udp_packet(ip_packet(link, octets)), args.port)
+        except Passed as why:
+            passed[str(why)] += 1
         else:
-            passed += 1
-    if passed:
-        tell(f"packets passed over, without a whole DNS message: {passed}")
+            write_frame(UPSTREAM if message[2] & 0x80 else QUERY, args.worker, second, message)
+    for why, count in sorted(passed.items()):
+        tell(f"packets passed over: {count} ({why})")
 
 
 def show(args):
@@ -171,11 +195,60 @@ def show(args):
 def show_message(octets):
     if dns is not None:
         try:
-            print(dns.message.from_wire(octets, ignore_trailing=True).to_text().rstrip("\n"))
-            return
+            lines = dig_lines(octets)
         except Exception as why:  # dnspython raises more than its own exceptions for octets that are no message
             print(f"  can't be read: {str(why) or type(why).__name__}")
+        else:
+            print("\n".join(lines))
+            return
     show_octets(octets)
+
+
+def dig_lines(octets):
+    """The message as dig prints it."""
+    ident, flags, *counts = struct.unpack_from(">6H", octets)
+    message = dns.message.from_wire(octets, ignore_trailing=True, one_rr_per_rrset=True)
+    opcode, rcode = dns.opcode.to_text(message.opcode()), dns.rcode.to_text(message.rcode())
+    names = " ".join(flag.lower() for flag in FLAGS if flags & dns.flags.Flag[flag])
+    kinds = ", ".join(f"{kind}: {count}" for kind, count in zip(("QUERY", "ANSWER", "AUTHORITY", "ADDITIONAL"), counts))
+    yield f";; ->>HEADER<<- opcode: {opcode}, status: {rcode}, id: {ident}"
+    yield f";; flags: {names}; {kinds}"
+    if message.edns >= 0:
+        wants = " do" if message.ednsflags & dns.flags.DO else ""
+        yield from ("", ";; OPT PSEUDOSECTION:", f"; EDNS: version: {message.edns}, flags:{wants}; udp: {message.payload}")
+        for option in message.options:
+            yield f"; OPT={int(option.otype)}: {option.to_wire().hex(' ')}"
+    for number, title in enumerate(("QUESTION", "ANSWER", "AUTHORITY", "ADDITIONAL")):
+        sets = message.sections[number]
+        if sets:
+            if number or message.edns < 0:  # the question follows the OPT record at once
+                yield ""
+            yield f";; {title} SECTION:"
+            yield from (dig_record(rrset, asked=number == 0) for rrset in sets)
+    yield from ("", f";; MSG SIZE  rcvd: {len(octets)}")
+
+
+def dig_record(rrset, asked):
+    """A question, or a record, in columns."""
+    kind = (dns.rdataclass.to_text(rrset.rdclass), dns.rdatatype.to_text(rrset.rdtype))
+    if asked:
+        return ";" + in_columns(rrset.name.to_text(), zip(COLUMNS[1:], kind))
+    data = rrset[0].to_text(chunksize=56)
+    if rrset.rdtype == dns.rdatatype.NSEC3:  # salt and next hash in capitals
+        head, rest = data.split(" ")[:5], data.split(" ")[5:]
+        data = " ".join([*head[:3], head[3].upper(), head[4].upper(), *rest])
+    return in_columns(rrset.name.to_text(), zip(COLUMNS, (str(rrset.ttl), *kind, data)))
+
+
+def in_columns(text, fields):
+    """The text and then each field at its column, behind tabs and blanks."""
+    at = len(text)
+    for column, field in fields:
+        to = max(column, at + 1)
+        tabs = to // 8 - at // 8
+        text += "\t" * tabs + " " * (to - to // 8 * 8 if tabs else to - at) + field
+        at = to + len(field)
+    return text
 
 
 def show_numbers(kind, body):
@@ -225,6 +298,7 @@ def words():
     lines.add_argument("kind", choices=("query", "upstream"))
     file = command(pcap, "pcap", "writes the frames of a pcap file's DNS messages over UDP")
     file.add_argument("file", metavar="FILE")
+    file.add_argument("--port", type=below(1 << 16), default=DNS_PORT, metavar="N", help=f"of the server (default: {DNS_PORT})")
     sides = command(show, "show", "reads frames, and prints them as text").add_mutually_exclusive_group()
     sides.add_argument("--input", action="store_true", help="frames that dnsreplay reads")
     sides.add_argument("--output", action="store_true", help="frames that it writes (default)")
