@@ -124,7 +124,8 @@ pub(crate) fn opt_count(edns: Option<Edns>) -> u16
     }
 }
 
-fn flag(set: bool, bit: u16) -> u16
+/// The flag's bit where it is set.
+pub(crate) fn flag(set: bool, bit: u16) -> u16
     ensures { result ≡ flag set bit }
 {
     if set { bit } else { 0 }
