@@ -9,12 +9,12 @@ ghost use Rattle.reply_core.specs.Relay.{relay_octets, is_whole, whole_relay, tr
 ghost use Rattle.reply_core.specs.declared.rcode.TheConstants.{MAX_RCODE};
 
 use crate::ReplyBuffer;
-use crate::counts::low16;
 use crate::draft::Draft;
 use crate::header::{
     flag, flags_of, head_of, opt_count, put_bare, put_header, put_opt, put_question, wants_dnssec,
 };
 use crate::rcode::SERVER_FAILURE;
+use crate::records::put_rest;
 use crate::reply::limit_of;
 use dname::types::{ANY_TYPE, NSEC_TYPE, NSEC3_TYPE, OPT_TYPE, RRSIG_TYPE};
 use dnswire::flags::{AD, TC};
@@ -122,13 +122,8 @@ fn put_section(draft: &mut Draft, question: &Question, section: &RrList)
 fn put_rr(draft: &mut Draft, rr: &Rr)
     ensures { draft.new ≡ put draft.old (rr_octets rr.now) }
 {
-    let rdata = rr.octets.as_slice();
     draft.put(rr.owner.wire());
-    draft.put_u16(rr.rtype);
-    draft.put_u16(rr.class);
-    draft.put_u32(rr.ttl);
-    draft.put_u16(low16(rdata.len()));
-    draft.put(rdata);
+    put_rest(draft, rr.rtype, rr.class, rr.ttl, rr.octets.as_slice());
 }
 
 fn is_relayed(question: &Question, rr: &Rr) -> bool
