@@ -1,5 +1,6 @@
 pub mod CountLemmas
 pub mod DraftLemmas
+pub mod RcodeLemmas
 pub mod RecordLemmas
 pub mod RelayLemmas
 pub mod ReplyLemmas

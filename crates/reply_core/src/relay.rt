@@ -43,7 +43,7 @@ fn fill(draft: &mut Draft, question: &Question, message: &Message)
     put_truncated(draft, question, message);
 }
 
-// Puts the whole reply into the empty draft, where that can be; tells whether it can.
+// Whether the whole reply can be sent; then it is put in place of what the draft held.
 fn put_within(draft: &mut Draft, question: &Question, message: &Message) -> bool
     requires { message.now.rcode ≤ MAX_RCODE }
     ensures exact { result ≡ is_whole question.now message.now }
