@@ -90,8 +90,10 @@ fn all_records_go_to_a_client_with_do(rt: HostRuntime) -> Result<(), Fail> {
     let mut out = ReplyBuffer::new();
     relay(&question(ASKED, 15, Some(WITH_DO))?, &message, &mut out);
     let head = b"\x12\x34\x81\xa0\0\x01\0\x02\0\x02\0\x02".as_slice();
-    let records = joined(alloc, &[MX, MX_RRSIG, NSEC, NSEC_RRSIG, A])?;
-    let wanted = joined(alloc, &[head, ASKED, &records, OPT_WITH_DO])?;
+    let wanted = joined(
+        alloc,
+        &[head, ASKED, MX, MX_RRSIG, NSEC, NSEC_RRSIG, A, OPT_WITH_DO],
+    )?;
     assert_eq!(rt; out.as_slice(), wanted.as_slice());
     Ok(())
 }
