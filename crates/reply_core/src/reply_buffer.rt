@@ -29,6 +29,13 @@ impl ReplyBuffer {
         }
     }
 
+    /// Empties the buffer.
+    pub fn clear(&mut self)
+        ensures { self.new ≡ [] }
+    {
+        self.draft.restart(MAX_REPLY);
+    }
+
     pub fn as_slice(&self) -> &[u8]
         ensures value { result.now ≡ self.now }
         ensures fits { length result.now ≤ MAX_REPLY }
