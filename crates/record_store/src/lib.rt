@@ -12,6 +12,7 @@ mod phases;
 mod putting;
 mod ranks;
 mod set_search;
+mod state;
 mod store;
 mod zone_ref;
 mod zone_search;

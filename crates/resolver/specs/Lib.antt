@@ -1,1 +1,3 @@
+pub mod Caches
+pub mod Replies
 pub mod SoundVerdict

@@ -1,3 +1,4 @@
 mod against_the_plain_program;
 mod records;
+mod shared;
 mod worked_cases;
