@@ -12,19 +12,18 @@ use crate::row::Row;
 use crate::splice::spliced_row;
 use crate::{Block, MarkedIter, Marking, NoMarks, OutOfMemory};
 use std::alloc::Global;
-use std::marker::{Model, PhantomData};
+use std::marker::Model;
 use std::sync::Arc;
 
-type Shelf<T> = Blocks<T, Page<T>>;
+type Shelf<T, M> = Blocks<T, M, Page<T, M>>;
 
-type Bookcase<T> = Blocks<T, Shelf<T>>;
+type Bookcase<T, M> = Blocks<T, M, Shelf<T, M>>;
 
 /// A list that stays, seen as the list of its entries: a change makes another list, which shares with it all that
 /// it does not touch. It keeps the mark of each entry for its searches.
 #[derive(Drop)]
 pub struct MarkedList<T: Drop, M: Marking<T>> {
-    bookcases: Row<T, Bookcase<T>>,
-    by: PhantomData<M>,
+    bookcases: Row<T, M, Bookcase<T, M>>,
 }
 
 /// A list that stays, without marks.
@@ -46,7 +45,6 @@ impl<T: Drop, M: Marking<T>> MarkedList<T, M> {
     {
         MarkedList {
             bookcases: Row::empty(alloc),
-            by: PhantomData,
         }
     }
 
@@ -105,7 +103,7 @@ impl<T: Drop, M: Marking<T>> MarkedList<T, M> {
             → ((x : T) (r : Bool) → FnReturnsAt F.Fn before x r → r ≡ p x)
             → PartsAtMark M.mark mark p self.now → result ≡ prefix_len p self.now }
     {
-        self.bookcases.find(&before)
+        self.bookcases.find_at(mark, &before)
     }
 
     /// The list with `items` in place of the entries `from..to`. Want of memory also where an entry can have no
@@ -130,7 +128,6 @@ impl<T: Drop, M: Marking<T>> MarkedList<T, M> {
         };
         Ok(MarkedList {
             bookcases: Row::of(alloc, made)?,
-            by: PhantomData,
         })
     }
 }
