@@ -26,3 +26,9 @@ pub record IsSeam {X A : Type 0} (f : X → List A) (xs : List X) (at p x : ℕ)
   pub left : (d : X) → take at (flat_map f xs) ≡ flat_map f (take p xs) ++ take x (f (get_or xs p d))
   pub right : (d : X)
       → drop at (flat_map f xs) ≡ drop x (f (get_or xs p d)) ++ flat_map f (drop (p + 1) xs)
+
+-- the numbers from the place p on differ by what `new` is more than `old`
+pub record AreMoved (numbers : List ℕ) (p old new : ℕ) (made : List ℕ) : Type 0 where
+  pub one_each : length made ≡ length numbers
+  pub before : (k : ℕ) → k < p → slice_index made k ≡ slice_index numbers k
+  pub behind : (k : ℕ) → p ≤ k → k < length numbers → slice_index made k + old ≡ slice_index numbers k + new

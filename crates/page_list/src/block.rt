@@ -1,5 +1,5 @@
 //! A block: one or more entries that lie together, a page or a run of blocks.
-ghost use Rattle.std.specs.Prelude.{◌≡◌, ◌<◌, ◌≤◌, ◌++◌, Bool, List, length, take, drop, map, IfOk, slice_index_or};
+ghost use Rattle.std.specs.Prelude.{◌≡◌, ◌<◌, ◌≤◌, ◌++◌, Bool, List, length, take, drop, map, IfOk, IfSome, slice_index_or};
 ghost use Rattle.std.specs.List.{flat_map, prefix_len};
 ghost use Rattle.std.specs.List.Sorted.{IsPartitionedBy};
 ghost use Rattle.std.specs.Arc.{arc_value};
@@ -56,6 +56,15 @@ pub(crate) trait Block<T: Drop, M: Marking<T>>: Drop {
         ensures exact { (p : T → Bool) → IsTestOf F.Fn before.now p
             → PartsAtMark M.mark mark p (entries self.now)
             → result ≡ prefix_len p (entries self.now) };
+
+    /// The entries with `items` in place of those in `from..to`, in one block of as many parts, or a page that is neither
+    /// small nor too long. None where that can't be, and for want of memory.
+    fn replaced(&self, alloc: Global, from: usize, to: usize, items: &[Arc<T>]) -> Option<Arc<Self>>
+        requires order { from ≤ to }
+        requires in_range { to ≤ length (entries self.now) }
+        ensures { IfSome result (λ made. entries (arc_value made)
+            ≡ take from (entries self.now) ++ map arc_value items.now
+            ++ drop to (entries self.now)) };
 
     /// The entries of `left` before `from`, `items`, and the entries of `right` from `to` on, in new blocks.
     fn spliced(

@@ -98,6 +98,20 @@ impl<T: Drop, M: Marking<T>, B: Block<T, M>> Block<T, M> for Blocks<T, M, B> {
         self.row.find_at(mark, before)
     }
 
+    fn replaced(
+        &self,
+        alloc: Global,
+        from: usize,
+        to: usize,
+        items: &[Arc<T>],
+    ) -> Option<Arc<Self>> {
+        let row = self.row.replaced(alloc, from, to, items)?;
+        match Arc::new(alloc, Blocks { row }) {
+            Ok(block) => Some(block),
+            Err(_) => None,
+        }
+    }
+
     fn spliced(
         alloc: Global,
         left: &Self,

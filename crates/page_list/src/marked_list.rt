@@ -121,6 +121,9 @@ impl<T: Drop, M: Marking<T>> MarkedList<T, M> {
             made ≡ take from self.now ++ map arc_value items.items ++ drop to self.now) }
     {
         let old = &self.bookcases;
+        if let Some(bookcases) = old.replaced(alloc, from, to, items.as_slice()) {
+            return Ok(MarkedList { bookcases });
+        }
         let made = if old.count() == 0 {
             Bookcase::made(alloc, items)?
         } else {

@@ -1,11 +1,12 @@
 //! A page: one to `MOST` shared entries.
-ghost use Rattle.std.specs.Prelude.{◌≡◌, ◌<◌, ◌≤◌, ◌++◌, Bool, length, get_or, take, drop, map, IfOk};
+ghost use Rattle.std.specs.Prelude.{◌≡◌, ◌<◌, ◌≤◌, ◌+◌, ◌-◌, ◌++◌, Bool, length, get_or, take, drop, map, IfOk};
 ghost use Rattle.std.specs.Arc.{arc_value};
 ghost use Rattle.std.specs.List.{flat_map};
+ghost use Rattle.page_list.specs.declared.short.TheConstants.{MOST};
 ghost use Rattle.page_list.specs.Search.{IsTestAt};
 
 use crate::cut::cut;
-use crate::share::{shared_round, shares_before, shares_from};
+use crate::share::{shared_all, shared_round, shares_before, shares_from};
 use crate::short::{MOST, Short};
 use crate::{Block, Marking, OutOfMemory};
 use std::alloc::Global;
@@ -42,6 +43,35 @@ impl<T: Drop, M: Marking<T>> Page<T, M> {
         })
     }
 
+    // The page with `items` in place of the entries `from..to`.
+    fn with(
+        &self,
+        alloc: Global,
+        from: usize,
+        to: usize,
+        items: &[Arc<T>],
+        count: usize,
+    ) -> Result<Arc<Page<T, M>>, OutOfMemory>
+        requires order { from ≤ to }
+        requires in_range { to ≤ length self.now }
+        requires count { count ≡ from + length items.now + (length self.now - to) }
+        requires some { 0 < count }
+        requires few { count ≤ MOST }
+        ensures { IfOk result (λ page. arc_value page
+            ≡ take from self.now ++ map arc_value items.now ++ drop to self.now) }
+    {
+        let shares = self.shares.as_slice();
+        let before = shares_before(shares, from);
+        let shares = shared_all(alloc, before, items, shares_from(shares, to))?;
+        let marks = marks_with::<T, M>(alloc, self.marks.as_slice(), from, to, items)?;
+        let page = Page {
+            shares: Short::of(shares),
+            marks,
+            by: PhantomData,
+        };
+        Ok(Arc::new(alloc, page)?)
+    }
+
     // Whether the entry `i` comes before; it is read only where its mark doesn't tell.
     fn is_before<F: Fn(&T) -> bool>(&self, i: usize, mark: u64, before: &F) -> bool
         requires callable { F.IsAlwaysCallable before.now }
@@ -70,6 +100,31 @@ fn marks_of<T: Drop, M: Marking<T>>(
         marks.push(M::mark(entry))?;
     }
     Ok(marks)
+}
+
+// The marks, with those of `items` in place of `from..to`.
+fn marks_with<T: Drop, M: Marking<T>>(
+    alloc: Global,
+    marks: &[u64],
+    from: usize,
+    to: usize,
+    items: &[Arc<T>],
+) -> Result<Vec<u64>, OutOfMemory>
+    requires order { from ≤ to }
+    requires in_range { to ≤ length marks.now }
+    ensures { IfOk result (λ made. made.items
+        ≡ take from marks.now ++ map M.mark (map arc_value items.now) ++ drop to marks.now) }
+{
+    let count = from
+        .saturating_add(items.len())
+        .saturating_add(marks.len() - to);
+    let mut made = Vec::with_capacity(alloc, count)?;
+    made.extend_from_slice(&marks[..from])?;
+    for entry in items {
+        made.push(M::mark(entry))?;
+    }
+    made.extend_from_slice(&marks[to..])?;
+    Ok(made)
 }
 
 impl<T: Drop, M: Marking<T>> Block<T, M> for Page<T, M> {
@@ -133,6 +188,24 @@ impl<T: Drop, M: Marking<T>> Block<T, M> for Page<T, M> {
             }
         }
         low
+    }
+
+    fn replaced(
+        &self,
+        alloc: Global,
+        from: usize,
+        to: usize,
+        items: &[Arc<T>],
+    ) -> Option<Arc<Self>> {
+        let kept = from + (self.len() - to);
+        let count = kept.checked_add(items.len())?;
+        if count < MOST / 2 || count > MOST {
+            return None;
+        }
+        match self.with(alloc, from, to, items, count) {
+            Ok(page) => Some(page),
+            Err(_) => None,
+        }
     }
 
     fn spliced(

@@ -1,13 +1,13 @@
 //! A row of shared blocks.
-ghost use Rattle.std.specs.Prelude.{◌≡◌, ◌<◌, ◌≤◌, ◌+◌, [], Bool, length, get_or, take, drop, map, IfOk, slice_index_or};
+ghost use Rattle.std.specs.Prelude.{◌≡◌, ℕ, ◌<◌, ◌≤◌, ◌+◌, ◌++◌, [], Bool, length, get_or, set, take, drop, map, IfOk, IfSome, slice_index, slice_index_or};
 ghost use Rattle.std.specs.List.{flat_map, prefix_len};
 ghost use Rattle.std.specs.List.Sorted.{IsPartitionedBy};
 ghost use Rattle.std.specs.Arc.{arc_value};
 ghost use Rattle.page_list.specs.Marks.{PartsAtMark};
-ghost use Rattle.page_list.specs.Rows.{IsEnds, IsFirstMarks, IsPlace};
+ghost use Rattle.page_list.specs.Rows.{AreMoved, IsEnds, IsFirstMarks, IsPlace, IsSeam};
 ghost use Rattle.page_list.specs.Search.{IsTestOf, IsTestAt, HasNarrowed};
 
-use crate::share::{shares_before, shares_from};
+use crate::share::{shared_but, shares_before, shares_from};
 use crate::{Block, Marking, OutOfMemory};
 use std::alloc::{AllocError, Global};
 use std::marker::{Model, PhantomData};
@@ -53,6 +53,40 @@ fn ends_of<T: Drop, M: Marking<T>, B: Block<T, M>>(
         ends.push(end)?;
     }
     Ok(ends)
+}
+
+fn at_most(n: usize, most: usize) -> usize
+    ensures low { result ≤ n }
+    ensures high { result ≤ most }
+{
+    if n < most { n } else { most }
+}
+
+// The numbers, of which those from the place `p` on are changed by what `new` is more than `old`; want of memory where
+// one has no place in a word.
+fn moved(
+    alloc: Global,
+    numbers: &[usize],
+    p: usize,
+    old: usize,
+    new: usize,
+) -> Result<Vec<usize>, OutOfMemory>
+    requires { (k : ℕ) → p ≤ k → k < length numbers.now → old ≤ slice_index numbers.now k }
+    ensures { IfOk result (λ made. AreMoved numbers.now p old new made.items) }
+{
+    let mut made = Vec::from_slice(alloc, numbers)?;
+    if new == old {
+        return Ok(made);
+    }
+    let mut k = p;
+    while k < made.len() {
+        match (made[k] - old).checked_add(new) {
+            Some(number) => made[k] = number,
+            None => return Err(AllocError),
+        }
+        k += 1;
+    }
+    Ok(made)
 }
 
 // The mark of the first entry of each block.
@@ -134,6 +168,67 @@ impl<T: Drop, M: Marking<T>, B: Block<T, M>> Row<T, M, B> {
         ensures { map arc_value result.now ≡ drop (p + 1) self.now }
     {
         shares_from(self.blocks.as_slice(), p + 1)
+    }
+
+    /// The row with `items` in place of the entries `from..to`, where one block takes them all.
+    pub(crate) fn replaced(
+        &self,
+        alloc: Global,
+        from: usize,
+        to: usize,
+        items: &[Arc<T>],
+    ) -> Option<Row<T, M, B>>
+        requires order { from ≤ to }
+        requires in_range { to ≤ length (flat_map B.entries self.now) }
+        ensures entries { IfSome result (λ row. flat_map B.entries row
+            ≡ take from (flat_map B.entries self.now) ++ map arc_value items.now
+            ++ drop to (flat_map B.entries self.now)) }
+        ensures count { IfSome result (λ row. length row ≡ length self.now) }
+    {
+        let (p, x, y) = self.block_of(from, to)?;
+        let block = self.block(p).replaced(alloc, x, y, items)?;
+        match self.exchanged(alloc, p, block) {
+            Ok(row) => Some(row),
+            Err(_) => None,
+        }
+    }
+
+    // The block that has all of `from..to`, and both places in it; none where there are two of them or more.
+    fn block_of(&self, from: usize, to: usize) -> Option<(usize, usize, usize)>
+        requires order { from ≤ to }
+        requires in_range { to ≤ length (flat_map B.entries self.now) }
+        ensures first { IfSome result (λ w. IsSeam B.entries self.now from w.0 w.1) }
+        ensures last { IfSome result (λ w. IsSeam B.entries self.now to w.0 w.2) }
+        ensures order { IfSome result (λ w. w.1 ≤ w.2) }
+    {
+        let total = self.total();
+        if total == 0 {
+            return None;
+        }
+        let (p, _) = self.place(at_most(from, total - 1));
+        let start = self.start(p);
+        if to > self.ends[p] {
+            return None;
+        }
+        Some((p, from - start, to - start))
+    }
+
+    // The row with `block` in the place `p`.
+    fn exchanged(&self, alloc: Global, p: usize, block: Arc<B>) -> Result<Row<T, M, B>, OutOfMemory>
+        requires { p < length self.now }
+        ensures { IfOk result (λ row. row ≡ set self.now p (arc_value block)) }
+    {
+        let mut marks = Vec::from_slice(alloc, self.marks.as_slice())?;
+        marks[p] = block.first_mark();
+        let (old, new) = (self.block(p).len(), block.len());
+        let ends = moved(alloc, self.ends.as_slice(), p, old, new)?;
+        let blocks = shared_but(alloc, self.blocks.as_slice(), p, block)?;
+        Ok(Row {
+            blocks,
+            ends,
+            marks,
+            of: PhantomData,
+        })
     }
 
     #[cfg(test)]
@@ -279,7 +374,7 @@ impl<T: Drop, M: Marking<T>, B: Block<T, M>> Row<T, M, B> {
         ensures told { (q : T → Bool)
             → IsTestAt F.Fn before.now M.mark mark (flat_map B.entries self.now) q → (d : T)
             → q (get_or (flat_map B.entries self.now)
-                (length (flat_map B.entries (take p self.now))) d) ≡ result }
+            (length (flat_map B.entries (take p self.now))) d) ≡ result }
     {
         let own = self.marks[p];
         if own == mark {

@@ -24,7 +24,11 @@ fn seam<T: Drop, M: Marking<T>, B: Block<T, M>>(row: &Row<T, M, B>, at: usize) -
 }
 
 // The same, but at the start of the block that has the entry `at` where `inner` says that there is one.
-fn first_seam<T: Drop, M: Marking<T>, B: Block<T, M>>(row: &Row<T, M, B>, at: usize, inner: bool) -> (usize, usize)
+fn first_seam<T: Drop, M: Marking<T>, B: Block<T, M>>(
+    row: &Row<T, M, B>,
+    at: usize,
+    inner: bool,
+) -> (usize, usize)
     requires some { 0 < length row.now }
     requires in_range { at ≤ length (flat_map B.entries row.now) }
     requires inner { IsTrue inner → at < length (flat_map B.entries row.now) }

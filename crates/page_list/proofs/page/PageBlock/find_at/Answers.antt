@@ -12,4 +12,4 @@ loop-low-preserved g c =
 
 pub returns-clause-exact : goal.returns-clause-exact
 returns-clause-exact g c = λ p test parts.
-    HasNarrowed-done _ _ _ _ c.loop-low.invariant c.loop-low-test.false p (record { answers = test; parts = parts; }) parts.first
+    HasNarrowed-done _ _ _ _ c.loop-low.invariant c.loop-low-test.false p (record { answers = test; parts = parts }) parts.first
