@@ -6,12 +6,12 @@ ghost use Rattle.page_list.specs.Rows.{IsSeam};
 
 use crate::row::Row;
 use crate::share::shared_round;
-use crate::{Block, OutOfMemory};
+use crate::{Block, Marking, OutOfMemory};
 use std::alloc::Global;
 use std::sync::Arc;
 
 // The block before whose end, and the place in it before which, the first `at` entries end.
-fn seam<T: Drop, B: Block<T>>(row: &Row<T, B>, at: usize) -> (usize, usize)
+fn seam<T: Drop, M: Marking<T>, B: Block<T, M>>(row: &Row<T, M, B>, at: usize) -> (usize, usize)
     requires some { 0 < length row.now }
     requires in_range { at ≤ length (flat_map B.entries row.now) }
     ensures { IsSeam B.entries row.now at result.0 result.1 }
@@ -24,7 +24,11 @@ fn seam<T: Drop, B: Block<T>>(row: &Row<T, B>, at: usize) -> (usize, usize)
 }
 
 // The same, but at the start of the block that has the entry `at` where `inner` says that there is one.
-fn first_seam<T: Drop, B: Block<T>>(row: &Row<T, B>, at: usize, inner: bool) -> (usize, usize)
+fn first_seam<T: Drop, M: Marking<T>, B: Block<T, M>>(
+    row: &Row<T, M, B>,
+    at: usize,
+    inner: bool,
+) -> (usize, usize)
     requires some { 0 < length row.now }
     requires in_range { at ≤ length (flat_map B.entries row.now) }
     requires inner { IsTrue inner → at < length (flat_map B.entries row.now) }
@@ -35,12 +39,12 @@ fn first_seam<T: Drop, B: Block<T>>(row: &Row<T, B>, at: usize, inner: bool) -> 
 
 // The blocks that go in between, joined with a neighbour where they are one small block: those blocks,
 // how many of `left` stand before them, and the last block of `right` that they replace.
-fn joined<T: Drop, B: Block<T>>(
+fn joined<T: Drop, M: Marking<T>, B: Block<T, M>>(
     alloc: Global,
-    left: &Row<T, B>,
+    left: &Row<T, M, B>,
     p: usize,
     made: Vec<Arc<B>>,
-    right: &Row<T, B>,
+    right: &Row<T, M, B>,
     q: usize,
 ) -> Result<(Vec<Arc<B>>, usize, usize), OutOfMemory>
     requires left_in { p < length left.now }
@@ -54,11 +58,11 @@ fn joined<T: Drop, B: Block<T>>(
 {
     if made.len() == 1 && made[0].is_small() {
         if p > 0 {
-            let made = with_left::<T, B>(alloc, left.block(p - 1), made.as_slice())?;
+            let made = with_left::<T, M, B>(alloc, left.block(p - 1), made.as_slice())?;
             return Ok((made, p - 1, q));
         }
         if q < right.count() - 1 {
-            let made = with_right::<T, B>(alloc, made.as_slice(), right.block(q + 1))?;
+            let made = with_right::<T, M, B>(alloc, made.as_slice(), right.block(q + 1))?;
             return Ok((made, p, q + 1));
         }
     }
@@ -66,7 +70,7 @@ fn joined<T: Drop, B: Block<T>>(
 }
 
 // A block and the one block that `made` has, in new blocks.
-fn with_left<T: Drop, B: Block<T>>(
+fn with_left<T: Drop, M: Marking<T>, B: Block<T, M>>(
     alloc: Global,
     block: &B,
     made: &[Arc<B>],
@@ -79,7 +83,7 @@ fn with_left<T: Drop, B: Block<T>>(
 }
 
 // The one block that `made` has and a block, in new blocks.
-fn with_right<T: Drop, B: Block<T>>(
+fn with_right<T: Drop, M: Marking<T>, B: Block<T, M>>(
     alloc: Global,
     made: &[Arc<B>],
     block: &B,
@@ -92,7 +96,7 @@ fn with_right<T: Drop, B: Block<T>>(
 }
 
 // Whether no entry comes in, and whole blocks stay on both sides, neither of them small.
-fn is_clean_cut<T: Drop, B: Block<T>>(
+fn is_clean_cut<T: Drop, M: Marking<T>, B: Block<T, M>>(
     first: &B,
     x: usize,
     items: &[Arc<T>],
@@ -107,12 +111,12 @@ fn is_clean_cut<T: Drop, B: Block<T>>(
 }
 
 /// The entries of `left` before `from`, `items`, and the entries of `right` from `to` on.
-pub(crate) fn spliced_row<T: Drop, B: Block<T>>(
+pub(crate) fn spliced_row<T: Drop, M: Marking<T>, B: Block<T, M>>(
     alloc: Global,
-    left: &Row<T, B>,
+    left: &Row<T, M, B>,
     from: usize,
     items: Vec<Arc<T>>,
-    right: &Row<T, B>,
+    right: &Row<T, M, B>,
     to: usize,
 ) -> Result<Vec<Arc<B>>, OutOfMemory>
     requires left_some { 0 < length left.now }
