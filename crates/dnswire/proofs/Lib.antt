@@ -1,6 +1,7 @@
 pub mod HeaderLemmas
 pub mod MessageNameLemmas
 pub mod NameLabelsLemmas
+pub mod RunLemmas
 pub mod InTurnLemmas
 pub mod FieldsLemmas
 pub mod DataLemmas

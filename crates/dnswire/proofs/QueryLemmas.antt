@@ -9,6 +9,7 @@ use Rattle.dnswire.specs.Header.{IsHeader, is_response, opcode_of, head_of}
 use Rattle.dnswire.specs.InTurn.{StandInTurn}
 use Rattle.dnswire.specs.Query.{AreOpts, IsQuery, HasQueryHeader, IsReadAs, edns_of, opts_of, version_of}
 use Rattle.dnswire.specs.Question.{AreQuestionFields}
+use Rattle.dnswire.specs.RecordsPassed.{HasRecords}
 use Rattle.dnswire.specs.RrHead.{RrHead, IsRrHead}
 use Rattle.dnswire.specs.declared.edns.Edns.{Edns}
 use Rattle.dnswire.specs.declared.header.Header.{Header}
@@ -157,13 +158,28 @@ one_query octets header question question' version version' a b =
     }
 
 -- where the records of a query stand, once its name and fields are read
-pub front_at : (octets : List ℕ) (header : Header) (question : Question) (version : ℕ) (name : List (List ℕ)) (taken : ℕ) (fields : QuestionFields) (a : IsQuery octets header question version) → Spells (drop HEADER_OCTETS octets) name taken → AreQuestionFields octets (HEADER_OCTETS + taken) fields → StandInTurn (IsRrHead octets) fields.end a.passed a.additional_at
+front_at : (octets : List ℕ) (header : Header) (question : Question) (version : ℕ) (name : List (List ℕ)) (taken : ℕ) (fields : QuestionFields) (a : IsQuery octets header question version) → Spells (drop HEADER_OCTETS octets) name taken → AreQuestionFields octets (HEADER_OCTETS + taken) fields → StandInTurn (IsRrHead octets) fields.end a.passed a.additional_at
 front_at octets header question version name taken fields a spells are =
     subst (λ (f : QuestionFields). StandInTurn (IsRrHead octets) f.end a.passed a.additional_at) (one_start octets (drop HEADER_OCTETS octets) question.name name a.taken taken a.fields fields a.name spells a.reads are).fields_same a.front
 
-pub back_at : (octets : List ℕ) (header : Header) (question : Question) (version : ℕ) (at : ℕ) (heads : List RrHead) (end : ℕ) (a : IsQuery octets header question version) → StandInTurn (IsRrHead octets) at a.passed a.additional_at → StandInTurn (IsRrHead octets) at heads end → length heads ≡ header.answers + header.authorities → StandInTurn (IsRrHead octets) end a.additional a.end
-back_at octets header question version at heads end a front stand long =
-    subst (λ at. StandInTurn (IsRrHead octets) at a.additional a.end) (one_in_turn (IsRrHead octets) (one_head octets) at a.passed heads a.additional_at end (a.passed_are ∙ sym long) front stand).ends a.back
+-- the records of a query, once its name and fields are read
+pub records_of : (octets : List ℕ) (header : Header) (question : Question) (version : ℕ) (name : List (List ℕ)) (taken : ℕ) (fields : QuestionFields) (a : IsQuery octets header question version) → Spells (drop HEADER_OCTETS octets) name taken → AreQuestionFields octets (HEADER_OCTETS + taken) fields → HasRecords octets fields.end header question.edns version
+records_of octets header question version name taken fields a spells are = record {
+  passed = a.passed;
+  additional_at = a.additional_at;
+  front = front_at octets header question version name taken fields a spells are;
+  passed_are = a.passed_are;
+  additional = a.additional;
+  end = a.end;
+  back = a.back;
+  additional_are = a.additional_are;
+  opts = a.opts;
+}
+
+-- where the additional records stand, once those before them are passed over
+pub additional_from : (octets : List ℕ) (at : ℕ) (header : Header) (edns : Option Edns) (version : ℕ) (heads : List RrHead) (end : ℕ) (a : HasRecords octets at header edns version) → StandInTurn (IsRrHead octets) at heads end → length heads ≡ header.answers + header.authorities → StandInTurn (IsRrHead octets) end a.additional a.end
+additional_from octets at header edns version heads end a stand long =
+    subst (λ at. StandInTurn (IsRrHead octets) at a.additional a.end) (one_in_turn (IsRrHead octets) (one_head octets) at a.passed heads a.additional_at end (a.passed_are ∙ sym long) a.front stand).ends a.back
 
 -- ---- octets are read in one way
 

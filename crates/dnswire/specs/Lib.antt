@@ -8,4 +8,6 @@ pub mod Data
 pub mod InTurn
 pub mod LabelsLeft
 pub mod NameLabels
+pub mod Runs
+pub mod RecordsPassed
 pub mod DataField

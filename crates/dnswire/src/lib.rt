@@ -1,8 +1,8 @@
 //! DNS messages (RFC 1035, section 4): exact readers of queries and of whole messages.
 //!
 //! Specs, in reading order: `Query` and `Message`, which public clauses cite; what these stand on, `Header`, `Question`,
-//! `MessageName`, `RrHead`, `Data` and `InTurn`; and for the readers' inner steps `LabelsLeft`, `NameLabels` and
-//! `DataField`.
+//! `MessageName`, `RrHead`, `Data` and `InTurn`; and for the readers' inner steps `LabelsLeft`, `NameLabels`, `Runs`,
+//! `RecordsPassed` and `DataField`.
 #![tactic(auto)]
 
 mod data;
@@ -11,9 +11,11 @@ mod field;
 pub mod flags;
 mod head;
 mod header;
+mod label_run;
 mod message;
 mod message_name;
 mod name_labels;
+mod name_skip;
 mod query_read;
 mod question;
 mod question_fields;

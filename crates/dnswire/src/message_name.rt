@@ -26,23 +26,6 @@ pub(crate) fn read_name(message: &[u8], at: usize) -> Option<(Name, usize)>
     }
 }
 
-/// The offset after the name at the offset; none where no name stands there.
-pub(crate) fn skip_name(message: &[u8], at: usize) -> Option<usize>
-    ensures read { IfSome result (λ end. (name : List (List ℕ)) × NameAt message.now at name end) }
-    ensures within { IfSome result (λ end. end ≤ length message.now) }
-    ensures every { (name : List (List ℕ)) (end : ℕ) → NameAt message.now at name end
-        → result ≡ Some end }
-{
-    let mut labels = NameLabels::of(message, at);
-    loop {
-        match labels.next() {
-            Some(NameStep::Label(_)) => {}
-            Some(NameStep::End(end)) => return Some(end),
-            None => return None,
-        }
-    }
-}
-
 /// Whether the name at the offset is the root.
 pub(crate) fn is_root_at(message: &[u8], at: usize) -> bool
     ensures { (name : List (List ℕ)) (end : ℕ) → NameAt message.now at name end

@@ -31,9 +31,9 @@ pub(crate) enum NameStep<'a> {
     End(usize),
 }
 
-// A piece of a name: its end, a label, or a pointer to an offset.
+/// A piece of a name: its end, a label, or a pointer to an offset.
 #[derive(Drop)]
-enum Piece<'a> {
+pub(crate) enum Piece<'a> {
     End,
     Label(&'a [u8]),
     Pointer(usize),
@@ -124,7 +124,8 @@ impl<'a> NameLabels<'a> {
     }
 }
 
-fn piece_at(message: &[u8], at: usize) -> Option<Piece<'_>>
+/// The piece at the offset.
+pub(crate) fn piece_at(message: &[u8], at: usize) -> Option<Piece<'_>>
     ensures read { IfSome result (BeginsWithPiece (drop at message.now)) }
     ensures none { IfNone result (HasNoPiece (drop at message.now)) }
 {

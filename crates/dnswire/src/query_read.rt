@@ -1,15 +1,19 @@
-ghost use Rattle.std.specs.Prelude.{◌≡◌, ◌+◌, ◌≤◌, ◌↔◌, ℕ, List, length, Option, IsSome, IfSome, Some};
+ghost use Rattle.std.specs.Prelude.{◌≡◌, ◌≤◌, ℕ, List, length, Option, IsSome, IfSome, IfNone, IfOk, Some, Err};
 ghost use Rattle.dname.specs.Name.{Label};
 ghost use Rattle.dnswire.specs.InTurn.{StandInTurn};
 ghost use Rattle.dnswire.specs.RrHead.{RrHead, IsRrHead};
 ghost use Rattle.dnswire.specs.Query.{AreOpts, IsQuery, IsReadAs, edns_of, opts_of, version_of};
+ghost use Rattle.dnswire.specs.RecordsPassed.{HasRecords};
+ghost use Rattle.dnswire.specs.Runs.{AreSizes};
 ghost use Rattle.dnswire.specs.declared.edns.Edns.{Edns};
+ghost use Rattle.dnswire.specs.declared.name_skip.NotPassed.{NotPassed};
 ghost use Rattle.dnswire.specs.declared.query_read.QueryRead.{QueryRead};
 ghost use Rattle.dnswire.specs.declared.question.Question.{Question};
 ghost use Rattle.dnswire.specs.declared.rr_fields.RrFields.{RrFields};
 
 use crate::header::{HEADER_OCTETS, Header, STANDARD_QUERY};
-use crate::message_name::{is_root_at, skip_name};
+use crate::message_name::is_root_at;
+use crate::name_skip::{NotPassed, skip_name};
 use crate::question::MAX_ASKED;
 use crate::question_fields::QuestionFields;
 use crate::rr_fields::RrFields;
@@ -73,11 +77,7 @@ fn read_question(octets: &[u8], header: Header) -> Option<(Question, u8)>
     let Some(fields) = QuestionFields::read(octets, HEADER_OCTETS + taken) else {
         return None;
     };
-    let passed = usize::from(header.answers) + usize::from(header.authorities);
-    let Some(additional_at) = skip_rrs(octets, fields.end, passed) else {
-        return None;
-    };
-    let Some(opt) = read_opt(octets, additional_at, header.additionals) else {
+    let Some(opt) = read_records(octets, fields.end, header) else {
         return None;
     };
     let question = Question {
@@ -104,36 +104,6 @@ fn copy_of(asked: &[u8]) -> ArrayVec<u8, MAX_ASKED>
     copy
 }
 
-// The offset after so many records; none where one of them can't be read.
-fn skip_rrs(octets: &[u8], at: usize, count: usize) -> Option<usize>
-    ensures read { IfSome result (λ end. (heads : List RrHead)
-        × StandInTurn (IsRrHead octets.now) at heads end × (length heads ≡ count)) }
-    ensures every { (heads : List RrHead) (end : ℕ)
-        → StandInTurn (IsRrHead octets.now) at heads end → length heads ≡ count → IsSome result }
-{
-    let mut here = at;
-    for _ in 0..count {
-        let Some(fields) = skip_rr(octets, here) else {
-            return None;
-        };
-        here = fields.end;
-    }
-    Some(here)
-}
-
-// What follows the owner name of the record at the offset.
-fn skip_rr(octets: &[u8], at: usize) -> Option<RrFields>
-    ensures read { IfSome result (λ fields. (owner : List Label)
-        × IsRrHead octets.now at (record { owner = owner; fields = fields }) fields.end) }
-    ensures every { (head : RrHead) (end : ℕ) → IsRrHead octets.now at head end
-        → result ≡ Some head.fields }
-{
-    let Some(fields_at) = skip_name(octets, at) else {
-        return None;
-    };
-    RrFields::read(octets, fields_at)
-}
-
 /// What the OPT records of an additional section say.
 #[derive(Clone, Copy, Debug)]
 struct OptSaid {
@@ -141,15 +111,107 @@ struct OptSaid {
     version: u8,
 }
 
-// What the OPT records among so many records say; none where a record can't be read, or there is a second OPT record or
-// one of another owner than the root.
-fn read_opt(octets: &[u8], at: usize, count: u16) -> Option<OptSaid>
-    ensures read { IfSome result (λ said. (heads : List RrHead) × (end : ℕ)
+/// So many offsets can a pointer go to (RFC 1035, section 4.1.4).
+const POINTED_OFFSETS: usize = 0x4000;
+
+// What the records after the question say; none where one can't be read, or there is a second OPT record in the additional
+// section or one of another owner than the root.
+fn read_records(octets: &[u8], at: usize, header: Header) -> Option<OptSaid>
+    ensures read { IfSome result
+        (λ said. HasRecords octets.now at header said.edns said.version) }
+    ensures none { IfNone result ((edns : Option Edns) (version : ℕ)
+        → HasRecords octets.now at header edns version → ⊥) }
+{
+    match pass_records(octets, at, header, &mut []) {
+        Ok(said) => Some(said),
+        Err(NotPassed::Faulty) => None,
+        Err(NotPassed::Dear) => read_dear_records(octets, at, header),
+    }
+}
+
+// The same, with what stands where pointers go remembered.
+#[inline(never)]
+fn read_dear_records(octets: &[u8], at: usize, header: Header) -> Option<OptSaid>
+    ensures read { IfSome result
+        (λ said. HasRecords octets.now at header said.edns said.version) }
+    ensures none { IfNone result ((edns : Option Edns) (version : ℕ)
+        → HasRecords octets.now at header edns version → ⊥) }
+{
+    let mut sizes = [0; POINTED_OFFSETS];
+    match pass_records(octets, at, header, &mut sizes) {
+        Ok(said) => Some(said),
+        Err(NotPassed::Faulty) => None,
+        Err(NotPassed::Dear) => None,
+    }
+}
+
+fn pass_records(
+    octets: &[u8],
+    at: usize,
+    header: Header,
+    sizes: &mut [u8],
+) -> Result<OptSaid, NotPassed>
+    requires { AreSizes octets.now sizes.old }
+    ensures read { IfOk result
+        (λ said. HasRecords octets.now at header said.edns said.version) }
+    ensures faulty { result ≡ Err NotPassed.Faulty → (edns : Option Edns) (version : ℕ)
+        → HasRecords octets.now at header edns version → ⊥ }
+    ensures dear { result ≡ Err NotPassed.Dear → length sizes.old ≡ 0 }
+{
+    let passed = usize::from(header.answers) + usize::from(header.authorities);
+    let additional_at = skip_rrs(octets, at, passed, sizes)?;
+    let said = read_opt(octets, additional_at, header.additionals, sizes)?;
+    Ok(said)
+}
+
+// The offset after so many records.
+fn skip_rrs(octets: &[u8], at: usize, count: usize, sizes: &mut [u8]) -> Result<usize, NotPassed>
+    requires { AreSizes octets.now sizes.old }
+    ensures read { IfOk result (λ end. (heads : List RrHead)
+        × StandInTurn (IsRrHead octets.now) at heads end × (length heads ≡ count)) }
+    ensures faulty { result ≡ Err NotPassed.Faulty → (heads : List RrHead) (end : ℕ)
+        → StandInTurn (IsRrHead octets.now) at heads end → length heads ≡ count → ⊥ }
+    ensures dear { result ≡ Err NotPassed.Dear → length sizes.old ≡ 0 }
+    ensures sizes { AreSizes octets.now sizes.new }
+    ensures room { length sizes.new ≡ length sizes.old }
+{
+    let mut here = at;
+    for _ in 0..count {
+        let fields = skip_rr(octets, here, sizes)?;
+        here = fields.end;
+    }
+    Ok(here)
+}
+
+// What follows the owner name of the record at the offset.
+fn skip_rr(octets: &[u8], at: usize, sizes: &mut [u8]) -> Result<RrFields, NotPassed>
+    requires { AreSizes octets.now sizes.old }
+    ensures read { IfOk result (λ fields. (owner : List Label)
+        × IsRrHead octets.now at (record { owner = owner; fields = fields }) fields.end) }
+    ensures faulty { result ≡ Err NotPassed.Faulty → (head : RrHead) (end : ℕ)
+        → IsRrHead octets.now at head end → ⊥ }
+    ensures dear { result ≡ Err NotPassed.Dear → length sizes.old ≡ 0 }
+    ensures sizes { AreSizes octets.now sizes.new }
+    ensures room { length sizes.new ≡ length sizes.old }
+{
+    let fields_at = skip_name(octets, at, sizes)?;
+    match RrFields::read(octets, fields_at) {
+        Some(fields) => Ok(fields),
+        None => Err(NotPassed::Faulty),
+    }
+}
+
+// What the OPT records among so many records say. There may be one, whose owner is the root.
+fn read_opt(octets: &[u8], at: usize, count: u16, sizes: &mut [u8]) -> Result<OptSaid, NotPassed>
+    requires { AreSizes octets.now sizes.old }
+    ensures read { IfOk result (λ said. (heads : List RrHead) × (end : ℕ)
         × StandInTurn (IsRrHead octets.now) at heads end × (length heads ≡ count)
         × AreOpts (opts_of heads) said.edns said.version) }
-    ensures every { (heads : List RrHead) (end : ℕ) (edns : Option Edns) (version : ℕ)
+    ensures faulty { result ≡ Err NotPassed.Faulty
+        → (heads : List RrHead) (end : ℕ) (edns : Option Edns) (version : ℕ)
         → StandInTurn (IsRrHead octets.now) at heads end → length heads ≡ count
-        → AreOpts (opts_of heads) edns version → IsSome result }
+        → AreOpts (opts_of heads) edns version → ⊥ }
+    ensures dear { result ≡ Err NotPassed.Dear → length sizes.old ≡ 0 }
 {
     let mut said = OptSaid {
         edns: None,
@@ -157,18 +219,16 @@ fn read_opt(octets: &[u8], at: usize, count: u16) -> Option<OptSaid>
     };
     let mut here = at;
     for _ in 0..count {
-        let Some(fields) = skip_rr(octets, here) else {
-            return None;
-        };
+        let fields = skip_rr(octets, here, sizes)?;
         if fields.rtype == OPT_TYPE {
             if said.edns.is_some() || !is_root_at(octets, here) {
-                return None;
+                return Err(NotPassed::Faulty);
             }
             said = opt_said(fields);
         }
         here = fields.end;
     }
-    Some(said)
+    Ok(said)
 }
 
 fn opt_said(opt: RrFields) -> OptSaid

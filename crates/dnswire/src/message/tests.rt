@@ -298,3 +298,38 @@ fn noise_is_read_to_an_answer(rt: HostRuntime) -> Result<(), Fail> {
     assert_eq!(rt; octets.len(), 4096);
     Ok(())
 }
+
+// Labels of 63 octets.
+const LONG: &[u8] = b"\x3fabcdefgabcdefgabcdefgabcdefgabcdefgabcdefgabcdefgabcdefgabcdefg";
+
+#[test]
+fn an_owner_of_255_octets_by_a_pointer_is_read(rt: HostRuntime) -> Result<(), Fail> {
+    let alloc = rt.alloc();
+    for (size, is_read) in [(61usize, true), (62, false)] {
+        // The question's name has 193 octets, and the owner, at 209, one label before it.
+        let mut octets = Vec::new(alloc);
+        octets.extend_from_slice(b"\x00\x01\x81\xa0\x00\x01\x00\x01\x00\x00\x00\x00")?;
+        for _ in 0..3 {
+            octets.extend_from_slice(LONG)?;
+        }
+        octets.extend_from_slice(b"\x00\x00\x01\x00\x01")?;
+        octets.push(size as u8)?;
+        for _ in 0..size {
+            octets.push(b'a')?;
+        }
+        octets.extend_from_slice(b"\xc0\x0c\x00\x01\x00\x01\x00\x00\x00\x00\x00\x00")?;
+        match read_message(alloc, &octets) {
+            Ok(message) => {
+                assert!(rt; is_read, "{size}");
+                for rr in message.answer.as_slice() {
+                    assert_eq!(rt; rr.owner.wire().len(), 255);
+                }
+            }
+            Err(fault) => {
+                assert!(rt; !is_read, "{size}");
+                assert_eq!(rt; fault, WireFault::BadName { at: 209 });
+            }
+        }
+    }
+    Ok(())
+}

@@ -309,3 +309,40 @@ fn a_questions_name_has_at_most_255_octets(rt: HostRuntime) -> Result<(), Fail> 
     }
     Ok(())
 }
+
+// A question of the root; then a record whose data, from offset 28 on, is a chain of 20 pointers, the first to the root.
+const CHAIN: &[u8] =
+    b"\x12\x34\x01\x00\x00\x01\x00\x01\x00\x02\x00\x01\x00\x00\x01\x00\x01\x00\x00\x0a\x00\x01\x00\x00\x00\x00\x00\x28\xc0\x0c\xc0\x1c\xc0\x1e\xc0\x20\xc0\x22\xc0\x24\xc0\x26\xc0\x28\xc0\x2a\xc0\x2c\xc0\x2e\xc0\x30\xc0\x32\xc0\x34\xc0\x36\xc0\x38\xc0\x3a\xc0\x3c\xc0\x3e\xc0\x40";
+
+// Owners of two records of the authority section, and of an OPT record.
+const OWNERS: [(&[u8], &[u8], &[u8], Outcome); 7] = [
+    // The chain's last pointer; then one in its middle, and the last again.
+    (b"\xc0\x42", b"\xc0\x30", b"\xc0\x42", SIZE_512),
+    // Labels before it.
+    (b"\x01a\xc0\x42", b"\x01b\xc0\x44", b"\x00", SIZE_512),
+    // An OPT record whose owner isn't the root.
+    (b"\x01a\xc0\x42", b"\x00", b"\xc0\x44", FAULT),
+    // A pointer to itself, and one that goes on.
+    (b"\xc0\x44", b"\x00", b"\x00", FAULT),
+    (b"\xc0\x42", b"\xc0\x52", b"\x00", FAULT),
+    // A pointer to its own run, behind a pointer that goes back.
+    (b"\xc0\x42", b"\x01a\xc0\x50", b"\x00", FAULT),
+    (b"\x01a\xc0\x42", b"\x01a\xc0\x42", b"\x00", SIZE_512),
+];
+
+#[test]
+fn a_long_chain_of_pointers_is_read(rt: HostRuntime) -> Result<(), Fail> {
+    for (i, (first, second, third, outcome)) in OWNERS.iter().enumerate() {
+        let mut octets = Vec::new(rt.alloc());
+        octets.extend_from_slice(CHAIN)?;
+        for owner in [first, second] {
+            octets.extend_from_slice(owner)?;
+            octets.extend_from_slice(b"\x00\x01\x00\x01\x00\x00\x00\x00\x00\x00")?;
+        }
+        octets.extend_from_slice(third)?;
+        octets.extend_from_slice(b"\x00\x29\x02\x00\x00\x00\x00\x00\x00\x00")?;
+        let read = outcome_of(read_query(&octets));
+        assert_eq!(rt; read, *outcome, "{i}");
+    }
+    Ok(())
+}
