@@ -1,6 +1,6 @@
 -- The records of a section that are relayed, and when a relay is whole.
-use Rattle.std.proofs.Common.{◌≡◌, ℕ, ◌+◌, ◌%◌, ◌^◌, ◌<◌, ◌≤◌, Bool, true, false, List, [], ◌∷◌, ◌++◌, length, get_or, take, drop, Option, Some, None, is_none, refl, sym, ◌∙◌, ap, cond, arith, append-nil, inl, inr}
-use Rattle.std.specs.Prelude.{not, ◌&&◌, nat_le, if◌then◌else◌, filter}
+use Rattle.std.proofs.Common.{◌≡◌, ℕ, ◌+◌, ◌%◌, ◌^◌, ◌<◌, ◌≤◌, Bool, true, false, List, [], ◌∷◌, ◌++◌, length, get_or, take, drop, Some, None, is_none, refl, sym, ◌∙◌, ap, cond, arith, append-nil, inl, inr}
+use Rattle.std.specs.Prelude.{not, nat_le, if◌then◌else◌, filter}
 use Rattle.std.specs.List.{flat_map}
 use Rattle.std.proofs.lemmas.Bool.Decides.{leb_tells}
 use Rattle.std.proofs.lemmas.Grind.{flat_map-append}

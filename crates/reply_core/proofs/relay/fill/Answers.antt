@@ -1,4 +1,4 @@
-use Rattle.std.proofs.Common.{◌≡◌, ◌≤◌, length, sym, ◌∙◌, ap, arith}
+use Rattle.std.proofs.Common.{◌≤◌, length, sym, ◌∙◌, ap, arith}
 use Rattle.reply_core.specs.Draft.{put, blank}
 use Rattle.reply_core.specs.Reply.{limit_of}
 use Rattle.reply_core.specs.Relay.{whole_relay, truncated_relay, is_whole}

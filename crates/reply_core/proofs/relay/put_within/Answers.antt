@@ -4,7 +4,7 @@ use Rattle.dnswire.specs.Header.{is_set}
 use Rattle.dnswire.specs.declared.flags.TheConstants.{TC}
 use Rattle.reply_core.specs.Draft.{put, blank}
 use Rattle.reply_core.specs.Reply.{limit_of}
-use Rattle.reply_core.specs.Relay.{whole_relay, is_whole}
+use Rattle.reply_core.specs.Relay.{whole_relay}
 use Rattle.reply_core.proofs.RelayLemmas.{is_within, has_whole}
 use Rattle.reply_core.proofs.relay.put_within.Goals as goal
 

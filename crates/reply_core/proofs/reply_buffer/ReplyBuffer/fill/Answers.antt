@@ -1,5 +1,5 @@
-use Rattle.std.proofs.Common.{◌≡◌, ◌∙◌, ap}
-use Rattle.reply_core.specs.Draft.{put, blank}
+use Rattle.std.proofs.Common.{◌∙◌, ap}
+use Rattle.reply_core.specs.Draft.{put}
 use Rattle.reply_core.proofs.DraftLemmas.{blank-has}
 use Rattle.reply_core.proofs.reply_buffer.ReplyBuffer.fill.Goals as goal
 
