@@ -1,5 +1,6 @@
 //! Seats of one cache. What they read is what RFC 8198 makes of the batches that were placed.
-ghost use Rattle.resolver.specs.Caches.{IsSeatOf};
+ghost use Rattle.std.specs.Prelude.{All, IfOk};
+ghost use Rattle.resolver.specs.Caches.{IsFreshSeat, IsSeatOf};
 
 use super::records::{ZONE, nsec, set};
 use crate::{CacheFault, CacheSeat, Outcome, SharedCache};
@@ -71,6 +72,18 @@ fn own_batches<R: Wait>(
     Ok(look(cache, &mut seat))
 }
 
+// One of the seats that no call was made with.
+fn unused(cache: &SharedCache, seats: &mut Vec<CacheSeat>) -> Result<CacheSeat, CacheFault>
+    requires { All (IsFreshSeat cache.now) seats.old.items }
+    ensures seat { IfOk result (IsSeatOf cache.now) }
+    ensures rest { All (IsFreshSeat cache.now) seats.new.items }
+{
+    match seats.pop() {
+        Some(seat) => Ok(seat),
+        None => Err(CacheFault::OutOfMemory),
+    }
+}
+
 fn place<R: Wait>(
     rt: &R,
     alloc: Global,
@@ -85,20 +98,25 @@ fn place<R: Wait>(
     Ok(())
 }
 
-// What two seats find, of which the one looks and the other asks.
-fn found(
+// What two seats find after a third placed the batch: the one looks and the other asks.
+fn found<R: Wait>(
+    rt: &R,
+    alloc: Global,
     cache: &SharedCache,
-    one: CacheSeat,
-    two: CacheSeat,
+    seats: Vec<CacheSeat>,
+    batch: Batch,
     question: &Question,
     reply: &mut ReplyBuffer,
-) -> (Sight, Outcome)
-    requires { IsSeatOf cache.now one × IsSeatOf cache.now two }
+) -> Result<(Sight, Outcome), CacheFault>
+    requires { All (IsFreshSeat cache.now) seats.items }
 {
-    let mut one = one;
-    let mut two = two;
+    let mut seats = seats;
+    let zero = unused(cache, &mut seats)?;
+    let mut one = unused(cache, &mut seats)?;
+    let mut two = unused(cache, &mut seats)?;
+    place(rt, alloc, cache, zero, batch)?;
     let sight = look(cache, &mut one);
-    (sight, cache.query(&mut two, question, THEN + 10, reply))
+    Ok((sight, cache.query(&mut two, question, THEN + 10, reply)))
 }
 
 // The newer record takes the place of both that it meets.
@@ -125,14 +143,8 @@ fn each_seat_reads_what_one_inserted(rt: HostRuntime) -> Result<(), Fail> {
     };
     let batch = batch(alloc, &[(A, B)])?;
     let mut reply = ReplyBuffer::new();
-    let (cache, mut seats) = SharedCache::with_seats(&rt, alloc, 3)?;
-    let seen = match (seats.pop(), seats.pop(), seats.pop()) {
-        (Some(two), Some(one), Some(zero)) => match place(&rt, alloc, &cache, zero, batch) {
-            Ok(()) => Ok(found(&cache, one, two, &question, &mut reply)),
-            Err(fault) => Err(fault),
-        },
-        _ => Err(CacheFault::OutOfMemory),
-    };
+    let (cache, seats) = SharedCache::with_seats(&rt, alloc, 3)?;
+    let seen = found(&rt, alloc, &cache, seats, batch, &question, &mut reply);
     cache.give_up(&rt);
     assert_eq!(rt; seen, Ok(((1, 2), Outcome::Answered { version: 1 })));
     assert_eq!(rt; reply.as_slice(), NO_DATA);
