@@ -2,6 +2,8 @@ pub mod Reply
 pub mod Kept
 pub mod Shown
 pub mod Error
+pub mod Ask
+pub mod Relay
 pub mod Draft
 pub mod Owner
 pub mod Count

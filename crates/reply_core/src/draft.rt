@@ -1,5 +1,4 @@
 ghost use Rattle.std.specs.Prelude.{◌≡◌, ◌≤◌, length, is_none};
-ghost use Rattle.byteorder.specs.Endian.{big_bytes};
 ghost use Rattle.reply_core.specs.Draft.{put, blank, octets_of};
 ghost use Rattle.reply_core.specs.declared.draft.TheConstants.{MAX_REPLY};
 
@@ -71,24 +70,6 @@ impl Draft {
         }
         let fitted = self.octets.try_extend_from_slice(octets).is_ok();
         prove!(fitted);
-    }
-
-    pub(crate) fn put_u8(&mut self, number: u8)
-        ensures { self.new ≡ put self.old (big_bytes 1 number) }
-    {
-        self.put(&number.to_be_bytes());
-    }
-
-    pub(crate) fn put_u16(&mut self, number: u16)
-        ensures { self.new ≡ put self.old (big_bytes 2 number) }
-    {
-        self.put(&number.to_be_bytes());
-    }
-
-    pub(crate) fn put_u32(&mut self, number: u32)
-        ensures { self.new ≡ put self.old (big_bytes 4 number) }
-    {
-        self.put(&number.to_be_bytes());
     }
 
     /// Whether more was put than the limit.

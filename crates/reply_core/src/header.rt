@@ -1,4 +1,4 @@
-ghost use Rattle.std.specs.Prelude.{◌≡◌, ◌≤◌, length};
+ghost use Rattle.std.specs.Prelude.{◌≡◌, ◌≤◌, length, Some};
 ghost use Rattle.reply_core.specs.Reply.{wants_dnssec, flag, rcode_of, head_of, flags_of, reply_flags, header_octets, opt_octets, opt_count, bare_octets};
 ghost use Rattle.reply_core.specs.Draft.{put};
 ghost use Rattle.dnswire.specs.declared.edns.TheConstants.{LEAST_PAYLOAD};
@@ -69,12 +69,39 @@ pub(crate) fn put_header(
     ensures { draft.new
         ≡ put draft.old (header_octets id flags questions answers authorities additionals) }
 {
-    draft.put_u16(id);
-    draft.put_u16(flags);
-    draft.put_u16(questions);
-    draft.put_u16(answers);
-    draft.put_u16(authorities);
-    draft.put_u16(additionals);
+    draft.put(&header(id, flags, questions, answers, authorities, additionals));
+}
+
+fn header(
+    id: u16,
+    flags: u16,
+    questions: u16,
+    answers: u16,
+    authorities: u16,
+    additionals: u16,
+) -> [u8; 12]
+    ensures { result ≡ header_octets id flags questions answers authorities additionals }
+{
+    let [id_high, id_low] = id.to_be_bytes();
+    let [flags_high, flags_low] = flags.to_be_bytes();
+    let [questions_high, questions_low] = questions.to_be_bytes();
+    let [answers_high, answers_low] = answers.to_be_bytes();
+    let [authorities_high, authorities_low] = authorities.to_be_bytes();
+    let [additionals_high, additionals_low] = additionals.to_be_bytes();
+    [
+        id_high,
+        id_low,
+        flags_high,
+        flags_low,
+        questions_high,
+        questions_low,
+        answers_high,
+        answers_low,
+        authorities_high,
+        authorities_low,
+        additionals_high,
+        additionals_low,
+    ]
 }
 
 /// The question, as it was asked.
@@ -90,17 +117,20 @@ pub(crate) fn put_opt(draft: &mut Draft, upper: u8, edns: Option<Edns>)
     ensures { draft.new ≡ put draft.old (opt_octets upper edns) }
 {
     match edns {
-        Some(edns) => {
-            draft.put(&[0]);
-            draft.put_u16(OPT_TYPE);
-            draft.put_u16(MAX_REPLY as u16);
-            draft.put_u8(upper);
-            draft.put_u8(VERSION);
-            draft.put_u16(flag(edns.dnssec, DO));
-            draft.put_u16(0);
-        }
+        Some(edns) => draft.put(&opt(upper, edns)),
         None => {}
     }
+}
+
+fn opt(upper: u8, edns: Edns) -> [u8; 11]
+    ensures { result ≡ opt_octets upper (Some edns) }
+{
+    let [type_high, type_low] = OPT_TYPE.to_be_bytes();
+    let [size_high, size_low] = (MAX_REPLY as u16).to_be_bytes();
+    let [flags_high, flags_low] = flag(edns.dnssec, DO).to_be_bytes();
+    [
+        0, type_high, type_low, size_high, size_low, upper, VERSION, flags_high, flags_low, 0, 0,
+    ]
 }
 
 /// A reply without records but OPT, with these flags and upper bits of the RCODE.
@@ -124,7 +154,8 @@ pub(crate) fn opt_count(edns: Option<Edns>) -> u16
     }
 }
 
-fn flag(set: bool, bit: u16) -> u16
+/// The flag's bit where it is set.
+pub(crate) fn flag(set: bool, bit: u16) -> u16
     ensures { result ≡ flag set bit }
 {
     if set { bit } else { 0 }

@@ -1,9 +1,11 @@
-//! Replies to DNS queries, written octet by octet (RFC 1035, section 4.1).
+//! Replies to DNS queries, and the queries by which they are asked upstream, written octet by octet (RFC 1035, section
+//! 4.1).
 //!
-//! Specs, in reading order: `Kept`, `Reply`, `Shown` and `Error`, which public clauses cite; `Answered`, the reply that held
-//! records give; and for the inner steps `Draft`, `Owner` and `Count`.
+//! Specs, in reading order: `Kept`, `Reply`, `Shown`, `Error`, `Ask` and `Relay`, which public clauses cite; `Answered`, the
+//! reply that held records give; and for the inner steps `Draft`, `Owner` and `Count`.
 #![tactic(auto)]
 
+mod ask;
 mod counts;
 mod draft;
 mod error;
@@ -11,10 +13,13 @@ mod header;
 mod owner;
 pub mod rcode;
 mod records;
+mod relay;
 mod reply;
 mod reply_buffer;
 
+pub use ask::write_ask;
 pub use draft::MAX_REPLY;
 pub use error::{write_error, write_plain};
+pub use relay::write_relay;
 pub use reply::write_reply;
 pub use reply_buffer::ReplyBuffer;

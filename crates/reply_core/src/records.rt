@@ -1,6 +1,7 @@
-ghost use Rattle.std.specs.Prelude.{◌≡◌, true};
+ghost use Rattle.std.specs.Prelude.{◌≡◌, ◌++◌, length, true};
 ghost use Rattle.std.specs.List.{flat_map};
 ghost use Rattle.std.specs.Option.{option_copied};
+ghost use Rattle.byteorder.specs.Endian.{big_bytes};
 ghost use Rattle.denial_records.specs.declared.record.Record.TheVariants as kept;
 ghost use Rattle.reply_core.specs.Draft.{put};
 ghost use Rattle.reply_core.specs.Reply.{ReplyRecord, record_octets, records_of, signature_records, set_records, proof_records};
@@ -118,9 +119,29 @@ fn put_record(draft: &mut Draft, ttl: u32, owner: &Owner<'_>, rtype: u16, rdata:
         (record { owner = labels_of owner.now; rtype = rtype; rdata = rdata.now })) }
 {
     owner.put(draft);
-    draft.put_u16(rtype);
-    draft.put_u16(IN_CLASS);
-    draft.put_u32(ttl);
-    draft.put_u16(low16(rdata.len()));
+    put_rest(draft, rtype, IN_CLASS, ttl, rdata);
+}
+
+/// What stands after the owner of a record.
+pub(crate) fn put_rest(draft: &mut Draft, rtype: u16, class: u16, ttl: u32, rdata: &[u8])
+    ensures { draft.new ≡ put draft.old (big_bytes 2 rtype ++ big_bytes 2 class ++ big_bytes 4 ttl
+        ++ big_bytes 2 (length rdata.now) ++ rdata.now) }
+{
+    draft.put(&fields(rtype, class, ttl, low16(rdata.len())));
     draft.put(rdata);
+}
+
+// A record's type, class, TTL and the length of its data.
+fn fields(rtype: u16, class: u16, ttl: u32, size: u16) -> [u8; 10]
+    ensures { result
+        ≡ big_bytes 2 rtype ++ big_bytes 2 class ++ big_bytes 4 ttl ++ big_bytes 2 size }
+{
+    let [type_high, type_low] = rtype.to_be_bytes();
+    let [class_high, class_low] = class.to_be_bytes();
+    let [first, second, third, fourth] = ttl.to_be_bytes();
+    let [size_high, size_low] = size.to_be_bytes();
+    [
+        type_high, type_low, class_high, class_low, first, second, third, fourth, size_high,
+        size_low,
+    ]
 }

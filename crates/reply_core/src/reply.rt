@@ -107,8 +107,8 @@ fn count_authorities(question: &Question, verdict: &Verdict<'_>) -> u16
 
 const LEAST: usize = LEAST_PAYLOAD as usize;
 
-// The octets that the reply has at most.
-fn limit_of(edns: Option<Edns>) -> usize
+/// The octets that a reply has at most.
+pub(crate) fn limit_of(edns: Option<Edns>) -> usize
     ensures value { result ≡ limit_of edns }
     ensures low { LEAST_PAYLOAD ≤ result }
     ensures high { result ≤ MAX_REPLY }

@@ -29,6 +29,22 @@ impl ReplyBuffer {
         }
     }
 
+    /// Holds these octets in place of what it held.
+    pub fn fill(&mut self, octets: &[u8])
+        requires { length octets.now ≤ MAX_REPLY }
+        ensures { self.new ≡ octets.now }
+    {
+        self.draft.restart(MAX_REPLY);
+        self.draft.put(octets);
+    }
+
+    /// Empties the buffer.
+    pub fn clear(&mut self)
+        ensures { self.new ≡ [] }
+    {
+        self.draft.restart(MAX_REPLY);
+    }
+
     pub fn as_slice(&self) -> &[u8]
         ensures value { result.now ≡ self.now }
         ensures fits { length result.now ≤ MAX_REPLY }

@@ -1,10 +1,6 @@
-use Rattle.std.proofs.Common.{◌≡◌, length}
-use Rattle.byteorder.specs.Endian.{big_bytes}
+use Rattle.std.proofs.Common.{append_assoc}
 use Rattle.reply_core.proofs.DraftLemmas.{put-put}
-use Rattle.reply_core.proofs.CountLemmas.{big_bytes-low16}
 use Rattle.reply_core.proofs.records.put_record.Goals as goal
 
 pub returns : goal.returns
-returns c =
-    let size : big_bytes 2 c.low16.result ≡ big_bytes 2 (length c.args.rdata.now) = rw c.low16.ensures (big_bytes-low16 (length c.args.rdata.now)) in
-    rw (c.put-2.ensures, c.put_u16-3.ensures, size, c.put_u32.ensures, c.put_u16-2.ensures, c.put_u16.ensures, c.put.ensures) (simp put-put)
+returns c = rw (c.put_rest.ensures, c.put.ensures) (simp (put-put, append_assoc))
