@@ -41,12 +41,19 @@ fn message(alloc: Global, seed: u32, names: u32, k: u32) -> Result<Octets, OutOf
     let owner = made_owner(k);
     let mut out = Octets::empty(alloc);
     out.append(&header(k, MESSAGE_FLAGS, answers_of(k), 4, 0))?;
-    out.append(owner.wire())?;
-    out.append(&question_tail(A_TYPE))?;
+    put_question(&mut out, &owner, A_TYPE)?;
     put_answer(&mut out, seed, k)?;
     put_signed(&mut out, &apex(), SOA_TYPE, &SOA_DATA)?;
     put_nsec(alloc, &mut out, names, k)?;
     Ok(out)
+}
+
+fn put_question(out: &mut Octets, name: &Name, qtype: u16) -> Result<(), OutOfMemory>
+    ensures { OnOk result (out.new ≡ out.old ++ question_octets name.now qtype) }
+{
+    out.append(name.wire())?;
+    out.append(&question_tail(qtype))?;
+    Ok(())
 }
 
 // The number of records of the answer section.
@@ -69,14 +76,15 @@ fn put_answer(out: &mut Octets, seed: u32, k: u32) -> Result<(), OutOfMemory>
     if k == 0 {
         return Ok(());
     }
-    put_answer_in(out, turn_at(k - 1), seed, k - 1)
+    put_answer_in(out, turn_at(k - 1), seed, k - 1)?;
+    Ok(())
 }
 
 fn put_answer_in(out: &mut Octets, turn: Turn, seed: u32, i: u32) -> Result<(), OutOfMemory>
     ensures { OnOk result (out.new ≡ out.old ++ answer_in (turn_of turn) seed i) }
 {
     match turn {
-        Turn::Wild => put_signed(out, &made_owner(i + 1), A_TYPE, &address_at(seed, i)),
+        Turn::Wild => put_signed(out, &owner_at(i), A_TYPE, &address_at(seed, i)),
         Turn::Host | Turn::Above | Turn::Cut => Ok(()),
     }
 }
@@ -116,7 +124,8 @@ fn put_signed(
     ensures { OnOk result (out.new ≡ out.old ++ signed_octets owner.now rtype rdata.now) }
 {
     put_record(out, owner, rtype, rdata)?;
-    put_record(out, owner, RRSIG_TYPE, &signature_data(owner, rtype))
+    put_record(out, owner, RRSIG_TYPE, &signature_data(owner, rtype))?;
+    Ok(())
 }
 
 fn put_record(

@@ -35,8 +35,10 @@ fn with_apex(alloc: Global) -> Result<ZoneTable, OutOfMemory>
         → IsPermutation (made_zone seed 0).records zone.records) }
 {
     let mut zone = ZoneTable::at(alloc, apex());
-    put(&mut zone, apex(), NS_TYPE, Octets::of(alloc, name_server().wire())?)?;
-    put(&mut zone, apex(), SOA_TYPE, Octets::of(alloc, &SOA_DATA)?)?;
+    let servers = Octets::of(alloc, name_server().wire())?;
+    let authority = Octets::of(alloc, &SOA_DATA)?;
+    put(&mut zone, apex(), NS_TYPE, servers)?;
+    put(&mut zone, apex(), SOA_TYPE, authority)?;
     Ok(zone)
 }
 
@@ -51,7 +53,8 @@ fn put_name(alloc: Global, zone: &mut ZoneTable, seed: u32, i: u32) -> Result<()
 {
     let turn = turn_at(i);
     let data = data_in(alloc, turn, seed, i)?;
-    put(zone, owner_at(i), type_in(turn), data)
+    put(zone, owner_at(i), type_in(turn), data)?;
+    Ok(())
 }
 
 // Puts a record that the zone doesn't have yet.
