@@ -1,10 +1,10 @@
 -- The names of a made zone are short, without capitals, and each another.
-use Rattle.std.proofs.Common.{◌≡◌, ◌≢◌, ℕ, ◌/◌, ◌%◌, ◌<◌, ◌≤◌, List, [], ◌∷◌, ◌++◌, length, reverse, get_or, refl, sym, ◌∙◌, ap, arith}
+use Rattle.std.proofs.Common.{◌≡◌, ◌≢◌, ℕ, ◌/◌, ◌<◌, List, [], ◌∷◌, ◌++◌, length, reverse, get_or, refl, sym, ◌∙◌, ap, arith}
 use Rattle.std.specs.Prelude.{codes}
 use Rattle.std.specs.Char.{to_ascii_lowercase}
 use Rattle.std.proofs.lemmas.Str.Ascii.{lowercase_is}
-use Rattle.dname.specs.Name.{Label, lowered, without_asterisk}
-use Rattle.zone_maker.specs.Made.{made_example, digit, six_digits, name_at, Turn, Host, Above, Cut, Wild, turn_from, turn_at, owner_in}
+use Rattle.dname.specs.Name.{Label, lowered}
+use Rattle.zone_maker.specs.Made.{made_example, digit, six_digits, name_at, Turn, Host, Above, Cut, Wild, owner_in}
 
 -- ---- digits
 

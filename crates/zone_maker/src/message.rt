@@ -114,12 +114,7 @@ fn first_of(k: u32) -> u8
 }
 
 // A record and its signature.
-fn put_signed(
-    out: &mut Octets,
-    owner: &Name,
-    rtype: u16,
-    rdata: &[u8],
-) -> Result<(), OutOfMemory>
+fn put_signed(out: &mut Octets, owner: &Name, rtype: u16, rdata: &[u8]) -> Result<(), OutOfMemory>
     requires { length rdata.now < 2 ^ 16 }
     ensures { OnOk result (out.new ≡ out.old ++ signed_octets owner.now rtype rdata.now) }
 {
@@ -128,12 +123,7 @@ fn put_signed(
     Ok(())
 }
 
-fn put_record(
-    out: &mut Octets,
-    owner: &Name,
-    rtype: u16,
-    rdata: &[u8],
-) -> Result<(), OutOfMemory>
+fn put_record(out: &mut Octets, owner: &Name, rtype: u16, rdata: &[u8]) -> Result<(), OutOfMemory>
     requires { length rdata.now < 2 ^ 16 }
     ensures { OnOk result (out.new ≡ out.old ++ record_octets owner.now rtype rdata.now) }
 {

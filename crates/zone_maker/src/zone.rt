@@ -58,12 +58,7 @@ fn put_name(alloc: Global, zone: &mut ZoneTable, seed: u32, i: u32) -> Result<()
 }
 
 // Puts a record that the zone doesn't have yet.
-fn put(
-    zone: &mut ZoneTable,
-    owner: Name,
-    rtype: u16,
-    octets: Octets,
-) -> Result<(), OutOfMemory>
+fn put(zone: &mut ZoneTable, owner: Name, rtype: u16, octets: Octets) -> Result<(), OutOfMemory>
     requires under { IsUnder owner zone.old.apex }
     requires plain { IsProofType rtype → ⊥ }
     requires fresh { HasData zone.old owner rtype octets → ⊥ }

@@ -13,7 +13,7 @@ returns c = five_pieces c.append.new.self c.put_question.new.out c.put_answer.ne
     (signed_octets made_example SOA_TYPE soa_data)
     (signed_octets (made_owner c.args.k) NSEC_TYPE (nsec_data c.args.names c.args.k))
     (c.in_ok-append.ensures.ok ∙ ap (λ old. old ++ c.header.result) c.empty-out.ensures ∙ c.header.ensures
-        ∙ ap (λ answers. header_octets c.args.k message_flags answers 4 0) c.answers_of.ensures)
+    ∙ ap (λ answers. header_octets c.args.k message_flags answers 4 0) c.answers_of.ensures)
     (c.in_ok-put_question.ensures ∙ ap (λ owner. c.append.new.self ++ question_octets owner A_TYPE) c.made_owner-owner.ensures)
     c.in_ok-put_answer.ensures
     (c.in_ok-put_signed.ensures ∙ ap (λ owner. c.put_answer.new.out ++ signed_octets owner SOA_TYPE soa_data) c.apex.ensures)
