@@ -1,1 +1,4 @@
 pub mod MadeLemmas
+pub mod MessageLemmas
+pub mod NameLemmas
+pub mod ZoneLemmas

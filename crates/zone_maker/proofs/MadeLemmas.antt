@@ -9,7 +9,7 @@ use Rattle.zone_meaning.specs.Zone.{ZoneRecord, IsZone, IsProofType}
 use Rattle.zone_meaning.specs.ZoneTable.{zone_record}
 use Rattle.zone_maker.specs.Made.{made_example, name_server, name_at, Turn, Host, Above, Cut, Wild, turn_at, owner_in, type_in, record_in, soa_data, made_zone}
 
-below : (turn : Turn) (i : ℕ) → IsUnder (owner_in turn (name_at i)) made_example
+pub below : (turn : Turn) (i : ℕ) → IsUnder (owner_in turn (name_at i)) made_example
 below Host i = (_ ∷ [], refl)
 below Above i = (_ ∷ _ ∷ [], refl)
 below Cut i = (_ ∷ [], refl)
