@@ -1,5 +1,6 @@
 pub mod InsertLemmas
 pub mod KeptLemmas
+mod MarkLemmas
 pub mod MemberLemmas
 pub mod OrderLemmas
 pub mod RunLemmas

@@ -16,6 +16,6 @@ mod search;
 pub use arcs::Arcs;
 pub use laws::{arcs_stay_arcs, one_span_has_a_key, what_with_leaves};
 pub use met::Met;
-pub use page_list::{Iter, OutOfMemory};
+pub use page_list::{MarkedIter, OutOfMemory};
 pub use place::Place;
-pub use ring_span::RingSpan;
+pub use ring_span::{ByStart, RingSpan};
