@@ -4,4 +4,4 @@ pub mod MarkLemmas
 pub mod OrderLemmas
 pub mod PlaceLemmas
 pub mod PrefixLemmas
-pub mod TestLemmas
+pub mod RiseLemmas

@@ -1,5 +1,6 @@
 pub mod InsertLemmas
 pub mod KeptLemmas
+pub mod KeyMarkLemmas
 mod MarkLemmas
 pub mod MemberLemmas
 pub mod OrderLemmas

@@ -21,9 +21,9 @@ module _ {S F K : Type 0} (cmp : K → K → Ordering) (total : IsTotalOrder cmp
   after_is_not_before : (one other : K) → cmp one other ≡ Less → is_lt (cmp other one) ≡ false
   after_is_not_before one other less = grind (arith, common_steps, total)
 
-  module _ (xs : List S) (all : AreOfFrame frame_of frame xs) where
+  module _ (xs : List S) (all : AreOfFrame frame_of mark frame xs) where
     in_frame : (x : S) → Contains xs x → mark_of x ≡ mark frame (start x)
-    in_frame x has = ap (λ f. mark f (start x)) (All-contains (λ span. frame_of span ≡ frame) xs x all has)
+    in_frame x has = All-contains (λ span. (other : K) → mark (frame_of span) other ≡ mark frame other) xs x all has (start x)
 
     lesser : (x : S) → Contains xs x → mark_of x < mark frame key → cmp (start x) key ≡ Less
     lesser x has less = rise frame (start x) key (subst (λ n. n < mark frame key) (in_frame x has) less)

@@ -70,7 +70,7 @@ impl<T: Drop, R: RingSpan<T>> Arcs<T, R> {
     /// The span whose arc has the key, and where in it the key lies; None where no arc has it. The key is compared three
     /// times more at most than a search of the list takes.
     pub fn at(&self, frame: &R::Key, key: &R::Key) -> Option<(&T, Place)>
-        requires { AreOfFrame R.frame frame.now self.now }
+        requires { AreOfFrame R.frame R.mark frame.now self.now }
         ensures span { MatchOption result
             (filter (span_has R.Key.Ord.cmp R.start R.end key.now) self.now ≡ [])
             (λ found. filter (span_has R.Key.Ord.cmp R.start R.end key.now) self.now ≡ found.0.now ∷ []) }
@@ -91,7 +91,7 @@ impl<T: Drop, R: RingSpan<T>> Arcs<T, R> {
 
     /// The spans whose arcs don't meet the new one's, and the new one.
     pub fn with(&self, alloc: Global, span: Arc<T>) -> Result<Arcs<T, R>, OutOfMemory>
-        requires { AreOfFrame R.frame (R.frame (arc_value span)) self.now }
+        requires { AreOfFrame R.frame R.mark (R.frame (arc_value span)) self.now }
         ensures { IfOk result (λ made.
             made ≡ arcs_with R.Key.Ord.cmp R.start R.end (arc_value span) self.now) }
     {
@@ -101,7 +101,7 @@ impl<T: Drop, R: RingSpan<T>> Arcs<T, R> {
 
     /// Which spans `with` drops for this one: those that it meets.
     pub fn met_by(&self, span: &T) -> Met
-        requires { AreOfFrame R.frame (R.frame span.now) self.now }
+        requires { AreOfFrame R.frame R.mark (R.frame span.now) self.now }
         ensures { FailInRuns (is_apart R.Key.Ord.cmp R.start R.end span.now) self.now
             result.from result.to result.last }
     {
@@ -115,7 +115,7 @@ impl<T: Drop, R: RingSpan<T>> Arcs<T, R> {
         frame: &R::Key,
         key: &R::Key,
     ) -> Result<Arcs<T, R>, OutOfMemory>
-        requires { AreOfFrame R.frame frame.now self.now }
+        requires { AreOfFrame R.frame R.mark frame.now self.now }
         ensures { IfOk result (λ made.
             made ≡ filter (starts_elsewhere R.Key.Ord.cmp R.start key.now) self.now) }
     {

@@ -19,7 +19,7 @@ pub(crate) fn list_with<T: Drop, R: RingSpan<T>>(
     list: &MarkedList<T, ByStart<R>>,
     span: Arc<T>,
 ) -> Result<MarkedList<T, ByStart<R>>, OutOfMemory>
-    requires frame { AreOfFrame R.frame (R.frame (arc_value span)) list.now }
+    requires frame { AreOfFrame R.frame R.mark (R.frame (arc_value span)) list.now }
     requires arcs { IsArcs R.Key.Ord.cmp R.start R.end list.now }
     ensures { IfOk result (λ made.
         made ≡ arcs_with R.Key.Ord.cmp R.start R.end (arc_value span) list.now) }
@@ -32,7 +32,7 @@ pub(crate) fn list_with<T: Drop, R: RingSpan<T>>(
 }
 
 pub(crate) fn met_in<T: Drop, R: RingSpan<T>>(list: &MarkedList<T, ByStart<R>>, span: &T) -> Met
-    requires frame { AreOfFrame R.frame (R.frame span.now) list.now }
+    requires frame { AreOfFrame R.frame R.mark (R.frame span.now) list.now }
     requires arcs { IsArcs R.Key.Ord.cmp R.start R.end list.now }
     ensures { FailInRuns (is_apart R.Key.Ord.cmp R.start R.end span.now) list.now
         result.from result.to result.last }
@@ -50,7 +50,7 @@ fn with_plain<T: Drop, R: RingSpan<T>>(
     list: &MarkedList<T, ByStart<R>>,
     span: Arc<T>,
 ) -> Result<MarkedList<T, ByStart<R>>, OutOfMemory>
-    requires frame { AreOfFrame R.frame (R.frame (arc_value span)) list.now }
+    requires frame { AreOfFrame R.frame R.mark (R.frame (arc_value span)) list.now }
     requires arcs { IsArcs R.Key.Ord.cmp R.start R.end list.now }
     requires plain { is_lt (R.Key.Ord.cmp (R.start (arc_value span)) (R.end (arc_value span))) ≡ true }
     ensures { IfOk result (λ made.
@@ -67,7 +67,7 @@ fn with_plain<T: Drop, R: RingSpan<T>>(
 }
 
 fn plain_met<T: Drop, R: RingSpan<T>>(list: &MarkedList<T, ByStart<R>>, span: &T) -> Met
-    requires frame { AreOfFrame R.frame (R.frame span.now) list.now }
+    requires frame { AreOfFrame R.frame R.mark (R.frame span.now) list.now }
     requires arcs { IsArcs R.Key.Ord.cmp R.start R.end list.now }
     requires plain { is_lt (R.Key.Ord.cmp (R.start span.now) (R.end span.now)) ≡ true }
     ensures { IsPlainMet (is_apart R.Key.Ord.cmp R.start R.end span.now) list.now span.now
@@ -86,7 +86,7 @@ fn with_over<T: Drop, R: RingSpan<T>>(
     list: &MarkedList<T, ByStart<R>>,
     span: Arc<T>,
 ) -> Result<MarkedList<T, ByStart<R>>, OutOfMemory>
-    requires frame { AreOfFrame R.frame (R.frame (arc_value span)) list.now }
+    requires frame { AreOfFrame R.frame R.mark (R.frame (arc_value span)) list.now }
     requires arcs { IsArcs R.Key.Ord.cmp R.start R.end list.now }
     requires over { is_lt (R.Key.Ord.cmp (R.start (arc_value span)) (R.end (arc_value span))) ≡ false }
     ensures { IfOk result (λ made.
@@ -103,7 +103,7 @@ fn with_over<T: Drop, R: RingSpan<T>>(
 }
 
 fn over_met<T: Drop, R: RingSpan<T>>(list: &MarkedList<T, ByStart<R>>, span: &T) -> Met
-    requires frame { AreOfFrame R.frame (R.frame span.now) list.now }
+    requires frame { AreOfFrame R.frame R.mark (R.frame span.now) list.now }
     requires arcs { IsArcs R.Key.Ord.cmp R.start R.end list.now }
     requires over { is_lt (R.Key.Ord.cmp (R.start span.now) (R.end span.now)) ≡ false }
     ensures front { result.from ≡ 0 }

@@ -8,6 +8,7 @@ mod arcs;
 mod cut;
 mod kept;
 mod laws;
+mod marks;
 mod met;
 mod place;
 mod ring_span;
@@ -15,6 +16,7 @@ mod search;
 
 pub use arcs::Arcs;
 pub use laws::{arcs_stay_arcs, one_span_has_a_key, what_with_leaves};
+pub use marks::{hash_mark, name_mark};
 pub use met::Met;
 pub use page_list::{MarkedIter, OutOfMemory};
 pub use place::Place;

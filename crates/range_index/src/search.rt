@@ -19,7 +19,7 @@ pub(crate) fn starts_upto<T: Drop, R: RingSpan<T>>(
     frame: &R::Key,
     key: &R::Key,
 ) -> usize
-    requires frame { AreOfFrame R.frame frame.now list.now }
+    requires frame { AreOfFrame R.frame R.mark frame.now list.now }
     requires parted { IsPartitionedBy (λ span. is_le (R.Key.Ord.cmp (R.start span) key.now)) list.now }
     ensures value { result ≡ prefix_len (λ span. is_le (R.Key.Ord.cmp (R.start span) key.now)) list.now }
     ensures in_range { result ≤ length list.now }
@@ -33,7 +33,7 @@ pub(crate) fn starts_before<T: Drop, R: RingSpan<T>>(
     frame: &R::Key,
     key: &R::Key,
 ) -> usize
-    requires frame { AreOfFrame R.frame frame.now list.now }
+    requires frame { AreOfFrame R.frame R.mark frame.now list.now }
     requires parted { IsPartitionedBy (λ span. is_lt (R.Key.Ord.cmp (R.start span) key.now)) list.now }
     ensures value { result ≡ prefix_len (λ span. is_lt (R.Key.Ord.cmp (R.start span) key.now)) list.now }
     ensures in_range { result ≤ length list.now }
@@ -47,7 +47,7 @@ pub(crate) fn candidate<T: Drop, R: RingSpan<T>>(
     frame: &R::Key,
     key: &R::Key,
 ) -> (usize, bool)
-    requires frame { AreOfFrame R.frame frame.now list.now }
+    requires frame { AreOfFrame R.frame R.mark frame.now list.now }
     requires some { 0 < length list.now }
     requires arcs { IsArcs R.Key.Ord.cmp R.start R.end list.now }
     ensures { IsCandidate (span_has R.Key.Ord.cmp R.start R.end key.now)
@@ -67,7 +67,7 @@ pub(crate) fn starting_at<T: Drop, R: RingSpan<T>>(
     frame: &R::Key,
     key: &R::Key,
 ) -> (usize, usize)
-    requires frame { AreOfFrame R.frame frame.now list.now }
+    requires frame { AreOfFrame R.frame R.mark frame.now list.now }
     requires arcs { IsArcs R.Key.Ord.cmp R.start R.end list.now }
     ensures { IsCut (starts_elsewhere R.Key.Ord.cmp R.start key.now) list.now result.0 result.1 }
 {
