@@ -107,7 +107,7 @@ less_of a b is = grind (arith, nat_tests, common_steps)
 not_less : (a b : ℕ) → nat_lt a b ≡ false → b ≤ a
 not_less a b is = grind (arith, nat_tests, common_steps)
 
-module _ (sets : List Record) (order : IsInOrder set_cmp sets) (are : (item : Record) → Contains sets item → chain_of item ≡ None) (apex : List Label) (from : ℕ) (found : from ≡ prefix_len (λ item. nat_lt (set_mark item) (zone_part apex * 2 ^ 32)) sets) where
+module _ (sets : List Record) (order : IsInOrder set_cmp sets) (are : (item : Record) → Contains sets item → chain_of item ≡ None) (apex : List Label) where
   abbrev first : ℕ
   first = zone_part apex * 2 ^ 32
 
@@ -118,8 +118,8 @@ module _ (sets : List Record) (order : IsInOrder set_cmp sets) (are : (item : Re
   not_below a b le is = let less : b < a = less_of b a is in absurd (omega (arith, le, less))
 
   -- no set of the zone stands in front
-  pub none_in_front : (item : Record) → (has : Contains sets item) → zone_of item ≡ apex → from ≤ has.0
-  none_in_front item has same = by (cases_lt has.0 from)
+  pub none_in_front : (from : ℕ) → from ≡ prefix_len (λ item. nat_lt (set_mark item) (zone_part apex * 2 ^ 32)) sets → (item : Record) → (has : Contains sets item) → zone_of item ≡ apex → from ≤ has.0
+  none_in_front from found item has same = by (cases_lt has.0 from)
     where
       by : (has.0 < from) ⊎ (from ≤ has.0) → from ≤ has.0
       by (inl before) =
@@ -147,8 +147,8 @@ module _ (sets : List Record) (order : IsInOrder set_cmp sets) (are : (item : Re
           let here : has.0 ≡ place = omega (arith, at, none item has same) in
           absurd (other (ap zone_of (get_or_read sets place y within is item ∙ (ap (λ k. get_or sets k item) (sym here) ∙ has.2)) ∙ same))
 
-  pub none_behind : (place : ℕ) (y : Record) → place < length sets → y ≡ get_or sets place y → from ≤ place → (zone_part (zone_of y) * 2 ^ 32 ≡ first → ⊥) → NoneUpTo place → (item : Record) → Contains sets item → zone_of item ≡ apex → ⊥
-  none_behind place y within is behind other none item has same =
+  pub none_behind : (from : ℕ) → from ≡ prefix_len (λ item. nat_lt (set_mark item) (zone_part apex * 2 ^ 32)) sets → (place : ℕ) (y : Record) → place < length sets → y ≡ get_or sets place y → from ≤ place → (zone_part (zone_of y) * 2 ^ 32 ≡ first → ⊥) → NoneUpTo place → (item : Record) → Contains sets item → zone_of item ≡ apex → ⊥
+  none_behind from found place y within is behind other none item has same =
       let y_has : Contains sets y = (place, within, sym is) in
       let low = none_is y (are y y_has) in
       let high = (its_mark item has same) in
