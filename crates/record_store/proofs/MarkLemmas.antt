@@ -14,12 +14,14 @@ use Rattle.std.proofs.lemmas.List.Sums.{prefix_len_passes, prefix_len_stops}
 use Rattle.dname.specs.Name.{Label, canonical_cmp}
 use Rattle.dname.specs.Order.{canonical_equal}
 use Rattle.page_list.specs.Marks.{PartsAtMark}
+use Rattle.denial_records.specs.declared.set_rec.SetRec.{SetRec}
 use Rattle.denial_records.specs.declared.record.Record.{Record}
 use Rattle.denial_records.specs.declared.record.Record.TheVariants.{Set, Nsec, Nsec3}
 use Rattle.cache_meaning.specs.Held.{chain_of, zone_of, key_cmp}
 use Rattle.ordered_list.specs.Order.{IsInOrder}
 use Rattle.ordered_list.proofs.OrderLemmas.{partitioned}
 use Rattle.record_store.specs.Marks.{mixed, upper, zone_part, owner_part, set_number, set_mark}
+use Rattle.record_store.specs.LookUp.{set_like}
 use Rattle.record_store.specs.Ranks.{set_cmp}
 
 -- ---- sets of one key have one number
@@ -31,6 +33,9 @@ then_equal Greater b is = cc
 
 level_is : (n m : ℕ) → nat_cmp n m ≡ Equal → n ≡ m
 level_is n m is = grind (arith, nat_tests, common_steps)
+
+above : (n : ℕ) → nat_lt 0 n ≡ is_lt (ordering_then (nat_cmp 0 n) Greater)
+above n = grind (arith, nat_tests, common_steps)
 
 pub key_mark : (one other : Record) → key_cmp one other ≡ Equal → set_mark one ≡ set_mark other
 key_mark (Set one) (Set other) is =
@@ -166,3 +171,13 @@ module _ (sets : List Record) (order : IsInOrder set_cmp sets) (are : (item : Re
 
       one_half : (a b m n : ℕ) → a * 2 ^ 32 ≤ m → m < a * 2 ^ 32 + 2 ^ 32 → b * 2 ^ 32 ≤ m → m ≤ n → n < b * 2 ^ 32 + 2 ^ 32 → a * 2 ^ 32 ≡ b * 2 ^ 32
       one_half a b m n l h l' up h' = omega (arith, l, h, l', up, h')
+
+-- ---- a record, and a set that is sought
+
+pub no_set_before : (item : Record) → ((set : SetRec) → item ≡ Set set → ⊥) → (zone owner : List Label) (rtype number : ℕ) → number ≡ set_number zone owner rtype → nat_lt 0 number ≡ is_lt (set_cmp item (set_like zone owner rtype))
+no_set_before (Set set) no zone owner rtype number is = absurd (no set refl)
+no_set_before (Nsec nsec) no zone owner rtype number is = above number ∙ ap (λ n. is_lt (ordering_then (nat_cmp 0 n) Greater)) is
+no_set_before (Nsec3 nsec3) no zone owner rtype number is = above number ∙ ap (λ n. is_lt (ordering_then (nat_cmp 0 n) Greater)) is
+
+pub set_level : (set : SetRec) (zone owner : List Label) (rtype : ℕ) (o : Ordering) → o ≡ key_cmp (Set set) (set_like zone owner rtype) → o ≡ Equal → false ≡ is_lt (set_cmp (Set set) (set_like zone owner rtype))
+set_level set zone owner rtype o by_key at = sym (ap is_lt (set_tied (Set set) (set_like zone owner rtype) (sym by_key ∙ at)))

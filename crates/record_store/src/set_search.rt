@@ -3,17 +3,15 @@ ghost use Rattle.std.specs.Prelude.{◌≡◌};
 ghost use Rattle.std.specs.Option.{option_copied};
 ghost use Rattle.std.specs.Ordering.{is_lt};
 ghost use Rattle.record_store.specs.Ranks.{set_cmp};
-ghost use Rattle.record_store.specs.Marks.{set_mark, set_number};
+ghost use Rattle.record_store.specs.Marks.{set_number};
 ghost use Rattle.cache_meaning.specs.Zones.{as_set_at};
 ghost use Rattle.zone_chains.specs.Zone.{IsChosen};
 ghost use Rattle.record_store.specs.LookUp.{set_like};
 
 use crate::holding::Sets;
 use crate::marks::set_number;
-use crate::ranks::BySet;
 use denial_records::{Record, SetRec};
 use dname::Name;
-use ordered_list::Marking;
 use std::cmp::Ordering;
 
 /// The set of the zone at the owner name and type.
@@ -39,17 +37,27 @@ fn is_before(item: &Record, zone: &Name, owner: &Name, rtype: u16, number: u64) 
     requires { number ≡ set_number zone.now owner.now rtype }
     ensures { result ≡ is_lt (set_cmp item.now (set_like zone.now owner.now rtype)) }
 {
-    let Record::Set(set) = item else {
-        return BySet::mark(item).cmp(&number).then(Ordering::Greater).is_lt();
-    };
+    match item {
+        Record::Set(set) => set_is_before(set, zone, owner, rtype, number),
+        _ => 0 < number,
+    }
+}
+
+fn set_is_before(set: &SetRec, zone: &Name, owner: &Name, rtype: u16, number: u64) -> bool
+    requires { number ≡ set_number zone.now owner.now rtype }
+    ensures { result ≡ is_lt (set_cmp (Record.Set set.now) (set_like zone.now owner.now rtype)) }
+{
     let by_key = set
         .zone
         .cmp(zone)
         .then_with(|| set.owner.cmp(owner).then(set.rtype.cmp(&rtype)));
     match by_key {
-        // records of one key have one number
+        // sets of one key have one number
         Ordering::Equal => false,
-        _ => BySet::mark(item).cmp(&number).then(by_key).is_lt(),
+        _ => set_number(&set.zone, &set.owner, set.rtype)
+            .cmp(&number)
+            .then(by_key)
+            .is_lt(),
     }
 }
 
