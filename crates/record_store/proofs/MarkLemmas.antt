@@ -175,9 +175,9 @@ module _ (sets : List Record) (order : IsInOrder set_cmp sets) (are : (item : Re
 -- ---- a record, and a set that is sought
 
 pub no_set_before : (item : Record) → ((set : SetRec) → item ≡ Set set → ⊥) → (zone owner : List Label) (rtype number : ℕ) → number ≡ set_number zone owner rtype → nat_lt 0 number ≡ is_lt (set_cmp item (set_like zone owner rtype))
-no_set_before (Set set) no zone owner rtype number is = absurd (no set refl)
-no_set_before (Nsec nsec) no zone owner rtype number is = above number ∙ ap (λ n. is_lt (ordering_then (nat_cmp 0 n) Greater)) is
-no_set_before (Nsec3 nsec3) no zone owner rtype number is = above number ∙ ap (λ n. is_lt (ordering_then (nat_cmp 0 n) Greater)) is
+no_set_before (Set set) none zone owner rtype number is = absurd (none set refl)
+no_set_before (Nsec nsec) none zone owner rtype number is = above number ∙ ap (λ n. is_lt (ordering_then (nat_cmp 0 n) Greater)) is
+no_set_before (Nsec3 nsec3) none zone owner rtype number is = above number ∙ ap (λ n. is_lt (ordering_then (nat_cmp 0 n) Greater)) is
 
 pub set_level : (set : SetRec) (zone owner : List Label) (rtype : ℕ) (o : Ordering) → o ≡ key_cmp (Set set) (set_like zone owner rtype) → o ≡ Equal → false ≡ is_lt (set_cmp (Set set) (set_like zone owner rtype))
 set_level set zone owner rtype o by_key at = sym (ap is_lt (set_tied (Set set) (set_like zone owner rtype) (sym by_key ∙ at)))

@@ -1,5 +1,5 @@
 //! The numbers by which sets are sought.
-ghost use Rattle.std.specs.Prelude.{◌≡◌, ◌<◌, ◌*◌, ◌+◌, ◌^◌};
+ghost use Rattle.std.specs.Prelude.{◌≡◌, ◌<◌, ◌≤◌, ◌*◌, ◌+◌, ◌^◌};
 ghost use Rattle.record_store.specs.Marks.{mixed, hash_of, upper, zone_part, set_number};
 
 use dname::Name;
@@ -32,6 +32,7 @@ fn mixed(hash: u64, number: u64) -> u64
     hash.wrapping_mul(FACTOR).wrapping_add(number + 1)
 }
 
+#[tactic(auto, unfolding(crate::specs::Marks::hash_of))]
 fn hash_of(octets: &[u8]) -> u64
     ensures { result ≡ hash_of octets.now }
 {
