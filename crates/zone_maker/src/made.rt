@@ -31,3 +31,6 @@ pub fn make(alloc: Global, seed: u32, names: u32) -> Result<Made, OutOfMemory>
         messages: messages(alloc, seed, names)?,
     })
 }
+
+#[cfg(test)]
+mod tests;

@@ -97,3 +97,6 @@ fn asked_second(turn: Turn, i: u32) -> Asked
     };
     Asked { name, qtype }
 }
+
+#[cfg(test)]
+mod tests;
