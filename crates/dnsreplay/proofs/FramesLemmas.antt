@@ -5,7 +5,7 @@ use Rattle.std.specs.Bool.{◌==◌}
 use Rattle.std.proofs.lemmas.Bool.{false≢true}
 use Rattle.std.proofs.lemmas.Bool.Decides.{Decides-eqb}
 use Rattle.std.proofs.lemmas.List.{append-nil, map-append, length-map, nil_from_length}
-use Rattle.std.proofs.lemmas.List.Elements.{All-nil, All-push, All-head, All-tail}
+use Rattle.std.proofs.lemmas.List.Elements.{All-nil, All-cons, All-push, All-head, All-tail}
 use Rattle.replay_meaning.specs.Frame.{Input, IsInput, input_of, input_spelling, inputs_spelling}
 use Rattle.replay_meaning.specs.Replay.{SpellsFrames, AreFrames}
 use Rattle.replay_meaning.specs.declared.frame.Frame.{Frame}
@@ -78,3 +78,14 @@ some_left rest r is test none = false≢true (sym test ∙ is ∙ ap (λ l. leng
 
 pub none_left : (rest : List ℕ) (r : Bool) → r ≡ (length rest == 0) → r ≡ true → rest ≡ []
 none_left rest r is test = nil_from_length rest ((Decides-eqb (length rest) 0).0 (sym is ∙ test))
+
+-- the frames are for the workers
+below_each : (workers : ℕ) (frames : List Frame) → All (λ input. input.worker < workers) (map input_of frames) → All (λ frame. frame.worker < workers) frames
+below_each workers [] all = All-nil (λ (frame : Frame). frame.worker < workers)
+below_each workers (frame ∷ frames) all =
+    All-cons (λ (f : Frame). f.worker < workers) frame frames
+    (All-head (λ (input : Input). input.worker < workers) (input_of frame) (map input_of frames) all)
+    (below_each workers frames (All-tail (λ (input : Input). input.worker < workers) (input_of frame) (map input_of frames) all))
+
+pub frames_below : (workers : ℕ) (octets : List ℕ) (frames : List Frame) → AreFramesOf workers octets frames → All (λ frame. frame.worker < workers) frames
+frames_below workers octets frames are = below_each workers frames are.below

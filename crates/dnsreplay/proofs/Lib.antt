@@ -1,5 +1,4 @@
+pub mod CommandLemmas
 pub mod FramesLemmas
-pub mod OneFrameLemmas
-pub mod ReplayLemmas
+pub mod OptionLemmas
 pub mod RunLemmas
-pub mod WordLemmas

@@ -1,6 +1,5 @@
-pub mod Cache
 pub mod Frames
-pub mod OneFrame
+pub mod Options
 pub mod Run
 pub mod Status
 pub mod Words

@@ -3,7 +3,6 @@ use Rattle.std.specs.Prelude.{◌≡◌, ℕ, ◌+◌, ◌<◌, ◌≤◌, ◌�
 use Rattle.outside_core.specs.Told.{append_told, prepend_told}
 use Rattle.replay_meaning.specs.Replay.{AreFrames, IsReplay}
 use Rattle.dnsreplay.specs.declared.reading.TheConstants.{MAX_INPUT}
-use Rattle.dnsreplay.specs.declared.words.TheConstants.{WORKERS}
 use Rattle.dnsreplay.specs.declared.status.Status.{Status}
 use Rattle.dnsreplay.specs.declared.status.Status.TheVariants.{Good, BadFrame, WriteFault, InputTooLong}
 
@@ -13,16 +12,16 @@ pub record IsReadOn (before after : Option (List ℕ)) : Type 0 where
   pub given : before ≡ prepend_told octets after
   pub until : (length octets ≡ MAX_INPUT + 1) ⊎ IfSome after (λ left. left ≡ [])
 
--- the sink has got the whole output of a replay of the input
-pub record IsReplayed (input : List ℕ) (before after : Option (List ℕ)) : Type 0 where
+-- the sink has got the whole output of a replay of the input for so many workers
+pub record IsReplayed (workers : ℕ) (input : List ℕ) (before after : Option (List ℕ)) : Type 0 where
   pub output : List ℕ
-  pub replay : IsReplay WORKERS input output
+  pub replay : IsReplay workers input output
   pub written : after ≡ append_told before output
 
 -- or a strict prefix of it
-pub record IsCutShort (input : List ℕ) (before after : Option (List ℕ)) : Type 0 where
+pub record IsCutShort (workers : ℕ) (input : List ℕ) (before after : Option (List ℕ)) : Type 0 where
   pub output : List ℕ
-  pub replay : IsReplay WORKERS input output
+  pub replay : IsReplay workers input output
   pub size : ℕ
   pub strict : size < length output
   pub written : after ≡ append_told before (take size output)
@@ -31,13 +30,13 @@ pub record IsCutShort (input : List ℕ) (before after : Option (List ℕ)) : Ty
 abbrev pub IsShort : List ℕ → Type 0
 IsShort input = length input ≤ MAX_INPUT
 
--- it isn't, and it spells frames
-abbrev pub IsTaken : List ℕ → Type 0
-IsTaken input = IsShort input × AreFrames WORKERS input
+-- it isn't, and it spells frames for so many workers
+abbrev pub IsTaken : ℕ → List ℕ → Type 0
+IsTaken workers input = IsShort input × AreFrames workers input
 
 -- it isn't, and it spells none
-abbrev pub IsNoFrames : List ℕ → Type 0
-IsNoFrames input = IsShort input × (AreFrames WORKERS input → ⊥)
+abbrev pub IsNoFrames : ℕ → List ℕ → Type 0
+IsNoFrames workers input = IsShort input × (AreFrames workers input → ⊥)
 
 -- a replay was made, whether or not all of it could be written
 abbrev pub IsOfReplay : Status → Type 0
@@ -47,8 +46,8 @@ IsOfReplay status = (status ≡ Good) ⊎ (status ≡ WriteFault)
 abbrev pub IsRefused : Status → Type 0
 IsRefused status = (status ≡ InputTooLong) ⊎ (status ≡ BadFrame)
 
--- the status of an input, where nothing fails
-pub data IsStatusOf (input : List ℕ) (status : Status) : Type 0 where
-  too_long : MAX_INPUT < length input → status ≡ InputTooLong → IsStatusOf input status
-  no_frames : IsNoFrames input → status ≡ BadFrame → IsStatusOf input status
-  replayed : IsTaken input → status ≡ Good → IsStatusOf input status
+-- the status of an input for so many workers, where nothing fails
+pub data IsStatusOf (workers : ℕ) (input : List ℕ) (status : Status) : Type 0 where
+  too_long : MAX_INPUT < length input → status ≡ InputTooLong → IsStatusOf workers input status
+  no_frames : IsNoFrames workers input → status ≡ BadFrame → IsStatusOf workers input status
+  replayed : IsTaken workers input → status ≡ Good → IsStatusOf workers input status

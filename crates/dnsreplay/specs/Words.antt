@@ -1,7 +1,57 @@
--- The words of the command line, those after the program's name.
-use Rattle.std.specs.Prelude.{◌≡◌, List, [], ◌∷◌, map, codes, string_bytes, String}
+-- The words of the command line, those after the program's name: which of them are a command, with which values.
+use Rattle.std.specs.Prelude.{◌≡◌, ℕ, ◌≤◌, List, [], ◌∷◌, ◌++◌, length, map, codes, string_bytes, String}
+use Rattle.std.specs.Str.Parse.{IsNumeral, digits_value}
 use Rattle.std.specs.declared.alloc.Global.{Global}
+use Rattle.dnsreplay.specs.declared.words.Command.{Command}
+use Rattle.dnsreplay.specs.declared.words.Command.TheVariants.{Replay}
 
--- replay --workers 1
+-- a word, octet by octet
+abbrev pub Word : Type 0
+Word = List ℕ
+
+-- an option of a command, with the least and the greatest of its values
+pub record Setting : Type 0 where
+  pub name : Word
+  pub least : ℕ
+  pub most : ℕ
+
+-- the text is a value of the option: 1 to 10 ASCII digits, leading zeros allowed, and nothing else
+pub record IsValue (setting : Setting) (text : Word) (value : ℕ) : Type 0 where
+  pub digits : IsNumeral 10 text
+  pub few : length text ≤ 10
+  pub spelled : value ≡ digits_value 10 text
+  pub least : setting.least ≤ value
+  pub most : value ≤ setting.most
+
+-- the words give the option this value, as two words or as one: --workers 2, or --workers=2 ('=' is 61)
+pub data Sets (setting : Setting) (value : ℕ) (words : List Word) : Type 0 where
+  two : (text : Word) → IsValue setting text value → words ≡ setting.name ∷ text ∷ [] → Sets setting value words
+  one : (text : Word) → IsValue setting text value → words ≡ (setting.name ++ 61 ∷ text) ∷ [] → Sets setting value words
+
+-- the words give each of the options its value, once, in any order, and are nothing else
+pub data Gives : List (Setting × ℕ) → List Word → Type 0 where
+  nothing : (given : List (Setting × ℕ)) (words : List Word) → given ≡ [] → words ≡ [] → Gives given words
+  first :
+      (given before after : List (Setting × ℕ)) (setting : Setting) (value : ℕ) (words front back : List Word)
+      → given ≡ before ++ (setting, value) ∷ after → words ≡ front ++ back
+      → Sets setting value front → Gives (before ++ after) back → Gives given words
+
+-- ---- the commands
+
+abbrev pub workers_setting : Setting
+workers_setting = record { name = codes "--workers"; least = 1; most = 32 }
+
+-- the words after a command's name are its options
+abbrev pub Means : List Word → Command → Type 0
+Means words (Replay workers) = (options : List Word) × (words ≡ codes "replay" ∷ options) × Gives ((workers_setting, workers) ∷ []) options
+
+abbrev pub texts : List (String Global) → List Word
+texts words = map string_bytes words
+
+-- the words are this command
+abbrev pub AreWordsOf : List (String Global) → Command → Type 0
+AreWordsOf words command = Means (texts words) command
+
+-- they are one
 abbrev pub IsCommand : List (String Global) → Type 0
-IsCommand words = map string_bytes words ≡ codes "replay" ∷ codes "--workers" ∷ codes "1" ∷ []
+IsCommand words = (command : Command) × AreWordsOf words command

@@ -1,11 +1,9 @@
 //! `dnsreplay`: frames of queries and upstream answers in, frames of what becomes of them out. `run` carries the headline;
-//! read `specs/Run.antt`, `Words` and `Status`, and then those of `replay_meaning`. `Cache`, `OneFrame` and `Frames` are the
-//! words of its parts.
+//! read `specs/Run.antt`, `Words` and `Status`, and then those of `replay_meaning`. `Frames` and `Options` are the words of its
+//! parts.
 #![tactic(auto)]
 
-mod cache;
 mod frames;
-mod one_frame;
 mod reading;
 mod replay;
 mod run;
@@ -14,13 +12,15 @@ mod words;
 mod writing;
 
 use crate::status::Status;
-use outside_core::{StreamSink, StreamSource};
+use outside_core::{OpenGate, StreamSink, StreamSource};
 use std::process::ExitCode;
 use std::{env, io};
 
 fn main(rt: HostRuntime) -> ExitCode {
+    let mut source = StreamSource::over(rt.stdin());
+    let mut sink = StreamSink::over(rt.stdout());
     let status = match words_of(&rt) {
-        Ok(words) => run_words(&rt, &words),
+        Ok(words) => run::run(&rt, rt.alloc(), &words, &mut source, &mut sink, &OpenGate),
         Err(status) => status,
     };
     if let Some(line) = status.line() {
@@ -28,12 +28,6 @@ fn main(rt: HostRuntime) -> ExitCode {
         let _ = eprintln!(rt; "dnsreplay: {line}");
     }
     status.exit_code()
-}
-
-fn run_words(rt: &HostRuntime, words: &[String]) -> Status {
-    let mut source = StreamSource::over(rt.stdin());
-    let mut sink = StreamSink::over(rt.stdout());
-    run::run(rt.alloc(), words, &mut source, &mut sink)
 }
 
 // The words after the program's name. Words that aren't text are no command.

@@ -65,7 +65,7 @@ fn a_type_is_denied_as_long_as_its_records_live(rt: HostRuntime) -> Result<(), F
         (1800, 1800, None),
     ] {
         let input = asked_after(alloc, nsec_ttl, seconds)?;
-        let (ended, written) = replayed(alloc, &input, &[], &[])?;
+        let (ended, written) = replayed(&rt, alloc, &input, &[], &[])?;
         let expected = match ttl {
             Some(ttl) => joined(
                 alloc,
@@ -89,7 +89,7 @@ fn what_lives_for_no_second_is_skipped(rt: HostRuntime) -> Result<(), Fail> {
     let alloc = rt.alloc();
     for nsec_ttl in [0, 0x8000_0000] {
         let input = asked_after(alloc, nsec_ttl, 10)?;
-        let (ended, written) = replayed(alloc, &input, &[], &[])?;
+        let (ended, written) = replayed(&rt, alloc, &input, &[], &[])?;
         let stored = b"\x03\x00\x00\x00\x00\x01\x00\x04\x00\x01\x00\x01".as_slice();
         let expected = joined(alloc, &[stored, FORWARD])?;
         assert_eq!(rt; ended, Status::Good, "{nsec_ttl}");

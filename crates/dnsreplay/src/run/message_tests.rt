@@ -79,7 +79,7 @@ fn a_client_with_do_gets_the_proof(rt: HostRuntime) -> Result<(), Fail> {
     let reply = dnssec_reply(alloc)?;
     let input = joined(alloc, &[&answer, DNSSEC_QUERY])?;
     let expected = joined(alloc, &[STORED, &reply])?;
-    let (ended, written) = replayed(alloc, &input, &[], &[])?;
+    let (ended, written) = replayed(&rt, alloc, &input, &[], &[])?;
     assert_eq!(rt; ended, Status::Good);
     assert_eq!(rt; written.as_slice(), expected.as_slice());
     Ok(())
@@ -102,7 +102,7 @@ fn a_compressed_answer_is_stored_written_out(rt: HostRuntime) -> Result<(), Fail
     let input = joined(alloc, &[COMPRESSED_ANSWER, DNSSEC_QUERY])?;
     let reply = dnssec_reply(alloc)?;
     let expected = joined(alloc, &[STORED, &reply])?;
-    let (ended, written) = replayed(alloc, &input, &[], &[])?;
+    let (ended, written) = replayed(&rt, alloc, &input, &[], &[])?;
     assert_eq!(rt; ended, Status::Good);
     assert_eq!(rt; written.as_slice(), expected.as_slice());
     Ok(())
@@ -188,14 +188,14 @@ fn a_frame_without_a_call_is_told_by_its_octets(rt: HostRuntime) -> Result<(), F
     let mut input = Vec::new(alloc);
     let mut expected = Vec::new(alloc);
     for (i, (frame, told)) in TOLD.iter().enumerate() {
-        let (ended, written) = replayed(alloc, frame, &[], &[])?;
+        let (ended, written) = replayed(&rt, alloc, frame, &[], &[])?;
         assert_eq!(rt; ended, Status::Good, "{i}");
         assert_eq!(rt; written.as_slice(), *told, "{i}");
         input.extend_from_slice(frame)?;
         expected.extend_from_slice(told)?;
     }
     // All of them one after the other give all that they give.
-    let (ended, written) = replayed(alloc, &input, &[], &[])?;
+    let (ended, written) = replayed(&rt, alloc, &input, &[], &[])?;
     assert_eq!(rt; ended, Status::Good);
     assert_eq!(rt; written.as_slice(), expected.as_slice());
     Ok(())
@@ -228,7 +228,7 @@ fn a_questions_name_has_at_most_255_octets(rt: HostRuntime) -> Result<(), Fail> 
         ),
     ] {
         let query = long_query(alloc, size, length)?;
-        let (ended, written) = replayed(alloc, &query, &[], &[])?;
+        let (ended, written) = replayed(&rt, alloc, &query, &[], &[])?;
         assert_eq!(rt; ended, Status::Good, "{size}");
         assert_eq!(rt; written.as_slice(), expected, "{size}");
     }

@@ -1,7 +1,7 @@
 ghost use Rattle.std.specs.Prelude.{Some, None};
 
 use super::*;
-use outside_core::{Failed, MemorySink, MemorySource};
+use outside_core::{Failed, MemorySink, MemorySource, OpenGate};
 use std::alloc::Global;
 use std::process::ExitCode;
 use std::test::Fail;
@@ -99,7 +99,7 @@ const LINES: [(Status, u8, Option<&str>); 7] = [
     (Status::InputTooLong, 7, Some("input too long")),
 ];
 
-fn words_of(alloc: Global, text: &str) -> Result<Vec<String>, Fail> {
+pub(super) fn words_of(alloc: Global, text: &str) -> Result<Vec<String>, Fail> {
     let mut words = Vec::new(alloc);
     for word in text.split_whitespace() {
         words.push(String::from_str(alloc, word)?)?;
@@ -107,8 +107,13 @@ fn words_of(alloc: Global, text: &str) -> Result<Vec<String>, Fail> {
     Ok(words)
 }
 
+pub(super) fn source_of(alloc: Global, input: &[u8]) -> Result<MemorySource, Fail> {
+    Ok(MemorySource::of(Vec::from_slice(alloc, input)?, Vec::new(alloc)))
+}
+
 // How a replay of the input ends, and what it writes, where the calls with these numbers fail.
-pub(super) fn replayed(
+pub(super) fn replayed<R: Threads + Wait + Sync>(
+    rt: &R,
     alloc: Global,
     input: &[u8],
     failing_reads: &[u32],
@@ -120,7 +125,7 @@ pub(super) fn replayed(
         Vec::from_slice(alloc, failing_reads)?,
     );
     let mut sink = MemorySink::with_room(alloc, 4096, Vec::from_slice(alloc, failing_writes)?)?;
-    let status = run(alloc, &words, &mut source, &mut sink);
+    let status = run(rt, alloc, &words, &mut source, &mut sink, &OpenGate);
     Ok((status, Vec::from_slice(alloc, sink.written())?))
 }
 
@@ -137,7 +142,7 @@ fn a_run_ends_with_its_status(rt: HostRuntime) -> Result<(), Fail> {
     let alloc = rt.alloc();
     for (name, after, failing_reads, failing_writes, status, expected) in RUNS {
         let input = joined(alloc, &[QUERY, after])?;
-        let (ended, written) = replayed(alloc, &input, failing_reads, failing_writes)?;
+        let (ended, written) = replayed(&rt, alloc, &input, failing_reads, failing_writes)?;
         assert_eq!(rt; ended, status, "{name}");
         assert_eq!(rt; written.as_slice(), expected, "{name}");
     }
@@ -156,18 +161,17 @@ fn a_status_has_its_number_and_line(rt: HostRuntime) {
 fn other_words_are_refused(rt: HostRuntime) -> Result<(), Fail> {
     let alloc = rt.alloc();
     for text in [
-        "",
         "replay",
-        "replay --workers",
-        "replay --workers 2",
-        "replay --workers=1",
-        "replay --workers 1 1",
-        "serve --workers 1",
+        "replay --workers 0",
+        "replay --workers=33",
+        "replay --workers 1 --",
+        "selfrun --seed 1 --names 1 --queries 1",
+        "serve --listen 5300 --upstream 5301 --workers 2 --datagrams 1",
     ] {
         let words = words_of(alloc, text)?;
         let mut source = MemorySource::of(Vec::from_slice(alloc, QUERY)?, Vec::new(alloc));
         let mut sink = MemorySink::with_room(alloc, 8, Vec::new(alloc))?;
-        let status = run(alloc, &words, &mut source, &mut sink);
+        let status = run(&rt, alloc, &words, &mut source, &mut sink, &OpenGate);
         assert_eq!(rt; status, Status::Usage, "{text}");
         assert!(rt; sink.written().is_empty());
     }
@@ -205,7 +209,7 @@ fn an_input_may_be_too_long(rt: HostRuntime) -> Result<(), Fail> {
     ] {
         let mut source = Zeros { left };
         let mut sink = MemorySink::with_room(alloc, 8, Vec::new(alloc))?;
-        let ended = run(alloc, &words, &mut source, &mut sink);
+        let ended = run(&rt, alloc, &words, &mut source, &mut sink, &OpenGate);
         assert_eq!(rt; ended, status, "{left}");
         assert!(rt; sink.written().is_empty());
     }
@@ -241,7 +245,8 @@ fn pieces_of_one_octet_are_one_input(rt: HostRuntime) -> Result<(), Fail> {
         source: MemorySource::of(Vec::from_slice(alloc, QUERY)?, Vec::new(alloc)),
     };
     let mut sink = MemorySink::with_room(alloc, 8, Vec::new(alloc))?;
-    assert_eq!(rt; run(alloc, &words, &mut source, &mut sink), Status::Good);
+    let ended = run(&rt, alloc, &words, &mut source, &mut sink, &OpenGate);
+    assert_eq!(rt; ended, Status::Good);
     assert_eq!(rt; sink.written(), FORWARD);
     Ok(())
 }

@@ -1,16 +1,21 @@
-use Rattle.std.proofs.Common.{map, subst}
-use Rattle.std.proofs.lemmas.List.{take_all}
+use Rattle.std.proofs.Common.{map, sym, subst, arith}
+use Rattle.std.proofs.lemmas.List.{length-map}
+use Rattle.cache_versions.specs.Closes.{journal_at}
 use Rattle.replay_meaning.specs.Frame.{input_of}
-use Rattle.dnsreplay.proofs.ReplayLemmas.{HasDone, done_first, done_more, done_all}
+use Rattle.replay_meaning.specs.Replay.{SpellsFrames, IsReplay}
+use Rattle.worker_seats.proofs.LawLemmas.{replay_of}
 use Rattle.dnsreplay.proofs.replay.replay.Goals as goal
 
-pub loop-frame-init : goal.loop-frame-init
-loop-frame-init c = done_first _ _ c.in_ok-cache.ensures c.new-output.ensures.items
-
-pub loop-frame-preserved : goal.loop-frame-preserved
-loop-frame-preserved c = done_more _ _ _ _ _ _ _ c.loop-frame-test.true c.loop-frame.invariant c.in_ok-one_frame.ensures
-
-pub returns : goal.returns
-returns c workers octets frames =
-    let all = take_all c.loop-frame.frame-index c.args.frames.now c.loop-frame-test.false in
-    done_all workers octets _ _ _ (subst (λ l. HasDone (map input_of l) c.loop-frame.cache c.loop-frame.output.items) all c.loop-frame.invariant) frames
+pub returns-in-Ok : goal.returns-in-Ok
+returns-in-Ok g c octets are =
+    let frames = c.args.frames.now in
+    let all = c.in_ok-cache.ensures.all.1 in
+    subst (λ n. IsReplay n octets c.in-Ok.output.items) all
+    (replay_of c.in_ok-cache.seats.items c.in-Ok.seats.items (journal_at c.close.result) octets c.in-Ok.output.items (map input_of frames)
+    (subst (λ n. SpellsFrames n octets (map input_of frames)) (sym all) are)
+    (omega (arith, c.requires.few, length-map frames input_of))
+    c.in-Ok.ensures.all
+    (λ k d within. (c.in_ok-cache.ensures.fresh k d within).2)
+    c.close.ensures.seen
+    c.close.ensures.places
+    c.in-Ok.ensures.worked)

@@ -1,0 +1,103 @@
+use super::*;
+use std::alloc::Global;
+use std::test::Fail;
+
+// Words, joined by bars, and the workers that they ask for.
+const REPLAYS: [(&str, u8); 5] = [
+    ("replay|--workers|2", 2),
+    ("replay|--workers|4", 4),
+    ("replay|--workers|32", 32),
+    ("replay|--workers=007", 7),
+    ("replay|--workers=0000000032", 32),
+];
+
+// Words that are no command of any kind, or ask for help.
+const STRANGERS: [&str; 8] = [
+    "",
+    "help",
+    "--help",
+    "-h",
+    "--version",
+    "Replay|--workers|1",
+    "--|replay|--workers|1",
+    "replay|--help",
+];
+
+// Options that are missing, twice, cut short or without a value.
+const OPTIONS: [&str; 8] = [
+    "replay",
+    "replay|--work|1",
+    "replay|1|--workers",
+    "replay|--workers",
+    "replay|--workers|1|1",
+    "replay|--workers|1|--workers|1",
+    "replay|--workers|1|--",
+    "replay|--workers|--workers|1",
+];
+
+// Values that aren't 1 to 10 digits, or lie outside.
+const VALUES: [&str; 8] = [
+    "replay|--workers|0",
+    "replay|--workers|33",
+    "replay|--workers|+1",
+    "replay|--workers|-1",
+    "replay|--workers| 1",
+    "replay|--workers|\u{661}",
+    "replay|--workers=",
+    "replay|--workers=00000000001",
+];
+
+// What isn't built yet.
+const SERVES: [&str; 3] = [
+    "selfrun|--seed|1|--names|1000|--queries|5000",
+    "serve",
+    "serve|--listen|5300|--upstream|5301|--workers|2|--datagrams|1",
+];
+
+fn command_in(alloc: Global, text: &str) -> Result<Option<Command>, Fail> {
+    let mut words = Vec::new(alloc);
+    for word in text.split('|') {
+        words.push(String::from_str(alloc, word)?)?;
+    }
+    Ok(command_of(&words))
+}
+
+fn is_refused(alloc: Global, text: &str) -> Result<bool, Fail> {
+    Ok(command_in(alloc, text)?.is_none())
+}
+
+#[test]
+fn no_words_are_no_command(rt: HostRuntime) {
+    assert_eq!(rt; command_of(&[]), None);
+}
+
+#[test]
+fn words_ask_for_workers(rt: HostRuntime) -> Result<(), Fail> {
+    for (text, workers) in REPLAYS {
+        let command = command_in(rt.alloc(), text)?;
+        assert_eq!(rt; command, Some(Command::Replay { workers }), "{text}");
+    }
+    Ok(())
+}
+
+#[test]
+fn other_words_are_no_command(rt: HostRuntime) -> Result<(), Fail> {
+    for text in STRANGERS {
+        assert!(rt; is_refused(rt.alloc(), text)?, "{text}");
+    }
+    for text in OPTIONS {
+        assert!(rt; is_refused(rt.alloc(), text)?, "{text}");
+    }
+    Ok(())
+}
+
+#[test]
+fn other_values_are_no_command(rt: HostRuntime) -> Result<(), Fail> {
+    for text in VALUES {
+        assert!(rt; is_refused(rt.alloc(), text)?, "{text}");
+    }
+    for text in SERVES {
+        assert!(rt; is_refused(rt.alloc(), text)?, "{text}");
+    }
+    Ok(())
+}
