@@ -1,0 +1,228 @@
+-- The shifts of all workers make one history.
+use Rattle.std.proofs.Common.{◌≡◌, ℕ, zero, suc, ◌+◌, ◌-◌, ◌<◌, ◌≤◌, ◌^◌, ◌⊎◌, inl, inr, Bool, true, false, ◌&&◌, ◌==◌, cond, List, [], ◌∷◌, ◌++◌, length, map, get_or, refl, sym, ◌∙◌, ap, subst, arith, zero-add, length-append}
+use Rattle.std.specs.List.{All, AllZip, AllPairs, flat_map, count_by, sum_by}
+use Rattle.std.proofs.lemmas.Bool.{false≢true}
+use Rattle.std.proofs.lemmas.Bool.Decides.{nat_tests}
+use Rattle.std.proofs.lemmas.List.Elements.{All-nil, All-cons, All-head, All-tail, All-weaker}
+use Rattle.std.proofs.lemmas.List.Sums.{sum_by-append, sum_by-cons}
+use Rattle.std.proofs.lemmas.List.{length-map}
+use Rattle.std.proofs.lemmas.Slice.Zip.{AllZip-long}
+use mathlib.Core.List.{IsPrefix}
+use Rattle.denial_records.specs.declared.batch.Batch.{Batch}
+use Rattle.cache_meaning.specs.Held.{Held}
+use Rattle.cache_versions.specs.declared.state.State.{Ghosts}
+use Rattle.cache_versions.specs.declared.seat.Seat.{Seat}
+use Rattle.cache_versions.specs.Hands.{AreAllBelow, times}
+use Rattle.cache_versions.specs.Seats.{places_by, seen_by}
+use Rattle.replay_meaning.specs.Frame.{Input}
+use Rattle.replay_meaning.specs.OutFrame.{Output}
+use Rattle.replay_meaning.specs.Fits.{Fits, IsFor, IsInOrder, is_placed, places}
+use Rattle.replay_meaning.specs.Replay.{SpellsFrames, IsReplay}
+use Rattle.replay_meaning.specs.Sound.{IsSoundReply}
+use Rattle.replay_meaning.proofs.SoundLemmas.{replies_are_sound}
+use Rattle.worker_seats.specs.Answer.{LAST, IsAnswered}
+use Rattle.worker_seats.specs.OneFrame.{places_of}
+use Rattle.worker_seats.specs.Shift.{IsInTurn, IsShift}
+use Rattle.worker_seats.specs.Workers.{HasSameWorker, HasWorked, HaveWorked, inputs_of, outputs_of}
+use Rattle.worker_seats.specs.Laws.{AreShifts, ShiftsFit}
+use Rattle.worker_seats.proofs.AnswerLemmas.{answered_more, placed_above, answered_for}
+use Rattle.worker_seats.proofs.OwnLemmas.{own, zip_own, pairs_own, Related, parts_sum, at_least, count_refused}
+
+-- ---- places
+
+abbrev IsAbove : Output → Type 0
+IsAbove output = is_placed output.kind ≡ true → 1 ≤ output.version
+
+shifted_test : (version place : ℕ) → 1 ≤ version → ((version - 1) == place) ≡ (version == (place + 1))
+shifted_test version place above = grind (arith, nat_tests)
+
+places_one : (place : ℕ) (output : Output) → IsAbove output → (b : Bool) → is_placed output.kind ≡ b → times place (places_of output) ≡ cond (places (place + 1) output) 1 0
+places_one place output above true is =
+    ap (λ (b : Bool). times place (cond b ((output.version - 1) ∷ []) [])) is
+    ∙ zero-add (cond ((output.version - 1) == place) 1 0)
+    ∙ ap (λ (b : Bool). cond {A = ℕ} b 1 0) (shifted_test output.version place (above is))
+    ∙ sym (ap (λ (b : Bool). cond {A = ℕ} (b && (output.version == (place + 1))) 1 0) is)
+places_one place output above false is =
+    ap (λ (b : Bool). times place (cond b ((output.version - 1) ∷ []) [])) is
+    ∙ sym (ap (λ (b : Bool). cond {A = ℕ} (b && (output.version == (place + 1))) 1 0) is)
+
+-- each place is told as often as its version
+times_told : (place : ℕ) (outputs : List Output) → All IsAbove outputs → times place (flat_map places_of outputs) ≡ count_by (places (place + 1)) outputs
+times_told place [] above = refl
+times_told place (output ∷ outputs) above =
+    sum_by-append (λ p. cond (p == place) 1 0) (places_of output) (flat_map places_of outputs)
+    ∙ ap (λ n. n + times place (flat_map places_of outputs)) (places_one place output (All-head IsAbove output outputs above) (is_placed output.kind) refl)
+    ∙ ap (λ n. cond (places (place + 1) output) 1 0 + n) (times_told place outputs (All-tail IsAbove output outputs above))
+    ∙ sym (sum_by-cons (λ o. cond (places (place + 1) o) 1 0) output outputs)
+
+length_one : (output : Output) (b : Bool) → is_placed output.kind ≡ b → length (places_of output) ≡ cond b 1 0
+length_one output true is = ap (λ (b : Bool). length (cond b ((output.version - 1) ∷ []) [])) is
+length_one output false is = ap (λ (b : Bool). length (cond b ((output.version - 1) ∷ []) [])) is
+
+length_told : (outputs : List Output) → length (flat_map places_of outputs) ≡ count_by (λ o. is_placed o.kind) outputs
+length_told [] = refl
+length_told (output ∷ outputs) =
+    length-append (places_of output) (flat_map places_of outputs)
+    ∙ (λ i. length_one output (is_placed output.kind) refl i + length_told outputs i)
+    ∙ sym (sum_by-cons (λ o. cond (is_placed o.kind) 1 0) output outputs)
+
+-- ---- two lists place by place
+
+pub zip_weaker : {X Y : Type 0} (R S : X → Y → Type 0) → ((x : X) (y : Y) → R x y → S x y) → (xs : List X) (ys : List Y) → AllZip R xs ys → AllZip S xs ys
+zip_weaker R S f [] [] all = tt
+zip_weaker R S f [] (y ∷ ys) all = absurd all
+zip_weaker R S f (x ∷ xs) [] all = absurd all
+zip_weaker R S f (x ∷ xs) (y ∷ ys) all = (f x y all.0, zip_weaker R S f xs ys all.1)
+
+-- with what holds of the elements of each list
+zip_both : {X Y : Type 0} (P : X → Type 0) (Q : Y → Type 0) (R S : X → Y → Type 0) → ((x : X) (y : Y) → P x → Q y → R x y → S x y) → (xs : List X) (ys : List Y) → All P xs → All Q ys → AllZip R xs ys → AllZip S xs ys
+zip_both P Q R S f [] [] ps qs all = tt
+zip_both P Q R S f [] (y ∷ ys) ps qs all = absurd all
+zip_both P Q R S f (x ∷ xs) [] ps qs all = absurd all
+zip_both P Q R S f (x ∷ xs) (y ∷ ys) ps qs all = (
+  f x y (All-head P x xs ps) (All-head Q y ys qs) all.0,
+  zip_both P Q R S f xs ys (All-tail P x xs ps) (All-tail Q y ys qs) all.1,
+)
+
+-- what holds of the second list's elements
+zip_right : {X Y : Type 0} (P : X → Type 0) (Q : Y → Type 0) (R : X → Y → Type 0) → ((x : X) (y : Y) → P x → R x y → Q y) → (xs : List X) (ys : List Y) → All P xs → AllZip R xs ys → All Q ys
+zip_right P Q R f [] [] ps all = All-nil Q
+zip_right P Q R f [] (y ∷ ys) ps all = absurd all
+zip_right P Q R f (x ∷ xs) [] ps all = absurd all
+zip_right P Q R f (x ∷ xs) (y ∷ ys) ps all = All-cons Q y ys (f x y (All-head P x xs ps) all.0) (zip_right P Q R f xs ys (All-tail P x xs ps) all.1)
+
+-- a list all of which is counted
+counted_at : {X : Type 0} (p : X → Bool) (xs : List X) (k : ℕ) (d : X) → length xs ≤ count_by p xs → k < length xs → (b : Bool) → p (get_or xs k d) ≡ b → p (get_or xs k d) ≡ true
+counted_at p xs k d many lt true is = is
+counted_at p xs k d many lt false is = absurd (let fewer = count_refused p xs k d lt is in omega (arith, many, fewer))
+
+all_counted : {X : Type 0} (p : X → Bool) (xs : List X) → length xs ≤ count_by p xs → All (λ x. p x ≡ true) xs
+all_counted p xs many = λ k d lt. counted_at p xs k d many lt (p (get_or xs k d)) refl
+
+-- what stands in a list doesn't hang on what stands for a missing element
+pub get_or_same : {X : Type 0} (xs : List X) (k : ℕ) (d e : X) → k < length xs → get_or xs k d ≡ get_or xs k e
+get_or_same [] k d e lt = absurd (omega arith)
+get_or_same (x ∷ xs) zero d e lt = refl
+get_or_same (x ∷ xs) (suc k) d e lt = get_or_same xs k d e (omega arith)
+
+-- ---- all shifts together
+
+abbrev pub worker_in : Input → ℕ
+worker_in input = input.worker
+
+abbrev pub worker_out : Output → ℕ
+worker_out output = output.worker
+
+module _ (workers : ℕ) (journal : List Batch) (inputs : List Input) (outputs : List Output) (few : length inputs < 2 ^ 32) (shifts : AreShifts workers journal inputs outputs) where
+  answered : AllZip (IsAnswered journal) inputs outputs
+  answered =
+      zip_own worker_in worker_out (IsAnswered journal) workers inputs outputs shifts.below shifts.same
+      (λ worker below. zip_weaker (IsAnswered (shifts.seen worker)) (IsAnswered journal) (λ input output. answered_more (shifts.seen worker) journal input output (shifts.begins worker below)) (inputs_of worker inputs) (outputs_of worker outputs) (shifts.shifts worker below).each)
+
+  below_out : All (λ output. output.worker < workers) outputs
+  below_out = zip_right (λ input. input.worker < workers) (λ output. output.worker < workers) HasSameWorker (λ input output below same. subst (λ n. n < workers) (sym same) below) inputs outputs shifts.below shifts.same
+
+  above : All IsAbove outputs
+  above = zip_right (λ input. Unit {0}) IsAbove (IsAnswered journal) (λ input output u. placed_above journal input output) inputs outputs (λ k d lt. tt) answered
+
+  part_is : (worker : ℕ) (d : List ℕ) → worker < length shifts.placed → get_or shifts.placed worker d ≡ flat_map places_of (outputs_of (0 + worker) outputs)
+  part_is worker d lt =
+      get_or_same shifts.placed worker d [] lt
+      ∙ (shifts.shifts worker (omega (arith, lt, shifts.all))).places
+      ∙ ap (λ w. flat_map places_of (outputs_of w outputs)) (sym (zero-add worker))
+
+  -- each place below the journal's length is told once
+  told_once : (place : ℕ) → place < length journal → times place (flat_map places_of outputs) ≡ 1
+  told_once place within =
+      sym (parts_sum worker_out places_of (λ (p : List ℕ). p) (λ p. cond (p == place) 1 0) 0 shifts.placed outputs
+        (λ k d lt. (omega arith, let b = below_out k d lt in omega (arith, b, shifts.all)))
+        (λ k d lt. part_is k d lt))
+      ∙ (shifts.once place).0 within
+
+  versions : (version : ℕ) → 1 ≤ version → version ≤ length journal → count_by (places version) outputs ≡ 1
+  versions version least most =
+      let same : (version - 1) + 1 ≡ version = omega (arith, least) in
+      subst (λ n. count_by (places n) outputs ≡ 1) same (sym (times_told (version - 1) outputs above) ∙ told_once (version - 1) (omega (arith, least, most)))
+
+  -- where the journal is as long as can be, each frame places a batch
+  free : All (λ output. LAST ≤ length journal → is_placed output.kind ≡ true) outputs
+  free = λ k d lt full.
+      let many : length journal ≤ length (flat_map places_of outputs) = at_least (length journal) (flat_map places_of outputs) (λ place within. omega (arith, told_once place within)) in
+      all_counted (λ (o : Output). is_placed o.kind) outputs (omega (arith, many, full, few, length_told outputs, AllZip-long HasSameWorker inputs outputs shifts.same)) k d lt
+
+  each : AllZip (IsFor workers journal) inputs outputs
+  each = zip_both (λ input. input.worker < workers) (λ output. LAST ≤ length journal → is_placed output.kind ≡ true) (IsAnswered journal) (IsFor workers journal) (answered_for workers journal) inputs outputs shifts.below free answered
+
+  order : AllPairs IsInOrder outputs
+  order = λ i j d lt lt'.
+      let turn = pairs_own worker_out IsInTurn workers outputs below_out (λ worker below. (shifts.shifts worker below).order) i j d lt lt' in
+      record {
+        never_back = λ same first second. (turn same).never_back (inl first) (inl second);
+        rises = λ same first second. (turn same).rises (inl first) second;
+      }
+
+  pub all_fit : Fits inputs workers journal outputs × AllZip (IsSoundReply journal) inputs outputs
+  all_fit = (record { each = each; versions = versions; order = order }, replies_are_sound workers journal inputs outputs each)
+
+-- ---- the seats of a new cache that was closed
+
+map_at : {X Y : Type 0} (f : X → Y) (xs : List X) (k : ℕ) (d : Y) (e : X) → k < length xs → get_or (map f xs) k d ≡ f (get_or xs k e)
+map_at f [] k d e lt = absurd (omega arith)
+map_at f (x ∷ xs) zero d e lt = refl
+map_at f (x ∷ xs) (suc k) d e lt = map_at f xs k d e (omega arith)
+
+-- a list with a place has an element
+some_of : {X : Type 0} (xs : List X) (k : ℕ) → k < length xs → X
+some_of [] k lt = absurd (omega arith)
+some_of (x ∷ xs) k lt = x
+
+module _ {g : Ghosts Held Batch (Unit {0})} where
+  flat_of_map : (seats : List (Seat Held Batch (Unit {0}) g)) → flat_map (λ (p : List ℕ). p) (map places_by seats) ≡ flat_map places_by seats
+  flat_of_map [] = refl
+  flat_of_map (s ∷ seats) = ap (λ l. places_by s ++ l) (flat_of_map seats)
+
+  abbrev seen_at : List (Seat Held Batch (Unit {0}) g) → ℕ → List Batch
+  seen_at after worker = get_or (map seen_by after) worker []
+
+  pub shifts_of : (before after : List (Seat Held Batch (Unit {0}) g)) (journal : List Batch) (inputs : List Input) (octets : List ℕ)
+      → All (λ input. input.worker < length before) inputs → length after ≡ length before → All (λ seat. places_by seat ≡ []) before
+      → All (λ seat. IsPrefix (seen_by seat) journal) after → AreAllBelow (length journal) (flat_map places_by after)
+      → (worked : HaveWorked before after inputs octets) → AreShifts (length before) journal inputs worked.outputs
+  shifts_of before after journal inputs octets below all fresh seen once worked = record {
+    below = below;
+    same = worked.same;
+    seen = seen_at after;
+    placed = map places_by after;
+    all = length-map after places_by ∙ all;
+    begins = λ worker lt.
+        let d = some_of before worker lt in
+        let lt' : worker < length after = omega (arith, lt, all) in
+        subst (λ l. IsPrefix l journal) (sym (map_at seen_by after worker [] d lt')) (seen worker d lt');
+    once = subst (AreAllBelow (length journal)) (sym (flat_of_map after)) once;
+    shifts = λ worker lt.
+        let d = some_of before worker lt in
+        let lt' : worker < length after = omega (arith, lt, all) in
+        let one = worked.each worker d lt in
+        let placed : one.placed ≡ get_or (map places_by after) worker [] =
+            sym (map_at places_by after worker [] d lt' ∙ one.places ∙ ap (λ l. l ++ one.placed) (fresh worker d lt)) in
+        subst (λ l. IsShift l (get_or (map places_by after) worker []) (inputs_of worker inputs) (outputs_of worker worked.outputs)) (sym (map_at seen_by after worker [] d lt'))
+        (subst (λ l. IsShift (seen_by (get_or after worker d)) l (inputs_of worker inputs) (outputs_of worker worked.outputs)) placed one.shift);
+  }
+
+  -- the octets are a replay's
+  pub replay_of : (before after : List (Seat Held Batch (Unit {0}) g)) (journal : List Batch) (octets output : List ℕ) (inputs : List Input)
+      → SpellsFrames (length before) octets inputs → length inputs < 2 ^ 32 → length after ≡ length before
+      → All (λ seat. places_by seat ≡ []) before → All (λ seat. IsPrefix (seen_by seat) journal) after
+      → AreAllBelow (length journal) (flat_map places_by after) → HaveWorked before after inputs output → IsReplay (length before) octets output
+  replay_of before after journal octets output inputs frames few all fresh seen once worked =
+      let fit = all_fit (length before) journal inputs worked.outputs few (shifts_of before after journal inputs output frames.below all fresh seen once worked) in
+      record {
+        inputs = inputs;
+        frames = frames;
+        outputs = worked.outputs;
+        written = worked.written;
+        valid = worked.valid;
+        placed = journal;
+        fits = fit.0;
+        sound = fit.1;
+      }

@@ -1,0 +1,212 @@
+-- One worker's shift, frame by frame.
+use Rattle.std.proofs.Common.{◌≡◌, ℕ, zero, suc, ◌+◌, ◌-◌, ◌<◌, ◌≤◌, ◌⊎◌, inl, inr, Bool, true, false, cond, ◌==◌, List, [], ◌∷◌, ◌++◌, length, map, take, get_or, Option, None, Some, slice_get, refl, sym, ◌∙◌, ap, subst, arith, append_assoc}
+use Rattle.std.specs.List.{All, AllZip, AllPairs, flat_map, filter}
+use Rattle.std.proofs.lemmas.Bool.{false≢true}
+use Rattle.std.proofs.lemmas.List.{append-nil, map-append, take_more}
+use Rattle.std.proofs.lemmas.List.Elements.{All-nil, All-push, filter-append}
+use Rattle.std.proofs.lemmas.List.Quantifiers.{all_pairs_push}
+use mathlib.Core.List.{IsPrefix}
+use Rattle.denial_records.specs.declared.batch.Batch.{Batch}
+use Rattle.cache_meaning.specs.Held.{Held, held_of}
+use Rattle.cache_versions.specs.declared.state.State.{Ghosts}
+use Rattle.cache_versions.specs.declared.seat.Seat.{Seat}
+use Rattle.cache_versions.specs.Seats.{places_by, seen_by}
+use Rattle.cache_versions.proofs.Fronts.{prefix_self, prefix_trans, prefix_length}
+use Rattle.reply_core.specs.Answered.{reply_in}
+use Rattle.replay_meaning.specs.Frame.{Input, input_of}
+use Rattle.replay_meaning.specs.OutFrame.{Output, IsOutput, output_spelling}
+use Rattle.replay_meaning.specs.Step.{Step, Query, Insert, Tell, Does}
+use Rattle.replay_meaning.specs.Fits.{IsOutputOf, is_call, is_placed, query_output}
+use Rattle.replay_meaning.specs.Sound.{IsSoundReply}
+use Rattle.replay_meaning.specs.declared.frame.Frame.{Frame}
+use Rattle.replay_meaning.specs.declared.out_frame.OutKind.{OutKind}
+use Rattle.replay_meaning.specs.declared.out_frame.OutKind.TheVariants.{Reply, Forward, Stored, Refused, Dropped, Error}
+use Rattle.replay_meaning.proofs.FrameLemmas.{spelling-push}
+use Rattle.replay_meaning.proofs.StepLemmas.{TellsNoCall, tells_no_call}
+use Rattle.worker_seats.specs.Answer.{LAST, IsSpent, IsAnswered}
+use Rattle.worker_seats.specs.OneFrame.{IsCall, IsDone, DoesOneFrame, places_of}
+use Rattle.worker_seats.specs.Shift.{TellsCall, IsInTurn, IsShift}
+use Rattle.worker_seats.specs.Work.{IsWork}
+use Rattle.worker_seats.specs.Workers.{HasWorked, inputs_of}
+use Rattle.worker_seats.proofs.AnswerLemmas.{answered_more}
+use Rattle.worker_seats.proofs.LawLemmas.{zip_weaker}
+use Rattle.worker_seats.proofs.OwnLemmas.{equal_test, unequal_test}
+use Rattle.worker_seats.proofs.TurnLemmas.{answered_sound}
+
+-- ---- lists
+
+pub zip_push : {X Y : Type 0} (R : X → Y → Type 0) (xs : List X) (ys : List Y) (x : X) (y : Y) → AllZip R xs ys → R x y → AllZip R (xs ++ x ∷ []) (ys ++ y ∷ [])
+zip_push R [] [] x y all here = (here, tt)
+zip_push R [] (v ∷ ys) x y all here = absurd all
+zip_push R (u ∷ xs) [] x y all here = absurd all
+zip_push R (u ∷ xs) (v ∷ ys) x y all here = (all.0, zip_push R xs ys x y all.1 here)
+
+-- what holds of each second element, at its place
+zip_at : {X Y : Type 0} (R : X → Y → Type 0) (Q : Y → Type 0) → ((x : X) (y : Y) → R x y → Q y) → (xs : List X) (ys : List Y) → AllZip R xs ys → (k : ℕ) (d : Y) → k < length ys → Q (get_or ys k d)
+zip_at R Q f [] [] all k d lt = absurd (omega arith)
+zip_at R Q f [] (y ∷ ys) all k d lt = absurd all
+zip_at R Q f (x ∷ xs) [] all k d lt = absurd all
+zip_at R Q f (x ∷ xs) (y ∷ ys) all zero d lt = f x y all.0
+zip_at R Q f (x ∷ xs) (y ∷ ys) all (suc k) d lt = zip_at R Q f xs ys all.1 k d (omega arith)
+
+get_below : {X : Type 0} (xs : List X) (k : ℕ) (x : X) → slice_get xs k ≡ Some x → k < length xs
+get_below [] k x is = absurd cc
+get_below (y ∷ xs) zero x is = omega arith
+get_below (y ∷ xs) (suc k) x is = let rest = get_below xs k x is in omega arith
+
+own_push : (worker : ℕ) (inputs : List Input) (input : Input) → input.worker ≡ worker → inputs_of worker (inputs ++ input ∷ []) ≡ inputs_of worker inputs ++ input ∷ []
+own_push worker inputs input same =
+    filter-append (λ (i : Input). i.worker == worker) inputs (input ∷ [])
+    ∙ ap (λ (b : Bool). inputs_of worker inputs ++ cond b (input ∷ []) []) (equal_test input.worker worker same)
+
+other_push : (worker : ℕ) (inputs : List Input) (input : Input) → (input.worker ≡ worker → ⊥) → inputs_of worker (inputs ++ input ∷ []) ≡ inputs_of worker inputs
+other_push worker inputs input other =
+    filter-append (λ (i : Input). i.worker == worker) inputs (input ∷ [])
+    ∙ ap (λ (b : Bool). inputs_of worker inputs ++ cond b (input ∷ []) []) (unequal_test input.worker worker other)
+    ∙ append-nil (inputs_of worker inputs)
+
+-- ---- what an answer tells
+
+query_version : (worker version : ℕ) (reply : Option (List ℕ)) → (query_output worker version reply).version ≡ version
+query_version worker version None = refl
+query_version worker version (Some octets) = refl
+
+query_worker : (worker version : ℕ) (reply : Option (List ℕ)) → (query_output worker version reply).worker ≡ worker
+query_worker worker version None = refl
+query_worker worker version (Some octets) = refl
+
+worker_is : (seen : List Batch) (input : Input) (step : Step) (output : Output) → IsOutputOf seen input step output → output.worker ≡ input.worker
+worker_is seen input (Query question) output (version, within, is) = ap (λ (o : Output). o.worker) is ∙ query_worker input.worker version (reply_in (held_of (take version seen)) question input.now)
+worker_is seen input (Insert taken) output (before, at, is) = ap (λ (o : Output). o.worker) is
+worker_is seen input (Tell kind body) output is = ap (λ (o : Output). o.worker) is
+
+worker_either : (seen : List Batch) (input : Input) (step : Step) (output : Output) → IsOutputOf seen input step output ⊎ IsSpent seen input step output → output.worker ≡ input.worker
+worker_either seen input step output (inl says) = worker_is seen input step output says
+worker_either seen input step output (inr spent) = ap (λ (o : Output). o.worker) spent.says
+
+pub answered_worker : (seen : List Batch) (input : Input) (output : Output) → IsAnswered seen input output → output.worker ≡ input.worker
+answered_worker seen input output answered = worker_either seen input answered.step output answered.says
+
+-- a frame that makes no call tells of none
+tells_none : (worker : ℕ) (kind : OutKind) (output : Output) (body : List ℕ) → is_call kind ≡ false → output.kind ≡ kind → output.version ≡ 0 → TellsCall output → ⊥
+tells_none worker kind output body none kind_is version (inl call) = false≢true (sym none ∙ sym (ap is_call kind_is) ∙ call)
+tells_none worker kind output body none kind_is version (inr last) = omega (arith, version, last)
+
+upto_says : (seen : List Batch) (input : Input) (step : Step) (output : Output) → TellsNoCall step → IsOutputOf seen input step output → TellsCall output → output.version ≤ length seen
+upto_says seen input (Query question) output tells (version, within, is) call =
+    let same = ap (λ (o : Output). o.version) is ∙ query_version input.worker version (reply_in (held_of (take version seen)) question input.now) in
+    omega (arith, same, within)
+upto_says seen input (Insert taken) output tells (before, at, is) call =
+    let same = ap (λ (o : Output). o.version) is in
+    let below = get_below seen before taken.batch at in
+    omega (arith, same, below)
+upto_says seen input (Tell kind body) output tells is call =
+    absurd (tells_none input.worker kind output body tells.not_called (ap (λ (o : Output). o.kind) is) (ap (λ (o : Output). o.version) is) call)
+
+upto_either : (seen : List Batch) (input : Input) (step : Step) (output : Output) → TellsNoCall step → IsOutputOf seen input step output ⊎ IsSpent seen input step output → TellsCall output → output.version ≤ length seen
+upto_either seen input step output tells (inl says) call = upto_says seen input step output tells says call
+upto_either seen input step output tells (inr spent) call = let same = ap (λ (o : Output). o.version) spent.says in omega (arith, same, spent.met)
+
+-- a call's version is among those seen
+upto : (seen : List Batch) (input : Input) (output : Output) → IsAnswered seen input output → TellsCall output → output.version ≤ length seen
+upto seen input output answered = upto_either seen input answered.step output (tells_no_call input answered.step answered.does) answered.says
+
+call_step : (seen : List Batch) (input : Input) (step : Step) (output : Output) → TellsNoCall step → IsOutputOf seen input step output ⊎ IsSpent seen input step output → TellsCall output → IsCall step
+call_step seen input (Query question) output tells says call = tt
+call_step seen input (Insert taken) output tells says call = tt
+call_step seen input (Tell kind body) output tells (inl is) call =
+    tells_none input.worker kind output body tells.not_called (ap (λ (o : Output). o.kind) is) (ap (λ (o : Output). o.version) is) call
+call_step seen input (Tell kind body) output tells (inr spent) call = told_no_insert kind body spent.taken spent.inserts
+  where
+    told_no_insert : (kind : OutKind) (body : List ℕ) (taken : _) → Tell kind body ≡ Insert taken → ⊥
+    told_no_insert kind body taken same = cc
+
+placed_calls : (kind : OutKind) → is_placed kind ≡ true → is_call kind ≡ true
+placed_calls Reply placed = refl
+placed_calls Forward placed = refl
+placed_calls Stored placed = refl
+placed_calls Refused placed = placed
+placed_calls Dropped placed = placed
+placed_calls Error placed = placed
+
+-- one more of the frames
+pub inputs_more : (frames : List Frame) (i : ℕ) (d : Frame) → i < length frames → map input_of (take (i + 1) frames) ≡ map input_of (take i frames) ++ input_of (get_or frames i d) ∷ []
+inputs_more frames i d within = ap (map input_of) (take_more frames i d within) ∙ map-append input_of (take i frames) (get_or frames i d ∷ [])
+
+-- ---- a shift
+
+module _ {g : Ghosts Held Batch (Unit {0})} where
+  in_turn : (before after : Seat Held Batch (Unit {0}) g) (input : Input) (earlier output : Output) → IsPrefix (seen_by before) (seen_by after) → IsDone before after input output
+      → (TellsCall earlier → earlier.version ≤ length (seen_by before)) → IsInTurn earlier output
+  in_turn before after input earlier output begins done within =
+      let is_version : TellsCall output → output.version ≡ length (seen_by after) =
+          λ call. done.version (call_step (seen_by after) input done.answered.step output (tells_no_call input done.answered.step done.answered.does) done.answered.says call) in
+      record {
+        never_back = λ first second. omega (arith, within first, prefix_length (seen_by before) (seen_by after) begins, is_version second);
+        rises = λ first placed. omega (arith, within first, done.rises placed, is_version (inl (placed_calls output.kind placed)));
+      }
+
+  shift_more : (before after : Seat Held Batch (Unit {0}) g) (placed : List ℕ) (inputs : List Input) (outputs : List Output) (input : Input) (output : Output)
+      → IsPrefix (seen_by before) (seen_by after) → IsDone before after input output → IsShift (seen_by before) placed inputs outputs
+      → IsShift (seen_by after) (placed ++ places_of output) (inputs ++ input ∷ []) (outputs ++ output ∷ [])
+  shift_more before after placed inputs outputs input output begins done shift =
+      let each = zip_push (IsAnswered (seen_by after)) inputs outputs input output
+          (zip_weaker (IsAnswered (seen_by before)) (IsAnswered (seen_by after)) (λ i o. answered_more (seen_by before) (seen_by after) i o begins) inputs outputs shift.each) done.answered in
+      record {
+        each = each;
+        order = all_pairs_push IsInTurn outputs output shift.order
+            (λ k d lt. in_turn before after input (get_or outputs k d) output begins done
+              (zip_at (IsAnswered (seen_by before)) (λ o. TellsCall o → o.version ≤ length (seen_by before)) (λ i o. upto (seen_by before) i o) inputs outputs shift.each k d lt));
+        places = ap (λ l. l ++ places_of output) shift.places ∙ sym (spelling-push places_of outputs output);
+        sound = zip_weaker (IsAnswered (seen_by after)) (IsSoundReply (seen_by after)) (answered_sound (seen_by after)) (inputs ++ input ∷ []) (outputs ++ output ∷ []) each;
+      }
+
+  pub work_none : (worker : ℕ) (seat : Seat Held Batch (Unit {0}) g) (octets : List ℕ) → octets ≡ [] → IsWork worker seat seat [] octets
+  work_none worker seat octets none = record {
+    outputs = [];
+    written = none;
+    valid = All-nil IsOutput;
+    own = All-nil (λ output. output.worker ≡ worker);
+    worked = record {
+      begins = prefix_self (seen_by seat);
+      placed = [];
+      places = sym (append-nil (places_by seat));
+      shift = record { each = tt; order = λ i j d lt lt'. absurd (omega arith); places = refl; sound = tt };
+    };
+  }
+
+  work_other : (worker : ℕ) (before after : Seat Held Batch (Unit {0}) g) (inputs : List Input) (input : Input) (octets : List ℕ) → (input.worker ≡ worker → ⊥) → IsWork worker before after inputs octets → IsWork worker before after (inputs ++ input ∷ []) octets
+  work_other worker before after inputs input octets other work = record {
+    outputs = work.outputs;
+    written = work.written;
+    valid = work.valid;
+    own = work.own;
+    worked = subst (λ l. HasWorked before after l work.outputs) (sym (other_push worker inputs input other)) work.worked;
+  }
+
+  work_own : (worker : ℕ) (before now after : Seat Held Batch (Unit {0}) g) (inputs : List Input) (input : Input) (octets octets' : List ℕ) → input.worker ≡ worker → IsPrefix (seen_by now) (seen_by after) → DoesOneFrame now after input octets octets' → IsWork worker before now inputs octets → IsWork worker before after (inputs ++ input ∷ []) octets'
+  work_own worker before now after inputs input octets octets' same begins does work =
+      let output = does.output in
+      record {
+        outputs = work.outputs ++ output ∷ [];
+        written = does.writes.written ∙ ap (λ l. l ++ output_spelling output) work.written ∙ sym (spelling-push output_spelling work.outputs output);
+        valid = All-push IsOutput work.outputs output work.valid does.writes.valid;
+        own = All-push (λ o. o.worker ≡ worker) work.outputs output work.own (answered_worker (seen_by after) input output does.done.answered ∙ same);
+        worked = subst (λ l. HasWorked before after l (work.outputs ++ output ∷ [])) (sym (own_push worker inputs input same)) (record {
+          begins = prefix_trans (seen_by before) (seen_by now) (seen_by after) work.worked.begins begins;
+          placed = work.worked.placed ++ places_of output;
+          places = does.done.places ∙ ap (λ l. l ++ places_of output) work.worked.places ∙ append_assoc (places_by before) work.worked.placed (places_of output);
+          shift = shift_more now after work.worked.placed (inputs_of worker inputs) work.outputs input output begins does.done work.worked.shift;
+        });
+      }
+
+  pub frame_other : (worker : ℕ) (before after : Seat Held Batch (Unit {0}) g) (frames : List Frame) (i : ℕ) (d : Frame) (octets : List ℕ) → i < length frames → ((get_or frames i d).worker ≡ worker → ⊥)
+      → IsWork worker before after (map input_of (take i frames)) octets → IsWork worker before after (map input_of (take (i + 1) frames)) octets
+  frame_other worker before after frames i d octets within other work =
+      subst (λ l. IsWork worker before after l octets) (sym (inputs_more frames i d within)) (work_other worker before after (map input_of (take i frames)) (input_of (get_or frames i d)) octets other work)
+
+  pub frame_own : (worker : ℕ) (before now after : Seat Held Batch (Unit {0}) g) (frames : List Frame) (i : ℕ) (d : Frame) (octets octets' : List ℕ) → i < length frames → (get_or frames i d).worker ≡ worker
+      → IsPrefix (seen_by now) (seen_by after) → DoesOneFrame now after (input_of (get_or frames i d)) octets octets'
+      → IsWork worker before now (map input_of (take i frames)) octets → IsWork worker before after (map input_of (take (i + 1) frames)) octets'
+  frame_own worker before now after frames i d octets octets' within same begins does work =
+      subst (λ l. IsWork worker before after l octets') (sym (inputs_more frames i d within)) (work_own worker before now after (map input_of (take i frames)) (input_of (get_or frames i d)) octets octets' same begins does work)

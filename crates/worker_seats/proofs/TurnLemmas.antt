@@ -1,0 +1,196 @@
+-- What one frame does over a seat.
+use Rattle.std.proofs.Common.{◌≡◌, ℕ, ◌+◌, ◌-◌, ◌<◌, ◌≤◌, ◌⊎◌, inl, inr, Bool, true, false, cond, List, [], ◌∷◌, ◌++◌, length, take, Option, None, Some, slice_get, refl, sym, ◌∙◌, ap, subst, arith, length-append}
+use Rattle.std.specs.Prelude.{Result, Ok, Err, OnOk, OnErr}
+use Rattle.std.proofs.lemmas.Bool.{false≢true}
+use Rattle.std.proofs.lemmas.List.{append-nil, take_all}
+use mathlib.Core.List.{IsPrefix}
+use Rattle.dnswire.specs.Query.{IsReadAs}
+use Rattle.dnswire.specs.declared.question.Question.{Question}
+use Rattle.dnswire.specs.declared.query_read.QueryRead.{QueryRead}
+use Rattle.dnswire.specs.declared.query_read.QueryRead.TheVariants as reads
+use Rattle.intake.specs.Batch.{Gives, IsTaken, IsFault}
+use Rattle.intake.specs.declared.taken.Taken.{Taken}
+use Rattle.intake.specs.declared.intake_fault.IntakeFault.{IntakeFault}
+use Rattle.intake.specs.declared.intake_fault.IntakeFault.TheVariants.{OutOfMemory}
+use Rattle.denial_records.specs.declared.batch.Batch.{Batch}
+use Rattle.cache_meaning.specs.Held.{Held, held_of}
+use Rattle.cache_versions.specs.declared.state.State.{Ghosts}
+use Rattle.cache_versions.specs.declared.seat.Seat.{Seat}
+use Rattle.cache_versions.specs.declared.place.Placed.{Placed}
+use Rattle.cache_versions.specs.Inserts.{Inserted}
+use Rattle.cache_versions.specs.Seats.{places_by, seen_by}
+use Rattle.cache_versions.proofs.Fronts.{prefix_length}
+use Rattle.reply_core.specs.Answered.{reply_in}
+use Rattle.replay_meaning.specs.Frame.{Input}
+use Rattle.replay_meaning.specs.OutFrame.{Output}
+use Rattle.replay_meaning.specs.Outcome.{stored_octets, refusal_code}
+use Rattle.replay_meaning.specs.Step.{Step, Query, Insert, Tell, query_step, answer_step, DoesBy, Does}
+use Rattle.replay_meaning.specs.Fits.{IsOutputOf, is_call, is_placed, query_output, insert_output, told_output}
+use Rattle.replay_meaning.specs.Sound.{IsSoundReply}
+use Rattle.replay_meaning.specs.declared.frame.FrameKind.TheVariants as kinds
+use Rattle.replay_meaning.specs.declared.out_frame.OutKind.{OutKind}
+use Rattle.replay_meaning.specs.declared.out_frame.OutKind.TheVariants.{Reply, Forward, Stored, Refused}
+use Rattle.replay_meaning.proofs.SoundLemmas.{replies_are_sound}
+use Rattle.replay_meaning.proofs.StepLemmas.{tells_no_call}
+use Rattle.worker_seats.specs.Answer.{LAST, IsSpent, IsAnswered, spent_output}
+use Rattle.worker_seats.specs.OneFrame.{IsDone, DoesOneFrame, HasAtMostOneMore, Writes, places_of}
+
+pub on_ok : {T E P Q : Type 0} (r : Result T E) → (P → Q) → OnOk r P → OnOk r Q
+on_ok (Ok x) f p = f p
+on_ok (Err e) f p = tt
+
+pub on_both : {T E P Q R : Type 0} (r : Result T E) → (P → Q → R) → OnOk r P → OnOk r Q → OnOk r R
+on_both (Ok x) f p q = f p q
+on_both (Err e) f p q = tt
+
+pub on_err : {T E P : Type 0} (r : Result T E) → P → OnErr r P
+on_err (Ok x) p = tt
+on_err (Err e) p = p
+
+-- ---- replies
+
+sound_either : (seen : List Batch) (input : Input) (step : Step) (output : Output) → Does input step → IsOutputOf seen input step output ⊎ IsSpent seen input step output → IsSoundReply seen input output
+sound_either seen input step output does (inl says) =
+    (replies_are_sound (input.worker + 1) seen (input ∷ []) (output ∷ []) (record { below = omega arith; step = step; does = does; says = says }, tt)).0
+sound_either seen input step output does (inr spent) = λ reply. absurd (refused_is_no_reply (sym (ap (λ (o : Output). o.kind) spent.says) ∙ reply))
+  where
+    refused_is_no_reply : Refused ≡ Reply → ⊥
+    refused_is_no_reply same = cc
+
+pub answered_sound : (seen : List Batch) (input : Input) (output : Output) → IsAnswered seen input output → IsSoundReply seen input output
+answered_sound seen input output answered = sound_either seen input answered.step output answered.does answered.says
+
+-- ---- places
+
+no_place : (output : Output) → is_placed output.kind ≡ false → places_of output ≡ []
+no_place output none = ap (λ (b : Bool). cond b ((output.version - 1) ∷ []) []) none
+
+same_places : (places : List ℕ) (output : Output) → is_placed output.kind ≡ false → places ≡ places ++ places_of output
+same_places places output none = sym (append-nil places) ∙ ap (λ l. places ++ l) (sym (no_place output none))
+
+pub none_more : (before after : List ℕ) → after ≡ before → HasAtMostOneMore before after
+none_more before after same = record { more = []; few = omega arith; places = same ∙ sym (append-nil before) }
+
+pub one_more : (before after : List ℕ) (place : ℕ) → after ≡ before ++ place ∷ [] → HasAtMostOneMore before after
+one_more before after place is = record { more = place ∷ []; few = omega arith; places = is }
+
+-- ---- steps
+
+query_places_none : (worker version : ℕ) (reply : Option (List ℕ)) → is_placed (query_output worker version reply).kind ≡ false
+query_places_none worker version None = refl
+query_places_none worker version (Some octets) = refl
+
+at_end : (former : List Batch) (batch : Batch) → slice_get (former ++ batch ∷ []) (length former) ≡ Some batch
+at_end [] batch = refl
+at_end (other ∷ former) batch = at_end former batch
+
+module _ {g : Ghosts Held Batch (Unit {0})} where
+  pub told_frame : (seat : Seat Held Batch (Unit {0}) g) (input : Input) (kind : OutKind) (body octets octets' : List ℕ) → Does input (Tell kind body) → Writes (told_output input.worker kind body) octets octets' → DoesOneFrame seat seat input octets octets'
+  told_frame seat input kind body octets octets' does writes =
+      let none = tells_no_call input (Tell kind body) does in
+      let answered : IsAnswered (seen_by seat) input (told_output input.worker kind body) = record { step = Tell kind body; does = does; says = inl refl } in
+      record {
+        output = told_output input.worker kind body;
+        done = record {
+          answered = answered;
+          version = λ call. absurd call;
+          rises = λ placed. absurd (false≢true (sym none.not_placed ∙ placed));
+          places = same_places (places_by seat) (told_output input.worker kind body) none.not_placed;
+          idle = λ no_call. refl;
+          sound = answered_sound (seen_by seat) input (told_output input.worker kind body) answered;
+        };
+        writes = writes;
+      }
+
+  pub asked_frame : (before after : Seat Held Batch (Unit {0}) g) (input : Input) (question : Question) (version : ℕ) (found : Option (List ℕ)) (octets octets' : List ℕ)
+      → Does input (Query question) → version ≡ length (seen_by after) → reply_in (held_of (seen_by after)) question input.now ≡ found → places_by after ≡ places_by before
+      → Writes (query_output input.worker version found) octets octets' → DoesOneFrame before after input octets octets'
+  asked_frame before after input question version found octets octets' does version_is found_is same writes =
+      let output : Output = query_output input.worker version found in
+      let none = query_places_none input.worker version found in
+      let all : take version (seen_by after) ≡ seen_by after = take_all version (seen_by after) (omega (arith, version_is)) in
+      let answered : IsAnswered (seen_by after) input output = record {
+        step = Query question;
+        does = does;
+        says = inl (version, omega (arith, version_is), ap (query_output input.worker version) (sym found_is ∙ ap (λ (l : List Batch). reply_in (held_of l) question input.now) (sym all)));
+      } in
+      record {
+        output = output;
+        done = record {
+          answered = answered;
+          version = λ call. version_of_query input.worker version found ∙ version_is;
+          rises = λ placed. absurd (false≢true (sym none ∙ placed));
+          places = same ∙ same_places (places_by before) output none;
+          idle = λ no_call. absurd (no_call tt);
+          sound = answered_sound (seen_by after) input output answered;
+        };
+        writes = writes;
+      }
+    where
+      version_of_query : (worker version : ℕ) (reply : Option (List ℕ)) → (query_output worker version reply).version ≡ version
+      version_of_query worker version None = refl
+      version_of_query worker version (Some octets) = refl
+
+  pub placed_frame : (before after : Seat Held Batch (Unit {0}) g) (input : Input) (taken : Taken) (p : Placed Held Batch (Unit {0}) g) (body octets octets' : List ℕ)
+      → Does input (Insert taken) → Inserted before after taken.batch p → body ≡ stored_octets taken
+      → Writes (record { kind = Stored; worker = input.worker; version = p.version; body = body }) octets octets' → DoesOneFrame before after input octets octets'
+  placed_frame before after input taken p body octets octets' does inserted body_is writes =
+      let output : Output = record { kind = Stored; worker = input.worker; version = p.version; body = body } in
+      let grown : length (seen_by after) ≡ length inserted.former + 1 = ap length inserted.seen ∙ length-append inserted.former (taken.batch ∷ []) in
+      let answered : IsAnswered (seen_by after) input output = record {
+        step = Insert taken;
+        does = does;
+        says = inl (
+          length inserted.former,
+          ap (λ l. slice_get l (length inserted.former)) inserted.seen ∙ at_end inserted.former taken.batch,
+          λ i. record { kind = Stored; worker = input.worker; version = inserted.version i; body = body_is i },
+        );
+      } in
+      let place : p.version - 1 ≡ length inserted.former = omega (arith, inserted.version) in
+      record {
+        output = output;
+        done = record {
+          answered = answered;
+          version = λ call. inserted.version ∙ sym grown;
+          rises = λ placed. omega (arith, prefix_length (seen_by before) inserted.former inserted.begins, grown);
+          places = inserted.places ∙ ap (λ n. places_by before ++ n ∷ []) (sym place);
+          idle = λ no_call. absurd (no_call tt);
+          sound = answered_sound (seen_by after) input output answered;
+        };
+        writes = writes;
+      }
+
+  pub spent_frame : (before after : Seat Held Batch (Unit {0}) g) (input : Input) (taken : Taken) (version : ℕ) (octets octets' : List ℕ)
+      → Does input (Insert taken) → version ≡ length (seen_by after) → version ≡ LAST → places_by after ≡ places_by before
+      → Writes (record { kind = Refused; worker = input.worker; version = version; body = 8 ∷ [] }) octets octets' → DoesOneFrame before after input octets octets'
+  spent_frame before after input taken version octets octets' does version_is last same writes =
+      let output : Output = record { kind = Refused; worker = input.worker; version = version; body = 8 ∷ [] } in
+      let answered : IsAnswered (seen_by after) input output = record {
+        step = Insert taken;
+        does = does;
+        says = inr (record { taken = taken; inserts = refl; met = omega (arith, version_is, last); says = ap (λ (n : ℕ). record { kind = Refused; worker = input.worker; version = n; body = 8 ∷ [] }) last });
+      } in
+      record {
+        output = output;
+        done = record {
+          answered = answered;
+          version = λ call. version_is;
+          rises = λ placed. absurd (false≢true placed);
+          places = same ∙ same_places (places_by before) output refl;
+          idle = λ no_call. absurd (no_call tt);
+          sound = answered_sound (seen_by after) input output answered;
+        };
+        writes = writes;
+      }
+
+-- ---- what a frame does
+
+pub query_does : (input : Input) (read : QueryRead) → input.kind ≡ kinds.Query → IsReadAs input.message read → Does input (query_step read)
+query_does input read kind reads = subst (λ k. DoesBy k input.now input.message (query_step read)) (sym kind) (read, reads, refl)
+
+pub answer_does : (input : Input) (given : Result Taken IntakeFault) → input.kind ≡ kinds.Upstream → Gives input.message input.now given → Does input (answer_step given)
+answer_does input given kind gives = subst (λ k. DoesBy k input.now input.message (answer_step given)) (sym kind) (given, gives, refl)
+
+pub fault_is : (octets : List ℕ) (now : ℕ) (fault : IntakeFault) → (fault ≡ OutOfMemory) ⊎ IsFault octets now fault → (fault ≡ OutOfMemory → ⊥) → IsFault octets now fault
+fault_is octets now fault (inl out) other = absurd (other out)
+fault_is octets now fault (inr is) other = is

@@ -1,0 +1,33 @@
+-- What the workers of a cache did fits, once the cache is closed.
+use Rattle.std.specs.Prelude.{◌≡◌, ℕ, ◌<◌, ◌^◌, List, [], length, slice_index_or}
+use Rattle.std.specs.List.{All, AllZip, flat_map}
+use mathlib.Core.List.{IsPrefix}
+use Rattle.denial_records.specs.declared.batch.Batch.{Batch}
+use Rattle.cache_versions.specs.Hands.{AreAllBelow}
+use Rattle.replay_meaning.specs.Frame.{Input}
+use Rattle.replay_meaning.specs.OutFrame.{Output}
+use Rattle.replay_meaning.specs.Fits.{Fits}
+use Rattle.replay_meaning.specs.Sound.{IsSoundReply}
+use Rattle.worker_seats.specs.Shift.{IsShift}
+use Rattle.worker_seats.specs.Workers.{HasSameWorker, inputs_of, outputs_of}
+
+-- the shifts of so many workers of one new cache, which was closed with this journal
+pub record AreShifts (workers : ℕ) (journal : List Batch) (inputs : List Input) (outputs : List Output) : Type 0 where
+  pub below : All (λ input. input.worker < workers) inputs
+  pub same : AllZip HasSameWorker inputs outputs
+  -- what each worker's seat has seen, and where it has placed batches
+  pub seen : ℕ → List Batch
+  pub placed : List (List ℕ)
+  pub all : length placed ≡ workers
+  pub begins : (worker : ℕ) → worker < workers → IsPrefix (seen worker) journal
+  pub once : AreAllBelow (length journal) (flat_map (λ places. places) placed)
+  pub shifts :
+      (worker : ℕ) → worker < workers
+      → IsShift (seen worker) (slice_index_or placed worker []) (inputs_of worker inputs) (outputs_of worker outputs)
+
+-- the outputs fit the inputs where the batches of the journal are placed, and each reply is sound
+abbrev pub ShiftsFit : Type 0
+ShiftsFit =
+    (workers : ℕ) (journal : List Batch) (inputs : List Input) (outputs : List Output)
+    → length inputs < 2 ^ 32 → AreShifts workers journal inputs outputs
+    → Fits inputs workers journal outputs × AllZip (IsSoundReply journal) inputs outputs

@@ -1,0 +1,7 @@
+pub mod Answer
+pub mod Laws
+pub mod Merge
+pub mod OneFrame
+pub mod Shift
+pub mod Work
+pub mod Workers

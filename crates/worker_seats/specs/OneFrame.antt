@@ -1,0 +1,63 @@
+-- What one frame does over its worker's seat, and writes at the end of the output.
+use Rattle.std.specs.Prelude.{◌≡◌, ℕ, ◌+◌, ◌-◌, ◌<◌, ◌≤◌, true, cond, List, [], ◌∷◌, ◌++◌, length}
+use Rattle.denial_records.specs.declared.batch.Batch.{Batch}
+use Rattle.cache_meaning.specs.Held.{Held}
+use Rattle.cache_versions.specs.declared.state.State.{Ghosts}
+use Rattle.cache_versions.specs.declared.seat.Seat.{Seat}
+use Rattle.cache_versions.specs.Seats.{places_by, seen_by}
+use Rattle.replay_meaning.specs.Frame.{Input}
+use Rattle.replay_meaning.specs.OutFrame.{Output, IsOutput, output_spelling}
+use Rattle.replay_meaning.specs.Step.{Step, Query, Insert, Tell}
+use Rattle.replay_meaning.specs.Fits.{is_placed}
+use Rattle.replay_meaning.specs.Sound.{IsSoundReply}
+use Rattle.replay_meaning.specs.declared.frame.Frame.{Frame}
+use Rattle.replay_meaning.specs.declared.out_frame.OutKind.{OutKind}
+use Rattle.worker_seats.specs.Answer.{IsAnswered}
+
+-- ---- octets
+
+-- an output frame for the frame's worker
+abbrev pub output_for : Frame → OutKind → ℕ → List ℕ → Output
+output_for frame kind version body = record { kind = kind; worker = frame.worker; version = version; body = body }
+
+-- the octets have got the frame at their end
+pub record Writes (output : Output) (before after : List ℕ) : Type 0 where
+  pub valid : IsOutput output
+  pub written : after ≡ before ++ output_spelling output
+
+-- ---- the seat
+
+-- the step is a call of the cache
+abbrev pub IsCall : Step → Type 0
+IsCall (Query question) = Unit {0}
+IsCall (Insert taken) = Unit {0}
+IsCall (Tell kind body) = ⊥
+
+-- where the batch stands that the frame has placed, if it has placed one
+abbrev pub places_of : Output → List ℕ
+places_of output = cond (is_placed output.kind) ((output.version - 1) ∷ []) []
+
+module _ {g : Ghosts Held Batch (Unit {0})} where
+  -- the frame is answered, and this is what its seat was before and is after
+  pub record IsDone (before after : Seat Held Batch (Unit {0}) g) (input : Input) (output : Output) : Type 0 where
+    pub answered : IsAnswered (seen_by after) input output
+    -- a call is told with the number of batches that the seat has then seen
+    pub version : IsCall answered.step → output.version ≡ length (seen_by after)
+    -- a placed batch is a new one
+    pub rises : is_placed output.kind ≡ true → length (seen_by before) < length (seen_by after)
+    -- its place is the seat's last one
+    pub places : places_by after ≡ places_by before ++ places_of output
+    pub idle : (IsCall answered.step → ⊥) → after ≡ before
+    pub sound : IsSoundReply (seen_by after) input output
+
+  -- such a frame is done, and the octets have got its output at their end
+  pub record DoesOneFrame (before after : Seat Held Batch (Unit {0}) g) (input : Input) (octets octets' : List ℕ) : Type 0 where
+    pub output : Output
+    pub done : IsDone before after input output
+    pub writes : Writes output octets octets'
+
+-- one place more at most
+pub record HasAtMostOneMore (before after : List ℕ) : Type 0 where
+  pub more : List ℕ
+  pub few : length more ≤ 1
+  pub places : after ≡ before ++ more

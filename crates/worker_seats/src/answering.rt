@@ -1,0 +1,245 @@
+ghost use Rattle.std.specs.Prelude.{◌≡◌, ◌<◌, ◌≤◌, ◌^◌, [], ◌∷◌, length, OnOk, OnErr, IsSome};
+ghost use mathlib.Core.List.{IsPrefix};
+ghost use Rattle.dnswire.specs.Query.{IsReadAs};
+ghost use Rattle.intake.specs.Batch.{IsTaken};
+ghost use Rattle.reply_core.specs.Error.{error_octets, plain_octets};
+ghost use Rattle.reply_core.specs.declared.rcode.TheConstants.{BAD_VERSION};
+ghost use Rattle.cache_versions.specs.Seats.{number_by, places_by, seen_by};
+ghost use Rattle.resolver.specs.Caches.{IsSeatOf};
+ghost use Rattle.replay_meaning.specs.Frame.{input_of};
+ghost use Rattle.replay_meaning.specs.Outcome.{stored_octets, refusal_code};
+ghost use Rattle.replay_meaning.specs.declared.frame.FrameKind.{FrameKind};
+ghost use Rattle.replay_meaning.specs.declared.out_frame.OutKind.{OutKind};
+ghost use Rattle.dnswire.specs.declared.query_read.QueryRead.{QueryRead};
+ghost use Rattle.worker_seats.specs.OneFrame.{DoesOneFrame, HasAtMostOneMore, Writes, output_for};
+
+use dname::OutOfMemory;
+use dnswire::{Head, QueryRead, Question, read_query};
+use intake::{IntakeFault, Taken, batch_of};
+use replay_meaning::{Frame, FrameKind, OutFrame, OutKind};
+use reply_core::rcode::{BAD_VERSION, FORMAT_ERROR, NOT_IMPLEMENTED};
+use reply_core::{ReplyBuffer, write_error, write_plain};
+use resolver::{CacheFault, CacheSeat, Outcome, SharedCache};
+use std::alloc::{AllocError, Global};
+use std::sync::Wait;
+
+/// The code of an insert that met the last version.
+const NUMBERS_SPENT: u8 = 8;
+
+/// Does what the frame asks of the cache, and writes the frame of the output at the end of `out`. The buffer serves replies.
+/// After want of memory the call of the cache may have been made, and `out` may have a part of the frame.
+pub fn one_frame<R: Wait>(
+    rt: &R,
+    alloc: Global,
+    cache: &SharedCache,
+    seat: &mut CacheSeat,
+    frame: &Frame<'_>,
+    reply: &mut ReplyBuffer,
+    out: &mut Vec<u8>,
+) -> Result<(), OutOfMemory>
+    requires { IsSeatOf cache.now seat.old }
+    ensures object { IsSeatOf cache.now seat.new }
+    ensures number { number_by seat.new ≡ number_by seat.old }
+    ensures begins { IsPrefix (seen_by seat.old) (seen_by seat.new) }
+    ensures done { OnOk result (DoesOneFrame
+        seat.old seat.new (input_of frame.entry.now) out.old.items out.new.items) }
+    ensures lost { OnErr result (HasAtMostOneMore (places_by seat.old) (places_by seat.new)) }
+{
+    match frame.kind {
+        FrameKind::Query => query_frame(cache, seat, frame, reply, out),
+        FrameKind::Upstream => upstream_frame(rt, alloc, cache, seat, frame, out),
+    }
+}
+
+fn query_frame(
+    cache: &SharedCache,
+    seat: &mut CacheSeat,
+    frame: &Frame<'_>,
+    reply: &mut ReplyBuffer,
+    out: &mut Vec<u8>,
+) -> Result<(), OutOfMemory>
+    requires kind { frame.now.kind ≡ FrameKind.Query }
+    requires object { IsSeatOf cache.now seat.old }
+    ensures object { IsSeatOf cache.now seat.new }
+    ensures number { number_by seat.new ≡ number_by seat.old }
+    ensures begins { IsPrefix (seen_by seat.old) (seen_by seat.new) }
+    ensures places { places_by seat.new ≡ places_by seat.old }
+    ensures done { OnOk result (DoesOneFrame
+        seat.old seat.new (input_of frame.entry.now) out.old.items out.new.items) }
+{
+    match read_query(frame.message) {
+        QueryRead::Dropped => write_output(frame, OutKind::Dropped, 0, &[], out),
+        QueryRead::NotImp(head) => write_error_output(frame, &head, NOT_IMPLEMENTED, reply, out),
+        QueryRead::FormErr(head) => write_error_output(frame, &head, FORMAT_ERROR, reply, out),
+        QueryRead::BadVers(question) => write_bad_version_output(frame, &question, reply, out),
+        QueryRead::Query(question) => ask(cache, seat, frame, &question, reply, out),
+    }
+}
+
+// Asks the question of the version that the seat reads.
+fn ask(
+    cache: &SharedCache,
+    seat: &mut CacheSeat,
+    frame: &Frame<'_>,
+    question: &Question,
+    reply: &mut ReplyBuffer,
+    out: &mut Vec<u8>,
+) -> Result<(), OutOfMemory>
+    requires kind { frame.now.kind ≡ FrameKind.Query }
+    requires read { IsReadAs frame.now.message.now (QueryRead.Query question.now) }
+    requires object { IsSeatOf cache.now seat.old }
+    ensures object { IsSeatOf cache.now seat.new }
+    ensures number { number_by seat.new ≡ number_by seat.old }
+    ensures begins { IsPrefix (seen_by seat.old) (seen_by seat.new) }
+    ensures places { places_by seat.new ≡ places_by seat.old }
+    ensures done { OnOk result (DoesOneFrame
+        seat.old seat.new (input_of frame.entry.now) out.old.items out.new.items) }
+{
+    match cache.query(seat, question, frame.now, reply) {
+        Outcome::Answered { version } => {
+            write_output(frame, OutKind::Reply, version, reply.as_slice(), out)
+        }
+        Outcome::Forward { version } => write_output(frame, OutKind::Forward, version, &[], out),
+    }
+}
+
+fn upstream_frame<R: Wait>(
+    rt: &R,
+    alloc: Global,
+    cache: &SharedCache,
+    seat: &mut CacheSeat,
+    frame: &Frame<'_>,
+    out: &mut Vec<u8>,
+) -> Result<(), OutOfMemory>
+    requires kind { frame.now.kind ≡ FrameKind.Upstream }
+    requires object { IsSeatOf cache.now seat.old }
+    ensures object { IsSeatOf cache.now seat.new }
+    ensures number { number_by seat.new ≡ number_by seat.old }
+    ensures begins { IsPrefix (seen_by seat.old) (seen_by seat.new) }
+    ensures done { OnOk result (DoesOneFrame
+        seat.old seat.new (input_of frame.entry.now) out.old.items out.new.items) }
+    ensures lost { OnErr result (HasAtMostOneMore (places_by seat.old) (places_by seat.new)) }
+{
+    match batch_of(alloc, frame.message, frame.now) {
+        Ok(taken) => insert(rt, alloc, cache, seat, frame, taken, out),
+        Err(fault) => write_refused_output(frame, fault, out),
+    }
+}
+
+// Inserts what intake has taken.
+fn insert<R: Wait>(
+    rt: &R,
+    alloc: Global,
+    cache: &SharedCache,
+    seat: &mut CacheSeat,
+    frame: &Frame<'_>,
+    taken: Taken,
+    out: &mut Vec<u8>,
+) -> Result<(), OutOfMemory>
+    requires kind { frame.now.kind ≡ FrameKind.Upstream }
+    requires taken { IsTaken frame.now.message.now frame.now.now taken }
+    requires object { IsSeatOf cache.now seat.old }
+    ensures object { IsSeatOf cache.now seat.new }
+    ensures number { number_by seat.new ≡ number_by seat.old }
+    ensures begins { IsPrefix (seen_by seat.old) (seen_by seat.new) }
+    ensures done { OnOk result (DoesOneFrame
+        seat.old seat.new (input_of frame.entry.now) out.old.items out.new.items) }
+    ensures lost { OnErr result (HasAtMostOneMore (places_by seat.old) (places_by seat.new)) }
+{
+    let body = stored_body(&taken);
+    match cache.insert(rt, alloc, seat, taken.batch) {
+        Ok(placed) => write_output(frame, OutKind::Stored, placed.version, &body, out),
+        Err(CacheFault::NumbersSpent { version }) => {
+            write_output(frame, OutKind::Refused, version, &[NUMBERS_SPENT], out)
+        }
+        Err(CacheFault::OutOfMemory) => Err(AllocError),
+    }
+}
+
+// Writes the output frame for this one at the end of `out`.
+fn write_output(
+    frame: &Frame<'_>,
+    kind: OutKind,
+    version: u32,
+    body: &[u8],
+    out: &mut Vec<u8>,
+) -> Result<(), OutOfMemory>
+    requires { length body.now < 2 ^ 16 }
+    ensures { OnOk result
+        (Writes (output_for frame.entry.now kind version body.now) out.old.items out.new.items) }
+{
+    let output = OutFrame {
+        kind,
+        worker: frame.worker,
+        version,
+        body,
+    };
+    output.write(out)
+}
+
+// Writes the frame of an error that is a header alone.
+fn write_error_output(
+    frame: &Frame<'_>,
+    head: &Head,
+    rcode: u16,
+    reply: &mut ReplyBuffer,
+    out: &mut Vec<u8>,
+) -> Result<(), OutOfMemory>
+    requires opcode { head.now.opcode ≤ 15 }
+    requires rcode { rcode ≤ 15 }
+    ensures { OnOk result
+        (Writes (output_for frame.entry.now OutKind.Error 0 (error_octets head.now rcode))
+        out.old.items out.new.items) }
+{
+    write_error(head, rcode, reply);
+    write_output(frame, OutKind::Error, 0, reply.as_slice(), out)
+}
+
+// Writes the frame of the error that tells of an OPT record of another version.
+fn write_bad_version_output(
+    frame: &Frame<'_>,
+    question: &Question,
+    reply: &mut ReplyBuffer,
+    out: &mut Vec<u8>,
+) -> Result<(), OutOfMemory>
+    requires { IsSome question.now.edns }
+    ensures { OnOk result
+        (Writes (output_for frame.entry.now OutKind.Error 0 (plain_octets question.now BAD_VERSION))
+        out.old.items out.new.items) }
+{
+    write_plain(question, BAD_VERSION, reply);
+    write_output(frame, OutKind::Error, 0, reply.as_slice(), out)
+}
+
+// Writes the frame of an upstream answer that intake refuses.
+fn write_refused_output(
+    frame: &Frame<'_>,
+    fault: IntakeFault,
+    out: &mut Vec<u8>,
+) -> Result<(), OutOfMemory>
+    ensures told { OnOk result
+        (Writes (output_for frame.entry.now OutKind.Refused 0 (refusal_code fault ∷ []))
+        out.old.items out.new.items) }
+    ensures fault { OnOk result (fault ≡ IntakeFault.OutOfMemory → ⊥) }
+{
+    let code = match fault {
+        IntakeFault::Malformed(_) => 1,
+        IntakeFault::NotResponse => 2,
+        IntakeFault::Truncated => 3,
+        IntakeFault::NotAuthentic => 4,
+        IntakeFault::Nothing { .. } => 5,
+        IntakeFault::Rcode(_) => 7,
+        IntakeFault::OutOfMemory => return Err(AllocError),
+    };
+    write_output(frame, OutKind::Refused, 0, &[code], out)
+}
+
+fn stored_body(taken: &Taken) -> [u8; 4]
+    ensures { result ≡ stored_octets taken.now }
+{
+    let stored = (taken.batch.records.len() % 0x1_0000) as u16;
+    let skipped = (taken.skipped % 0x1_0000) as u16;
+    let [a, b] = stored.to_be_bytes();
+    let [c, d] = skipped.to_be_bytes();
+    [a, b, c, d]
+}
