@@ -89,7 +89,8 @@ impl<T: Drop, R: Ranking<T>> OrderedList<T, R> {
         ensures count { result ≡ length (filter (λ x. is_lt (R.cmp x like.now)) self.now) }
         ensures in_range { result ≤ length self.now }
     {
-        self.list.find_at(R::mark(like), |entry| R::compare(entry, like).is_lt())
+        self.list
+            .find_at(R::mark(like), |entry| R::compare(entry, like).is_lt())
     }
 
     // How many entries rank below `like`, and how many don't rank above it.

@@ -125,7 +125,12 @@ fn alone<T: Drop>(alloc: Global, span: Arc<T>) -> Result<Vec<Arc<T>>, OutOfMemor
 }
 
 // The places from `low` up to `high`, without the last where its span has the key.
-fn trimmed<T: Drop, R: RingSpan<T>>(list: &MarkedList<T, ByStart<R>>, low: usize, high: usize, key: &R::Key) -> usize
+fn trimmed<T: Drop, R: RingSpan<T>>(
+    list: &MarkedList<T, ByStart<R>>,
+    low: usize,
+    high: usize,
+    key: &R::Key,
+) -> usize
     requires order { low ≤ high }
     requires in_range { high ≤ length list.now }
     ensures { IsTrimmed (span_has R.Key.Ord.cmp R.start R.end key.now) list.now low high result }

@@ -24,7 +24,10 @@ pub(crate) fn starts_upto<T: Drop, R: RingSpan<T>>(
     ensures value { result ≡ prefix_len (λ span. is_le (R.Key.Ord.cmp (R.start span) key.now)) list.now }
     ensures in_range { result ≤ length list.now }
 {
-    list.find_at(R::mark(frame, key), |span| R::start_key(span).cmp(key).is_le())
+    list.find_at(
+        R::mark(frame, key),
+        |span| R::start_key(span).cmp(key).is_le(),
+    )
 }
 
 // How many spans start before the key.
@@ -38,7 +41,10 @@ pub(crate) fn starts_before<T: Drop, R: RingSpan<T>>(
     ensures value { result ≡ prefix_len (λ span. is_lt (R.Key.Ord.cmp (R.start span) key.now)) list.now }
     ensures in_range { result ≤ length list.now }
 {
-    list.find_at(R::mark(frame, key), |span| R::start_key(span).cmp(key).is_lt())
+    list.find_at(
+        R::mark(frame, key),
+        |span| R::start_key(span).cmp(key).is_lt(),
+    )
 }
 
 // The place of the one span that can have the key, and whether it starts at the key or before it.
@@ -71,7 +77,10 @@ pub(crate) fn starting_at<T: Drop, R: RingSpan<T>>(
     requires arcs { IsArcs R.Key.Ord.cmp R.start R.end list.now }
     ensures { IsCut (starts_elsewhere R.Key.Ord.cmp R.start key.now) list.now result.0 result.1 }
 {
-    (starts_before(list, frame, key), starts_upto(list, frame, key))
+    (
+        starts_before(list, frame, key),
+        starts_upto(list, frame, key),
+    )
 }
 
 // Whether the span's arc has the key; `started` says whether it starts at the key or before it.
