@@ -135,8 +135,8 @@ module _ (workers : ℕ) (journal : List Batch) (inputs : List Input) (outputs :
   told_once : (place : ℕ) → place < length journal → times place (flat_map places_of outputs) ≡ 1
   told_once place within =
       sym (parts_sum worker_out places_of (λ (p : List ℕ). p) (λ p. cond (p == place) 1 0) 0 shifts.placed outputs
-        (λ k d lt. (omega arith, let b = below_out k d lt in omega (arith, b, shifts.all)))
-        (λ k d lt. part_is k d lt))
+      (λ k d lt. (omega arith, let b = below_out k d lt in omega (arith, b, shifts.all)))
+      (λ k d lt. part_is k d lt))
       ∙ (shifts.once place).0 within
 
   versions : (version : ℕ) → 1 ≤ version → version ≤ length journal → count_by (places version) outputs ≡ 1
@@ -166,13 +166,13 @@ module _ (workers : ℕ) (journal : List Batch) (inputs : List Input) (outputs :
 
 -- ---- the seats of a new cache that was closed
 
-map_at : {X Y : Type 0} (f : X → Y) (xs : List X) (k : ℕ) (d : Y) (e : X) → k < length xs → get_or (map f xs) k d ≡ f (get_or xs k e)
+pub map_at : {X Y : Type 0} (f : X → Y) (xs : List X) (k : ℕ) (d : Y) (e : X) → k < length xs → get_or (map f xs) k d ≡ f (get_or xs k e)
 map_at f [] k d e lt = absurd (omega arith)
 map_at f (x ∷ xs) zero d e lt = refl
 map_at f (x ∷ xs) (suc k) d e lt = map_at f xs k d e (omega arith)
 
 -- a list with a place has an element
-some_of : {X : Type 0} (xs : List X) (k : ℕ) → k < length xs → X
+pub some_of : {X : Type 0} (xs : List X) (k : ℕ) → k < length xs → X
 some_of [] k lt = absurd (omega arith)
 some_of (x ∷ xs) k lt = x
 
@@ -204,7 +204,7 @@ module _ {g : Ghosts Held Batch (Unit {0})} where
         let lt' : worker < length after = omega (arith, lt, all) in
         let one = worked.each worker d lt in
         let placed : one.placed ≡ get_or (map places_by after) worker [] =
-            sym (map_at places_by after worker [] d lt' ∙ one.places ∙ ap (λ l. l ++ one.placed) (fresh worker d lt)) in
+        sym (map_at places_by after worker [] d lt' ∙ one.places ∙ ap (λ l. l ++ one.placed) (fresh worker d lt)) in
         subst (λ l. IsShift l (get_or (map places_by after) worker []) (inputs_of worker inputs) (outputs_of worker worked.outputs)) (sym (map_at seen_by after worker [] d lt'))
         (subst (λ l. IsShift (seen_by (get_or after worker d)) l (inputs_of worker inputs) (outputs_of worker worked.outputs)) placed one.shift);
   }

@@ -4,3 +4,4 @@ pub mod LawLemmas
 pub mod TurnLemmas
 pub mod ShiftLemmas
 pub mod MergeLemmas
+pub mod WorkersLemmas

@@ -101,9 +101,9 @@ some_left frames i d within =
     let done = map input_of (take i frames) in
     let counted = ap length (own_push worker_in worker done (input_of (get_or frames i d)) refl) in
     let here : length (inputs_of worker (map input_of (take (i + 1) frames))) ≡ length (inputs_of worker done) + 1 =
-        ap (λ l. length (inputs_of worker l)) (inputs_more frames i d within) ∙ counted ∙ length-append (inputs_of worker done) (input_of (get_or frames i d) ∷ []) in
+    ap (λ l. length (inputs_of worker l)) (inputs_more frames i d within) ∙ counted ∙ length-append (inputs_of worker done) (input_of (get_or frames i d) ∷ []) in
     let whole : map input_of (take (i + 1) frames) ++ map input_of (drop (i + 1) frames) ≡ map input_of frames =
-        sym (map-append input_of (take (i + 1) frames) (drop (i + 1) frames)) ∙ ap (map input_of) (take-append-drop (i + 1) frames) in
+    sym (map-append input_of (take (i + 1) frames) (drop (i + 1) frames)) ∙ ap (map input_of) (take-append-drop (i + 1) frames) in
     let more = own_more worker_in worker (map input_of (take (i + 1) frames)) (map input_of (drop (i + 1) frames)) in
     omega (arith, here, more, ap (λ l. length (inputs_of worker l)) whole)
 
@@ -162,7 +162,7 @@ module _ {X : Type 0} (octets_of : X → List ℕ) (parts : List X) (frames : Li
       let own = (Decides-eqb (get_or frames i d).worker worker).0 is in
       subst (λ w. IsLeft w all_inputs (done_inputs i ++ input_of (get_or frames i d) ∷ []) (m.outputs ++ output ∷ []) (octets_of (get_or parts w e)) (get_or (set places (get_or frames i d).worker next) w 0)) own
       (subst (λ p. IsLeft (get_or frames i d).worker all_inputs (done_inputs i ++ input_of (get_or frames i d) ∷ []) (m.outputs ++ output ∷ []) (octets_of (get_or parts (get_or frames i d).worker e)) p)
-        (sym (get_or-set_same places (get_or frames i d).worker next 0 room)) (here e))
+      (sym (get_or-set_same places (get_or frames i d).worker next 0 room)) (here e))
   step_at i d places octets octets' next output within room m same here worker e below false is =
       let other : (get_or frames i d).worker ≡ worker → ⊥ = λ own. false≢true (sym is ∙ (Decides-eqb (get_or frames i d).worker worker).1 own) in
       subst (λ p. IsLeft worker all_inputs (done_inputs i ++ input_of (get_or frames i d) ∷ []) (m.outputs ++ output ∷ []) (octets_of (get_or parts worker e)) p)
@@ -182,7 +182,7 @@ module _ {X : Type 0} (octets_of : X → List ℕ) (parts : List X) (frames : Li
       let input = input_of (get_or frames i d) in
       let mine = octets_of (get_or parts worker e) in
       let at : drop (get_or places worker 0) mine ≡ output_spelling output ++ outputs_spelling left =
-          ap (drop (get_or places worker 0)) spelled ∙ drop_at (outputs_spelling (outputs_of worker m.outputs)) (outputs_spelling (output ∷ left)) (get_or places worker 0) (sym from) in
+      ap (drop (get_or places worker 0)) spelled ∙ drop_at (outputs_spelling (outputs_of worker m.outputs)) (outputs_spelling (output ∷ left)) (get_or places worker 0) (sym from) in
       let took = takes output (outputs_spelling left) (All-head IsOutput output left valid) at in
       let same : output.worker ≡ worker = All-head (λ o. o.worker ≡ worker) output left own in
       let here = own_done worker all_inputs (done_inputs i) input m.outputs mine (get_or places worker 0) output left refl valid own many spelled from in
@@ -215,15 +215,15 @@ module _ {X : Type 0} (octets_of : X → List ℕ) (parts : List X) (frames : Li
   end_by worker outputs octets n [] many spelled = spelled ∙ append-nil (outputs_spelling (outputs_of worker outputs))
   end_by worker outputs octets n (output ∷ left) many spelled = absurd (omega (arith, many))
 
-  pub merges_all : (i : ℕ) (d : X) (places octets : List ℕ) → length frames ≤ i → Merges i places octets → AreMerged (length parts) all_inputs (λ worker. octets_of (get_or parts worker d)) octets
-  merges_all i d places octets all m =
+  pub merges_all : (i : ℕ) (places octets : List ℕ) → length frames ≤ i → Merges i places octets → AreMerged octets_of parts all_inputs octets
+  merges_all i places octets all m =
       let whole = ap (map input_of) (take_all i frames all) in
       record {
         outputs = m.outputs;
         written = m.written;
         valid = m.valid;
         same = subst (λ l. AllZip HasSameWorker l m.outputs) whole m.same;
-        each = λ worker lt.
+        each = λ worker d lt.
             let one = m.each worker d lt in
             end_by worker m.outputs (octets_of (get_or parts worker d)) (length (inputs_of worker all_inputs)) one.left (subst (λ l. length one.left + length (inputs_of worker l) ≡ length (inputs_of worker all_inputs)) whole one.many) one.spelled;
       }

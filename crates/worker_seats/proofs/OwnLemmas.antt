@@ -176,7 +176,7 @@ module _ {X A S : Type 0} (key : X → ℕ) (of' : X → List A) (part : S → L
   parts_sum from (s ∷ parts) xs within each =
       let first : part s ≡ flat_map of' (own key from xs) = subst (λ k. part s ≡ flat_map of' (own key k xs)) (omega arith) (each 0 s (omega arith)) in
       let rest = parts_sum (from + 1) parts (others key from xs) (others_within from (length parts) xs within)
-          (λ k d lt. each (suc k) d (omega arith) ∙ ap (flat_map of') (own_after from k xs)) in
+      (λ k d lt. each (suc k) d (omega arith) ∙ ap (flat_map of') (own_after from k xs)) in
       sum_by-append h (part s) (flat_map part parts)
       ∙ ap (λ l. sum_by h l + sum_by h (flat_map part parts)) first
       ∙ ap (λ n. sum_by h (flat_map of' (own key from xs)) + n) rest

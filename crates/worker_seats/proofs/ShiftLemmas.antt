@@ -140,7 +140,7 @@ module _ {g : Ghosts Held Batch (Unit {0})} where
       → (TellsCall earlier → earlier.version ≤ length (seen_by before)) → IsInTurn earlier output
   in_turn before after input earlier output begins done within =
       let is_version : TellsCall output → output.version ≡ length (seen_by after) =
-          λ call. done.version (call_step (seen_by after) input done.answered.step output (tells_no_call input done.answered.step done.answered.does) done.answered.says call) in
+      λ call. done.version (call_step (seen_by after) input done.answered.step output (tells_no_call input done.answered.step done.answered.does) done.answered.says call) in
       record {
         never_back = λ first second. omega (arith, within first, prefix_length (seen_by before) (seen_by after) begins, is_version second);
         rises = λ first placed. omega (arith, within first, done.rises placed, is_version (inl (placed_calls output.kind placed)));
@@ -151,12 +151,12 @@ module _ {g : Ghosts Held Batch (Unit {0})} where
       → IsShift (seen_by after) (placed ++ places_of output) (inputs ++ input ∷ []) (outputs ++ output ∷ [])
   shift_more before after placed inputs outputs input output begins done shift =
       let each = zip_push (IsAnswered (seen_by after)) inputs outputs input output
-          (zip_weaker (IsAnswered (seen_by before)) (IsAnswered (seen_by after)) (λ i o. answered_more (seen_by before) (seen_by after) i o begins) inputs outputs shift.each) done.answered in
+      (zip_weaker (IsAnswered (seen_by before)) (IsAnswered (seen_by after)) (λ i o. answered_more (seen_by before) (seen_by after) i o begins) inputs outputs shift.each) done.answered in
       record {
         each = each;
         order = all_pairs_push IsInTurn outputs output shift.order
             (λ k d lt. in_turn before after input (get_or outputs k d) output begins done
-              (zip_at (IsAnswered (seen_by before)) (λ o. TellsCall o → o.version ≤ length (seen_by before)) (λ i o. upto (seen_by before) i o) inputs outputs shift.each k d lt));
+            (zip_at (IsAnswered (seen_by before)) (λ o. TellsCall o → o.version ≤ length (seen_by before)) (λ i o. upto (seen_by before) i o) inputs outputs shift.each k d lt));
         places = ap (λ l. l ++ places_of output) shift.places ∙ sym (spelling-push places_of outputs output);
         sound = zip_weaker (IsAnswered (seen_by after)) (IsSoundReply (seen_by after)) (answered_sound (seen_by after)) (inputs ++ input ∷ []) (outputs ++ output ∷ []) each;
       }

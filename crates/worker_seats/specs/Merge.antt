@@ -1,5 +1,5 @@
 -- The outputs of all workers, merged in the order of the inputs.
-use Rattle.std.specs.Prelude.{◌≡◌, ℕ, ◌<◌, List, ◌++◌, length}
+use Rattle.std.specs.Prelude.{◌≡◌, ℕ, ◌<◌, List, ◌++◌, length, slice_index_or}
 use Rattle.std.specs.List.{All, AllZip}
 use Rattle.replay_meaning.specs.Frame.{Input}
 use Rattle.replay_meaning.specs.OutFrame.{Output, IsOutput, output_spelling, outputs_spelling}
@@ -20,10 +20,10 @@ pub record AreOutputsOf (worker : ℕ) (inputs : List Input) (octets : List ℕ)
   pub own : All (λ output. output.worker ≡ worker) outputs
   pub many : length outputs ≡ length (inputs_of worker inputs)
 
--- the octets are outputs for the inputs, in order, of which each worker's are these
-pub record AreMerged (workers : ℕ) (inputs : List Input) (each_octets : ℕ → List ℕ) (octets : List ℕ) : Type 0 where
+-- the octets are outputs for the inputs, in order, and the octets of each part are those of the worker at its place
+pub record AreMerged {X : Type 0} (octets_of : X → List ℕ) (parts : List X) (inputs : List Input) (octets : List ℕ) : Type 0 where
   pub outputs : List Output
   pub written : octets ≡ outputs_spelling outputs
   pub valid : All IsOutput outputs
   pub same : AllZip HasSameWorker inputs outputs
-  pub each : (worker : ℕ) → worker < workers → each_octets worker ≡ outputs_spelling (outputs_of worker outputs)
+  pub each : (worker : ℕ) (d : X) → worker < length parts → octets_of (slice_index_or parts worker d) ≡ outputs_spelling (outputs_of worker outputs)

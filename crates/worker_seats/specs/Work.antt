@@ -1,14 +1,17 @@
 -- What one worker leaves: its seat, and the octets of its outputs.
-use Rattle.std.specs.Prelude.{◌≡◌, ℕ, ◌<◌, List, [], ◌∷◌, length, slice_index_or, IfOk}
+use Rattle.std.specs.Prelude.{◌≡◌, ℕ, ◌<◌, List, length, slice_index_or}
 use Rattle.std.specs.List.{All}
-use Rattle.std.specs.declared.result.Result.{Result}
-use Rattle.std.specs.declared.alloc.AllocError.{AllocError}
 use Rattle.denial_records.specs.declared.batch.Batch.{Batch}
 use Rattle.cache_meaning.specs.Held.{Held}
 use Rattle.cache_versions.specs.declared.state.State.{Ghosts}
 use Rattle.cache_versions.specs.declared.seat.Seat.{Seat}
 use Rattle.replay_meaning.specs.Frame.{Input}
 use Rattle.replay_meaning.specs.OutFrame.{Output, IsOutput, outputs_spelling}
+use Rattle.cache_versions.specs.Seats.{number_by}
+use Rattle.resolver.specs.Caches.{IsSeatOf}
+use Rattle.resolver.specs.declared.shared_cache.SharedCache.{SharedCache}
+use Rattle.worker_seats.specs.declared.shift.Job.{Job}
+use Rattle.worker_seats.specs.declared.shift.Shift.{Shift}
 use Rattle.worker_seats.specs.Workers.{HasWorked, inputs_of}
 
 module _ {g : Ghosts Held Batch (Unit {0})} where
@@ -19,3 +22,13 @@ module _ {g : Ghosts Held Batch (Unit {0})} where
     pub valid : All IsOutput outputs
     pub own : All (λ output. output.worker ≡ worker) outputs
     pub worked : HasWorked before after (inputs_of worker inputs) outputs
+
+-- the worker did its work over its seat of the cache, and leaves this
+pub record IsShiftOf (cache : SharedCache) (job : Job) (inputs : List Input) (shift : Shift) : Type 0 where
+  pub object : IsSeatOf cache shift.seat
+  pub number : number_by shift.seat ≡ number_by job.seat
+  pub work : IsWork job.worker job.seat shift.seat inputs shift.octets.items
+
+-- each job is that of the worker at its place
+abbrev pub ArePlaced : List Job → Type 0
+ArePlaced jobs = (place : ℕ) (d : Job) → place < length jobs → (slice_index_or jobs place d).worker ≡ place

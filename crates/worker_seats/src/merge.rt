@@ -51,9 +51,8 @@ pub(crate) fn merged(
     requires outputs { (worker : ℕ) (d : Shift) → worker < length shifts.now
         → AreOutputsOf worker (map input_of frames.now)
         (slice_index_or shifts.now worker d).octets.items }
-    ensures { IfOk result (λ octets. (d : Shift)
-        → AreMerged (length shifts.now) (map input_of frames.now)
-        (λ worker. (slice_index_or shifts.now worker d).octets.items) octets.items) }
+    ensures { IfOk result (λ octets. AreMerged (λ shift. shift.octets.items) shifts.now
+        (map input_of frames.now) octets.items) }
 {
     let mut output = Vec::new(alloc);
     let mut places = [0usize; WORKERS];

@@ -1,15 +1,20 @@
-ghost use Rattle.std.specs.Prelude.{◌≡◌, ◌<◌, ◌^◌, All, IfOk, length, map};
+ghost use Rattle.std.specs.Prelude.{◌≡◌, ℕ, ◌<◌, ◌^◌, All, IfOk, Ok, length, map, slice_index_or};
 ghost use Rattle.cache_versions.specs.Rows.{AreNumbered};
 ghost use Rattle.resolver.specs.Caches.{IsSeatOf};
 ghost use Rattle.replay_meaning.specs.Frame.{input_of};
+ghost use Rattle.worker_seats.specs.declared.shift.Job.{Job};
+ghost use Rattle.worker_seats.specs.Work.{ArePlaced, IsShiftOf};
 ghost use Rattle.worker_seats.specs.Workers.{HaveWorked};
 
+use crate::merge::merged;
+use crate::shift::{Job, Shift, work_shift};
 use dname::OutOfMemory;
 use outside_core::Gate;
 use replay_meaning::Frame;
 use resolver::{CacheSeat, SharedCache};
-use std::alloc::{AllocError, Global};
+use std::alloc::Global;
 use std::sync::Wait;
+use std::thread;
 use std::thread::Threads;
 
 /// Each worker does its frames in their order, over the seat at its number, on a thread of its own. It passes the gate before
@@ -33,5 +38,93 @@ pub fn run_workers<R: Threads + Wait + Sync, G: Gate>(
     ensures worked { IfOk result (λ done.
         HaveWorked seats.items done.0.items (map input_of frames.now) done.1.items) }
 {
-    Err(AllocError)
+    let results = work_all(rt, alloc, cache, seats, frames, gate)?;
+    let shifts = all_shifts(alloc, results)?;
+    let octets = merged(alloc, frames, &shifts)?;
+    let seats = seats_of(alloc, shifts)?;
+    Ok((seats, octets))
+}
+
+// The work of all workers, each on a thread of its own where one can be started.
+fn work_all<R: Threads + Wait + Sync, G: Gate>(
+    rt: &R,
+    alloc: Global,
+    cache: &SharedCache,
+    seats: Vec<CacheSeat>,
+    frames: &[Frame<'_>],
+    gate: &G,
+) -> Result<Vec<Result<Shift, OutOfMemory>>, OutOfMemory>
+    requires object { All (IsSeatOf cache.now) seats.items }
+    requires few { length frames.now < 2 ^ 32 }
+    ensures all { IfOk result (λ results. length results.items ≡ length seats.items) }
+    ensures each { IfOk result (λ results. (worker : ℕ) (d : _) (e : _)
+        → worker < length seats.items
+        → IfOk (slice_index_or results.items worker d) (IsShiftOf cache.now
+        (record { worker = worker; seat = slice_index_or seats.items worker e })
+        (map input_of frames.now))) }
+{
+    let jobs = jobs_of(alloc, seats)?;
+    do_jobs(rt, alloc, cache, jobs, frames, gate)
+}
+
+fn do_jobs<R: Threads + Wait + Sync, G: Gate>(
+    rt: &R,
+    alloc: Global,
+    cache: &SharedCache,
+    jobs: Vec<Job>,
+    frames: &[Frame<'_>],
+    gate: &G,
+) -> Result<Vec<Result<Shift, OutOfMemory>>, OutOfMemory>
+    requires object { All (λ job. IsSeatOf cache.now job.seat) jobs.items }
+    requires few { length frames.now < 2 ^ 32 }
+    ensures all { IfOk result (λ results. length results.items ≡ length jobs.items) }
+    ensures each { IfOk result (λ results. (place : ℕ) (d : _) (e : Job)
+        → place < length jobs.items
+        → IfOk (slice_index_or results.items place d) (IsShiftOf cache.now
+        (slice_index_or jobs.items place e) (map input_of frames.now))) }
+{
+    let work = |job: Job| -> Result<Shift, OutOfMemory>
+        requires { IsSeatOf cache.now job.seat × (length frames.now < 2 ^ 32) }
+        ensures { IfOk result
+            (IsShiftOf cache.entry.now job (map input_of frames.entry.now)) }
+    { work_shift(rt, alloc, cache, job, frames, gate) };
+    thread::map_vec(rt, jobs, &work)
+}
+
+// Each seat with its place.
+fn jobs_of(alloc: Global, seats: Vec<CacheSeat>) -> Result<Vec<Job>, OutOfMemory>
+    ensures seats { IfOk result (λ jobs. map (λ job. job.seat) jobs.items ≡ seats.items) }
+    ensures places { IfOk result (λ jobs. ArePlaced jobs.items) }
+{
+    let mut jobs = Vec::new(alloc);
+    for seat in seats {
+        let worker = jobs.len();
+        jobs.push(Job { worker, seat })?;
+    }
+    Ok(jobs)
+}
+
+// What the workers left, where all had memory.
+fn all_shifts(
+    alloc: Global,
+    results: Vec<Result<Shift, OutOfMemory>>,
+) -> Result<Vec<Shift>, OutOfMemory>
+    ensures { IfOk result (λ shifts. results.items ≡ map (λ shift. Ok shift) shifts.items) }
+{
+    let mut shifts = Vec::new(alloc);
+    for result in results {
+        let shift = result?;
+        shifts.push(shift)?;
+    }
+    Ok(shifts)
+}
+
+fn seats_of(alloc: Global, shifts: Vec<Shift>) -> Result<Vec<CacheSeat>, OutOfMemory>
+    ensures { IfOk result (λ seats. seats.items ≡ map (λ shift. shift.seat) shifts.items) }
+{
+    let mut seats = Vec::new(alloc);
+    for shift in shifts {
+        seats.push(shift.seat)?;
+    }
+    Ok(seats)
 }

@@ -13,7 +13,7 @@ pub take_frame-requires-clause-within : goal.take_frame-requires-clause-within
 take_frame-requires-clause-within c =
     let e = c.index-shifts-worker.result in
     let inside = place_within (λ shift. shift.octets.items) c.args.shifts.now c.args.frames.now c.loop-frame.frame-index _ e c.loop-frame.places c.loop-frame.output.items c.loop-frame-test.true
-        (c.requires.workers c.loop-frame.frame-index _ c.loop-frame-test.true) c.loop-frame.invariant.merges in
+    (c.requires.workers c.loop-frame.frame-index _ c.loop-frame-test.true) c.loop-frame.invariant.merges in
     subst (λ l. get_or c.loop-frame.places c.from-worker.result 0 ≤ length l) (sym c.as_slice-octets.ensures.value)
     (subst (λ (w : ℕ). get_or c.loop-frame.places w 0 ≤ length (get_or c.args.shifts.now w e).octets.items) (sym c.from-worker.ensures) inside)
 
@@ -21,7 +21,7 @@ pub take_frame-requires-clause-frame : goal.take_frame-requires-clause-frame
 take_frame-requires-clause-frame c =
     let e = c.index-shifts-worker.result in
     let begins = place_begins (λ shift. shift.octets.items) c.args.shifts.now c.args.frames.now c.loop-frame.frame-index _ e c.loop-frame.places c.loop-frame.output.items c.loop-frame-test.true
-        (c.requires.workers c.loop-frame.frame-index _ c.loop-frame-test.true) c.loop-frame.invariant.merges in
+    (c.requires.workers c.loop-frame.frame-index _ c.loop-frame-test.true) c.loop-frame.invariant.merges in
     subst (λ l. BeginsWithFrame (drop (get_or c.loop-frame.places c.from-worker.result 0) l)) (sym c.as_slice-octets.ensures.value)
     (subst (λ (w : ℕ). BeginsWithFrame (drop (get_or c.loop-frame.places w 0) (get_or c.args.shifts.now w e).octets.items)) (sym c.from-worker.ensures) begins)
 
@@ -37,4 +37,4 @@ loop-frame-preserved c =
     }
 
 pub returns : goal.returns
-returns c d = merges_all (λ shift. shift.octets.items) c.args.shifts.now c.args.frames.now c.loop-frame.frame-index d c.loop-frame.places c.loop-frame.output.items c.loop-frame-test.false c.loop-frame.invariant.merges
+returns c = merges_all (λ shift. shift.octets.items) c.args.shifts.now c.args.frames.now c.loop-frame.frame-index c.loop-frame.places c.loop-frame.output.items c.loop-frame-test.false c.loop-frame.invariant.merges

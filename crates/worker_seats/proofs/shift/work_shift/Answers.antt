@@ -18,7 +18,7 @@ loop-frame-init g c = record {
 
 pub loop-frame-preserved : goal.loop-frame-preserved
 loop-frame-preserved g c = elim c.if-from-worker.branch [
-      then-from-worker+in_ok-one_frame w ↦ record {
+  | then-from-worker+in_ok-one_frame w ↦ record {
     object = subst (λ s. IsSeatOf c.args.cache.now s) (sym w.seat-is) w.in_ok-one_frame.ensures.object;
     number = ap number_by w.seat-is ∙ w.in_ok-one_frame.ensures.number ∙ c.loop-frame.invariant.number;
     calls = omega (arith, w.call-is, c.loop-frame.invariant.calls);
@@ -26,18 +26,18 @@ loop-frame-preserved g c = elim c.if-from-worker.branch [
         let after = w.one_frame.new.seat in
         let octets = w.one_frame.new.out.items in
         let does = frame_own c.args.job.worker c.args.job.seat c.loop-frame.seat after c.args.frames.now c.loop-frame.frame-index _ c.loop-frame.octets.items octets c.loop-frame-test.true
-            (sym c.from.ensures ∙ w.if-from-worker.true) w.in_ok-one_frame.ensures.begins w.in_ok-one_frame.ensures.done c.loop-frame.invariant.work in
+        (sym c.from.ensures ∙ w.if-from-worker.true) w.in_ok-one_frame.ensures.begins w.in_ok-one_frame.ensures.done c.loop-frame.invariant.work in
         let frames = map input_of (take (c.loop-frame.frame-index + 1) c.args.frames.now) in
         subst (λ s. IsWork c.args.job.worker c.args.job.seat s frames c.if-from-worker.octets.items) (sym w.seat-is)
         (subst (λ o. IsWork c.args.job.worker c.args.job.seat after frames o) (sym (ap (λ v. v.items) w.octets-is)) does);
   }
-    | else-from-worker w ↦ record {
+  | else-from-worker w ↦ record {
     object = subst (λ s. IsSeatOf c.args.cache.now s) (sym w.seat-is) c.loop-frame.invariant.object;
     number = ap number_by w.seat-is ∙ c.loop-frame.invariant.number;
     calls = omega (arith, w.call-is, c.loop-frame.invariant.calls);
     work =
         let same = frame_other c.args.job.worker c.args.job.seat c.loop-frame.seat c.args.frames.now c.loop-frame.frame-index _ c.loop-frame.octets.items c.loop-frame-test.true
-            (λ own. w.if-from-worker.false (c.from.ensures ∙ own)) c.loop-frame.invariant.work in
+        (λ own. w.if-from-worker.false (c.from.ensures ∙ own)) c.loop-frame.invariant.work in
         let frames = map input_of (take (c.loop-frame.frame-index + 1) c.args.frames.now) in
         subst (λ s. IsWork c.args.job.worker c.args.job.seat s frames c.if-from-worker.octets.items) (sym w.seat-is)
         (subst (λ o. IsWork c.args.job.worker c.args.job.seat c.loop-frame.seat frames o) (sym (ap (λ v. v.items) w.octets-is)) same);
