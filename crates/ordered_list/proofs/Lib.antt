@@ -1,7 +1,5 @@
 pub mod ChangeLemmas
 pub mod FilterLemmas
-pub mod MarkLemmas
 pub mod OrderLemmas
 pub mod PlaceLemmas
 pub mod PrefixLemmas
-pub mod RiseLemmas

@@ -5,20 +5,20 @@ ghost use Rattle.std.specs.List.Sorted.{IsPartitionedBy};
 ghost use Rattle.std.specs.Ordering.{is_lt, is_eq};
 ghost use Rattle.std.specs.Fn.{FnReturnsAt};
 ghost use Rattle.std.specs.Arc.{arc_value};
-ghost use Rattle.page_list.specs.Marks.{PartsAtMark};
 ghost use Rattle.ordered_list.specs.Order.{IsInOrder, entry_at, with_entry, without_entry};
 
 use crate::Ranking;
-use page_list::{MarkedIter, MarkedList, OutOfMemory};
+use page_list::{Iter, OutOfMemory, PageList};
 use std::alloc::Global;
-use std::marker::Model;
+use std::marker::{Model, PhantomData};
 use std::sync::Arc;
 
 /// Entries in strict order, seen as their list: of those that rank equal it holds one. A change makes another list,
 /// which shares with this one all that it does not touch, and reads no more of it than its place.
 #[derive(Drop)]
 pub struct OrderedList<T: Drop, R: Ranking<T>> {
-    list: MarkedList<T, R>,
+    list: PageList<T>,
+    by: PhantomData<R>,
 }
 
 impl<T: Drop, R: Ranking<T>> Model for OrderedList<T, R> {
@@ -38,7 +38,8 @@ impl<T: Drop, R: Ranking<T>> OrderedList<T, R> {
         ensures { result ≡ [] }
     {
         OrderedList {
-            list: MarkedList::empty(alloc),
+            list: PageList::empty(alloc),
+            by: PhantomData,
         }
     }
 
@@ -63,14 +64,14 @@ impl<T: Drop, R: Ranking<T>> OrderedList<T, R> {
     }
 
     /// The entries in order, one after another: the whole list at a cost linear in its length.
-    pub fn iter(&self) -> MarkedIter<'_, T, R>
+    pub fn iter(&self) -> Iter<'_, T>
         ensures all { result ≡ self.now }
         ensures in_order { IsInOrder R.cmp self.now }
     {
         self.list.iter()
     }
 
-    /// The entry that ranks equal with `like`. It is compared with entries of its own mark alone.
+    /// The entry that ranks equal with `like`: about 20 comparisons at 131,072 entries.
     pub fn at(&self, like: &T) -> Option<&Arc<T>>
         ensures entry { option_map (λ entry. arc_value entry.now) result
             ≡ entry_at R.cmp like.now self.now }
@@ -89,8 +90,7 @@ impl<T: Drop, R: Ranking<T>> OrderedList<T, R> {
         ensures count { result ≡ length (filter (λ x. is_lt (R.cmp x like.now)) self.now) }
         ensures in_range { result ≤ length self.now }
     {
-        self.list
-            .find_at(R::mark(like), |entry| R::compare(entry, like).is_lt())
+        self.list.find(|entry| R::compare(entry, like).is_lt())
     }
 
     // How many entries rank below `like`, and how many don't rank above it.
@@ -122,19 +122,6 @@ impl<T: Drop, R: Ranking<T>> OrderedList<T, R> {
         self.list.find(before)
     }
 
-    /// How many entries `before` holds of, where these are the first ones: all with a lesser mark, and none with a greater
-    /// one. It is asked of entries with the mark itself alone.
-    pub fn find_at<F: Fn(&T) -> bool>(&self, mark: u64, before: F) -> usize
-        requires { F.IsAlwaysCallable before }
-        ensures in_range { result ≤ length self.now }
-        ensures exact { (p : T → Bool)
-            → ((x : T) (r : Bool) → FnReturnsAt F.Fn before x r → r ≡ p x)
-            → PartsAtMark R.mark mark p self.now → result ≡ prefix_len p self.now }
-        ensures in_order { IsInOrder R.cmp self.now }
-    {
-        self.list.find_at(mark, before)
-    }
-
     /// The list with the entry in its place, and so in the place of the one that ranks equal, if there is one.
     pub fn with(&self, alloc: Global, entry: Arc<T>) -> Result<OrderedList<T, R>, OutOfMemory>
         ensures made { IfOk result (λ made. made ≡ with_entry R.cmp (arc_value entry) self.now) }
@@ -144,7 +131,10 @@ impl<T: Drop, R: Ranking<T>> OrderedList<T, R> {
         let mut items = Vec::with_capacity(alloc, 1)?;
         items.push(entry)?;
         let list = self.list.with_replaced(alloc, from, to, items)?;
-        Ok(OrderedList { list })
+        Ok(OrderedList {
+            list,
+            by: PhantomData,
+        })
     }
 
     /// The list without the entry that ranks equal with `like`.
@@ -154,7 +144,10 @@ impl<T: Drop, R: Ranking<T>> OrderedList<T, R> {
     {
         let (from, to) = self.place(like);
         let list = self.list.with_replaced(alloc, from, to, Vec::new(alloc))?;
-        Ok(OrderedList { list })
+        Ok(OrderedList {
+            list,
+            by: PhantomData,
+        })
     }
 
     /// The list without its first `n` entries.
@@ -163,18 +156,21 @@ impl<T: Drop, R: Ranking<T>> OrderedList<T, R> {
         ensures { IfOk result (λ made. made ≡ drop n self.now) }
     {
         let list = self.list.with_replaced(alloc, 0, n, Vec::new(alloc))?;
-        Ok(OrderedList { list })
+        Ok(OrderedList {
+            list,
+            by: PhantomData,
+        })
     }
 }
 
 impl<'a, T: Drop, R: Ranking<T>> IntoIterator for &'a OrderedList<T, R> {
     type Item = &'a Arc<T>;
 
-    type IntoIter = MarkedIter<'a, T, R>;
+    type IntoIter = Iter<'a, T>;
 
     ghost into_iter_gives = { λ list it. it ≡ list.now };
 
-    fn into_iter(self) -> MarkedIter<'a, T, R> {
+    fn into_iter(self) -> Iter<'a, T> {
         self.iter()
     }
 }

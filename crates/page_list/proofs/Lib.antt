@@ -1,4 +1,3 @@
-pub mod Marks
 pub mod Pages
 pub mod Rows
 pub mod Search

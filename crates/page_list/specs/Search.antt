@@ -2,18 +2,12 @@
 use Rattle.std.specs.Prelude.{◌≡◌, ℕ, ◌<◌, ◌≤◌, Bool, true, false, List, length, get_or}
 use Rattle.std.specs.Fn.{FnReturnsAt}
 use Rattle.std.specs.List.Sorted.{IsPartitionedBy}
-use Rattle.page_list.specs.Marks.{PartsAtMark}
 use denote.Ref.{Bor}
 use denote.Param.Members.{Shared}
 
 -- each call of the closure f answers as the test p does
 abbrev pub IsTestOf : {F X : Type 0} → Shared F (Bor X × Unit {0}) Bool → F → (X → Bool) → Type 0
 IsTestOf {F} {X} g f p = (x : X) (r : Bool) → FnReturnsAt g f x r → r ≡ p x
-
--- the same, where the marks of entries agree with the test
-pub record IsTestAt {F X : Type 0} (g : Shared F (Bor X × Unit {0}) Bool) (f : F) (mark_of : X → ℕ) (mark : ℕ) (xs : List X) (p : X → Bool) : Type 0 where
-  pub answers : IsTestOf g f p
-  pub parts : PartsAtMark mark_of mark p xs
 
 -- by each test that holds of the first entries alone: it holds before low, and fails from high on
 pub record HasNarrowed {X : Type 0} (xs : List X) (IsTest : (X → Bool) → Type 0) (low high : ℕ) : Type 0 where

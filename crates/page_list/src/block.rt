@@ -1,16 +1,15 @@
 //! A block: one or more entries that lie together, a page or a run of blocks.
-ghost use Rattle.std.specs.Prelude.{◌≡◌, ◌<◌, ◌≤◌, ◌++◌, Bool, List, length, take, drop, map, IfOk, IfSome, slice_index_or};
+ghost use Rattle.std.specs.Prelude.{◌≡◌, ◌<◌, ◌≤◌, ◌++◌, Bool, List, length, take, drop, map, IfOk, slice_index_or};
 ghost use Rattle.std.specs.List.{flat_map, prefix_len};
 ghost use Rattle.std.specs.List.Sorted.{IsPartitionedBy};
 ghost use Rattle.std.specs.Arc.{arc_value};
-ghost use Rattle.page_list.specs.Marks.{PartsAtMark};
 ghost use Rattle.page_list.specs.Search.{IsTestOf};
 
-use crate::{Marking, OutOfMemory};
+use crate::OutOfMemory;
 use std::alloc::Global;
 use std::sync::Arc;
 
-pub(crate) trait Block<T: Drop, M: Marking<T>>: Drop {
+pub(crate) trait Block<T: Drop>: Drop {
     // its entries, in order
     ghost entries: { Self → List T };
 
@@ -30,11 +29,6 @@ pub(crate) trait Block<T: Drop, M: Marking<T>>: Drop {
         ensures first { arc_value result.now
             ≡ slice_index_or (entries self.now) 0 (arc_value result.now) };
 
-    /// The mark of its first entry.
-    fn first_mark(&self) -> u64
-        ensures some { 0 < length (entries self.now) }
-        ensures first { (a : T) → result ≡ M.mark (slice_index_or (entries self.now) 0 a) };
-
     /// The entries from the entry `i` on, as far as its page goes.
     fn page_from(&self, i: usize) -> &[Arc<T>]
         requires { i < length (entries self.now) }
@@ -48,23 +42,6 @@ pub(crate) trait Block<T: Drop, M: Marking<T>>: Drop {
         ensures in_range { result ≤ length (entries self.now) }
         ensures exact { (p : T → Bool) → IsTestOf F.Fn before.now p
             → IsPartitionedBy p (entries self.now) → result ≡ prefix_len p (entries self.now) };
-
-    /// The same, asked only of entries with the mark: those of a lesser mark come before, those of a greater one don't.
-    fn find_at<F: Fn(&T) -> bool>(&self, mark: u64, before: &F) -> usize
-        requires { F.IsAlwaysCallable before.now }
-        ensures in_range { result ≤ length (entries self.now) }
-        ensures exact { (p : T → Bool) → IsTestOf F.Fn before.now p
-            → PartsAtMark M.mark mark p (entries self.now)
-            → result ≡ prefix_len p (entries self.now) };
-
-    /// The entries with `items` in place of those in `from..to`, in one block of as many parts, or a page that is neither
-    /// small nor too long. None where that can't be, and for want of memory.
-    fn replaced(&self, alloc: Global, from: usize, to: usize, items: &[Arc<T>]) -> Option<Arc<Self>>
-        requires order { from ≤ to }
-        requires in_range { to ≤ length (entries self.now) }
-        ensures { IfSome result (λ made. entries (arc_value made)
-            ≡ take from (entries self.now) ++ map arc_value items.now
-            ++ drop to (entries self.now)) };
 
     /// The entries of `left` before `from`, `items`, and the entries of `right` from `to` on, in new blocks.
     fn spliced(

@@ -7,17 +7,17 @@ use crate::cut::cut;
 use crate::row::Row;
 use crate::short::{MOST, Short};
 use crate::splice::spliced_row;
-use crate::{Block, Marking, OutOfMemory};
+use crate::{Block, OutOfMemory};
 use std::alloc::Global;
 use std::marker::Model;
 use std::sync::Arc;
 
 #[derive(Drop)]
-pub(crate) struct Blocks<T: Drop, M: Marking<T>, B: Block<T, M>> {
-    row: Row<T, M, B>,
+pub(crate) struct Blocks<T: Drop, B: Block<T>> {
+    row: Row<T, B>,
 }
 
-impl<T: Drop, M: Marking<T>, B: Block<T, M>> Model for Blocks<T, M, B> {
+impl<T: Drop, B: Block<T>> Model for Blocks<T, B> {
     ghost use Rattle.std.specs.Prelude.{◌<◌, ◌≤◌, List, length};
     ghost use Rattle.std.specs.List.{flat_map};
     ghost use Rattle.page_list.specs.declared.short.TheConstants.{MOST};
@@ -29,8 +29,8 @@ impl<T: Drop, M: Marking<T>, B: Block<T, M>> Model for Blocks<T, M, B> {
     ghost invariant = { λ b. (0 < length b.row) × (length b.row ≤ MOST) };
 }
 
-impl<T: Drop, M: Marking<T>, B: Block<T, M>> Blocks<T, M, B> {
-    fn of(alloc: Global, part: Short<Arc<B>>) -> Result<Blocks<T, M, B>, OutOfMemory>
+impl<T: Drop, B: Block<T>> Blocks<T, B> {
+    fn of(alloc: Global, part: Short<Arc<B>>) -> Result<Blocks<T, B>, OutOfMemory>
         ensures { IfOk result (λ b. b ≡ flat_map B.entries (map arc_value part)) }
     {
         let row = Row::of(alloc, part.into_vec())?;
@@ -39,17 +39,17 @@ impl<T: Drop, M: Marking<T>, B: Block<T, M>> Blocks<T, M, B> {
 }
 
 #[cfg(test)]
-impl<T: Drop, M: Marking<T>, B: Block<T, M>> Blocks<T, M, B> {
+impl<T: Drop, B: Block<T>> Blocks<T, B> {
     pub(crate) fn blocks(&self) -> &[Arc<B>] {
         self.row.blocks()
     }
 }
 
 // The blocks in even blocks of blocks.
-fn blocks_of<T: Drop, M: Marking<T>, B: Block<T, M>>(
+fn blocks_of<T: Drop, B: Block<T>>(
     alloc: Global,
     shares: Vec<Arc<B>>,
-) -> Result<Vec<Arc<Blocks<T, M, B>>>, OutOfMemory>
+) -> Result<Vec<Arc<Blocks<T, B>>>, OutOfMemory>
     ensures { IfOk result (λ made. flat_map (λ block. block) (map arc_value made.items)
         ≡ flat_map B.entries (map arc_value shares.items)) }
 {
@@ -60,10 +60,10 @@ fn blocks_of<T: Drop, M: Marking<T>, B: Block<T, M>>(
     Ok(made)
 }
 
-impl<T: Drop, M: Marking<T>, B: Block<T, M>> Block<T, M> for Blocks<T, M, B> {
+impl<T: Drop, B: Block<T>> Block<T> for Blocks<T, B> {
     ghost entries = { λ block. block };
 
-    fn made(alloc: Global, items: Vec<Arc<T>>) -> Result<Vec<Arc<Blocks<T, M, B>>>, OutOfMemory>
+    fn made(alloc: Global, items: Vec<Arc<T>>) -> Result<Vec<Arc<Blocks<T, B>>>, OutOfMemory>
         ensures { IfOk result (λ made. flat_map (λ block. block) (map arc_value made.items)
             ≡ map arc_value items.items) }
     {
@@ -82,34 +82,12 @@ impl<T: Drop, M: Marking<T>, B: Block<T, M>> Block<T, M> for Blocks<T, M, B> {
         self.row.block(0).first()
     }
 
-    fn first_mark(&self) -> u64 {
-        self.row.first_mark()
-    }
-
     fn page_from(&self, i: usize) -> &[Arc<T>] {
         self.row.page_from(i)
     }
 
     fn find<F: Fn(&T) -> bool>(&self, before: &F) -> usize {
         self.row.find(before)
-    }
-
-    fn find_at<F: Fn(&T) -> bool>(&self, mark: u64, before: &F) -> usize {
-        self.row.find_at(mark, before)
-    }
-
-    fn replaced(
-        &self,
-        alloc: Global,
-        from: usize,
-        to: usize,
-        items: &[Arc<T>],
-    ) -> Option<Arc<Self>> {
-        let row = self.row.replaced(alloc, from, to, items)?;
-        match Arc::new(alloc, Blocks { row }) {
-            Ok(block) => Some(block),
-            Err(_) => None,
-        }
     }
 
     fn spliced(

@@ -3,34 +3,31 @@ ghost use Rattle.std.specs.Prelude.{◌≡◌, ◌++◌, List, [], map, drop};
 ghost use Rattle.std.specs.Iterator.{YieldsFirstBy, item_count};
 ghost use Rattle.std.specs.Arc.{arc_value};
 
-use crate::{MarkedList, Marking, NoMarks};
+use crate::PageList;
 use std::marker::Model;
 use std::sync::Arc;
 
 /// Lends the entries of a list in order, seen as the list of those that are still to come.
 #[derive(Drop)]
-pub struct MarkedIter<'a, T: Drop, M: Marking<T>> {
-    list: &'a MarkedList<T, M>,
+pub struct Iter<'a, T: Drop> {
+    list: &'a PageList<T>,
     // what is left of the page that is being read
     page: &'a [Arc<T>],
     // how many entries of the list there are up to the end of that page
     end: usize,
 }
 
-/// Lends the entries of a `PageList`.
-pub type Iter<'a, T> = MarkedIter<'a, T, NoMarks>;
-
-impl<'a, T: Drop, M: Marking<T>> Model for MarkedIter<'a, T, M> {
+impl<'a, T: Drop> Model for Iter<'a, T> {
     ghost Value = { List T };
 
     ghost view = { λ it. map arc_value it.page.now ++ drop it.end it.list.now };
 }
 
-impl<'a, T: Drop, M: Marking<T>> MarkedIter<'a, T, M> {
-    pub(crate) fn over(list: &'a MarkedList<T, M>) -> MarkedIter<'a, T, M>
+impl<'a, T: Drop> Iter<'a, T> {
+    pub(crate) fn over(list: &'a PageList<T>) -> Iter<'a, T>
         ensures { result ≡ list.now }
     {
-        MarkedIter {
+        Iter {
             list,
             page: &[],
             end: 0,
@@ -38,7 +35,7 @@ impl<'a, T: Drop, M: Marking<T>> MarkedIter<'a, T, M> {
     }
 }
 
-impl<'a, T: Drop, M: Marking<T>> Iterator for MarkedIter<'a, T, M> {
+impl<'a, T: Drop> Iterator for Iter<'a, T> {
     type Item = &'a Arc<T>;
 
     ghost next_gives = { YieldsFirstBy (λ entry. arc_value entry.now) (λ it. it) };

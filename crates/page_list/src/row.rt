@@ -1,43 +1,39 @@
 //! A row of shared blocks.
-ghost use Rattle.std.specs.Prelude.{◌≡◌, ℕ, ◌<◌, ◌≤◌, ◌+◌, ◌++◌, [], Bool, length, get_or, set, take, drop, map, IfOk, IfSome, slice_index, slice_index_or};
+ghost use Rattle.std.specs.Prelude.{◌≡◌, ◌<◌, ◌≤◌, ◌+◌, [], Bool, length, take, drop, map, IfOk, slice_index_or};
 ghost use Rattle.std.specs.List.{flat_map, prefix_len};
 ghost use Rattle.std.specs.List.Sorted.{IsPartitionedBy};
 ghost use Rattle.std.specs.Arc.{arc_value};
-ghost use Rattle.page_list.specs.Marks.{PartsAtMark};
-ghost use Rattle.page_list.specs.Rows.{AreMoved, IsEnds, IsFirstMarks, IsPlace, IsSeam};
-ghost use Rattle.page_list.specs.Search.{IsTestOf, IsTestAt, HasNarrowed};
+ghost use Rattle.page_list.specs.Rows.{IsEnds, IsPlace};
+ghost use Rattle.page_list.specs.Search.{IsTestOf, HasNarrowed};
 
-use crate::share::{shared_but, shares_before, shares_from};
-use crate::{Block, Marking, OutOfMemory};
+use crate::share::{shares_before, shares_from};
+use crate::{Block, OutOfMemory};
 use std::alloc::{AllocError, Global};
 use std::marker::{Model, PhantomData};
 use std::sync::Arc;
 
-/// Shared blocks, seen as the list of them, with the number of entries up to the end of each, and the mark of the first
-/// entry of each.
+/// Shared blocks, seen as the list of them, with the number of entries up to the end of each.
 #[derive(Drop)]
-pub(crate) struct Row<T: Drop, M: Marking<T>, B: Block<T, M>> {
+pub(crate) struct Row<T: Drop, B: Block<T>> {
     blocks: Vec<Arc<B>>,
     ends: Vec<usize>,
-    marks: Vec<u64>,
-    of: PhantomData<(T, M)>,
+    of: PhantomData<T>,
 }
 
-impl<T: Drop, M: Marking<T>, B: Block<T, M>> Model for Row<T, M, B> {
+impl<T: Drop, B: Block<T>> Model for Row<T, B> {
     ghost use Rattle.std.specs.Prelude.{List, map};
     ghost use Rattle.std.specs.Arc.{arc_value};
-    ghost use Rattle.page_list.specs.Rows.{IsEnds, IsFirstMarks};
+    ghost use Rattle.page_list.specs.Rows.{IsEnds};
 
     ghost Value = { List B };
 
     ghost view = { λ r. map arc_value r.blocks.items };
 
-    ghost invariant = { λ r. IsEnds B.entries (map arc_value r.blocks.items) r.ends.items
-        × IsFirstMarks M.mark B.entries (map arc_value r.blocks.items) r.marks.items };
+    ghost invariant = { λ r. IsEnds B.entries (map arc_value r.blocks.items) r.ends.items };
 }
 
 // How many entries there are up to the end of each block; want of memory where a number has no place in a word.
-fn ends_of<T: Drop, M: Marking<T>, B: Block<T, M>>(
+fn ends_of<T: Drop, B: Block<T>>(
     alloc: Global,
     blocks: &[Arc<B>],
 ) -> Result<Vec<usize>, OutOfMemory>
@@ -55,76 +51,24 @@ fn ends_of<T: Drop, M: Marking<T>, B: Block<T, M>>(
     Ok(ends)
 }
 
-fn at_most(n: usize, most: usize) -> usize
-    ensures low { result ≤ n }
-    ensures high { result ≤ most }
-{
-    if n < most { n } else { most }
-}
-
-// The numbers, of which those from the place `p` on are changed by what `new` is more than `old`; want of memory where
-// one has no place in a word.
-fn moved(
-    alloc: Global,
-    numbers: &[usize],
-    p: usize,
-    old: usize,
-    new: usize,
-) -> Result<Vec<usize>, OutOfMemory>
-    requires { (k : ℕ) → p ≤ k → k < length numbers.now → old ≤ slice_index numbers.now k }
-    ensures { IfOk result (λ made. AreMoved numbers.now p old new made.items) }
-{
-    let mut made = Vec::from_slice(alloc, numbers)?;
-    if new == old {
-        return Ok(made);
-    }
-    let mut k = p;
-    while k < made.len() {
-        match (made[k] - old).checked_add(new) {
-            Some(number) => made[k] = number,
-            None => return Err(AllocError),
-        }
-        k += 1;
-    }
-    Ok(made)
-}
-
-// The mark of the first entry of each block.
-fn first_marks_of<T: Drop, M: Marking<T>, B: Block<T, M>>(
-    alloc: Global,
-    blocks: &[Arc<B>],
-) -> Result<Vec<u64>, OutOfMemory>
-    ensures { IfOk result (λ marks. IsFirstMarks M.mark B.entries (map arc_value blocks.now)
-        marks.items) }
-{
-    let mut marks = Vec::with_capacity(alloc, blocks.len())?;
-    for block in blocks {
-        marks.push(block.first_mark())?;
-    }
-    Ok(marks)
-}
-
-impl<T: Drop, M: Marking<T>, B: Block<T, M>> Row<T, M, B> {
-    pub(crate) fn empty(alloc: Global) -> Row<T, M, B>
+impl<T: Drop, B: Block<T>> Row<T, B> {
+    pub(crate) fn empty(alloc: Global) -> Row<T, B>
         ensures { result ≡ [] }
     {
         Row {
             blocks: Vec::new(alloc),
             ends: Vec::new(alloc),
-            marks: Vec::new(alloc),
             of: PhantomData,
         }
     }
 
-    pub(crate) fn of(alloc: Global, blocks: Vec<Arc<B>>) -> Result<Row<T, M, B>, OutOfMemory>
+    pub(crate) fn of(alloc: Global, blocks: Vec<Arc<B>>) -> Result<Row<T, B>, OutOfMemory>
         ensures { IfOk result (λ row. row ≡ map arc_value blocks.items) }
     {
-        let ends = ends_of::<T, M, B>(alloc, blocks.as_slice())?;
-        let marks = first_marks_of::<T, M, B>(alloc, blocks.as_slice())?;
+        let ends = ends_of::<T, B>(alloc, blocks.as_slice())?;
         Ok(Row {
             blocks,
             ends,
-            marks,
             of: PhantomData,
         })
     }
@@ -168,67 +112,6 @@ impl<T: Drop, M: Marking<T>, B: Block<T, M>> Row<T, M, B> {
         ensures { map arc_value result.now ≡ drop (p + 1) self.now }
     {
         shares_from(self.blocks.as_slice(), p + 1)
-    }
-
-    /// The row with `items` in place of the entries `from..to`, where one block takes them all.
-    pub(crate) fn replaced(
-        &self,
-        alloc: Global,
-        from: usize,
-        to: usize,
-        items: &[Arc<T>],
-    ) -> Option<Row<T, M, B>>
-        requires order { from ≤ to }
-        requires in_range { to ≤ length (flat_map B.entries self.now) }
-        ensures entries { IfSome result (λ row. flat_map B.entries row
-            ≡ take from (flat_map B.entries self.now) ++ map arc_value items.now
-            ++ drop to (flat_map B.entries self.now)) }
-        ensures count { IfSome result (λ row. length row ≡ length self.now) }
-    {
-        let (p, x, y) = self.block_of(from, to)?;
-        let block = self.block(p).replaced(alloc, x, y, items)?;
-        match self.exchanged(alloc, p, block) {
-            Ok(row) => Some(row),
-            Err(_) => None,
-        }
-    }
-
-    // The block that has all of `from..to`, and both places in it; none where there are two of them or more.
-    fn block_of(&self, from: usize, to: usize) -> Option<(usize, usize, usize)>
-        requires order { from ≤ to }
-        requires in_range { to ≤ length (flat_map B.entries self.now) }
-        ensures first { IfSome result (λ w. IsSeam B.entries self.now from w.0 w.1) }
-        ensures last { IfSome result (λ w. IsSeam B.entries self.now to w.0 w.2) }
-        ensures order { IfSome result (λ w. w.1 ≤ w.2) }
-    {
-        let total = self.total();
-        if total == 0 {
-            return None;
-        }
-        let (p, _) = self.place(at_most(from, total - 1));
-        let start = self.start(p);
-        if to > self.ends[p] {
-            return None;
-        }
-        Some((p, from - start, to - start))
-    }
-
-    // The row with `block` in the place `p`.
-    fn exchanged(&self, alloc: Global, p: usize, block: Arc<B>) -> Result<Row<T, M, B>, OutOfMemory>
-        requires { p < length self.now }
-        ensures { IfOk result (λ row. row ≡ set self.now p (arc_value block)) }
-    {
-        let mut marks = Vec::from_slice(alloc, self.marks.as_slice())?;
-        marks[p] = block.first_mark();
-        let (old, new) = (self.block(p).len(), block.len());
-        let ends = moved(alloc, self.ends.as_slice(), p, old, new)?;
-        let blocks = shared_but(alloc, self.blocks.as_slice(), p, block)?;
-        Ok(Row {
-            blocks,
-            ends,
-            marks,
-            of: PhantomData,
-        })
     }
 
     #[cfg(test)]
@@ -315,72 +198,5 @@ impl<T: Drop, M: Marking<T>, B: Block<T, M>> Row<T, M, B> {
             }
         }
         low
-    }
-
-    /// The mark of the first entry of all.
-    pub(crate) fn first_mark(&self) -> u64
-        requires { 0 < length self.now }
-        ensures some { 0 < length (flat_map B.entries self.now) }
-        ensures first { (a : T)
-            → result ≡ M.mark (slice_index_or (flat_map B.entries self.now) 0 a) }
-    {
-        self.marks[0]
-    }
-
-    /// How many entries `before` holds of, which are the first ones; it is asked only of entries with the mark.
-    pub(crate) fn find_at<F: Fn(&T) -> bool>(&self, mark: u64, before: &F) -> usize
-        requires { F.IsAlwaysCallable before.now }
-        ensures in_range { result ≤ length (flat_map B.entries self.now) }
-        ensures exact { (p : T → Bool) → IsTestOf F.Fn before.now p
-            → PartsAtMark M.mark mark p (flat_map B.entries self.now)
-            → result ≡ prefix_len p (flat_map B.entries self.now) }
-    {
-        if self.total() == 0 {
-            return 0;
-        }
-        let p = self.block_to_search_at(mark, before);
-        self.start(p) + self.block(p).find_at(mark, before)
-    }
-
-    // The last block whose first entry comes before, or the first block.
-    fn block_to_search_at<F: Fn(&T) -> bool>(&self, mark: u64, before: &F) -> usize
-        requires callable { F.IsAlwaysCallable before.now }
-        requires some { 0 < length self.now }
-        ensures in_range { result < length self.now }
-        ensures narrowed { HasNarrowed (flat_map B.entries self.now)
-            (IsTestAt F.Fn before.now M.mark mark (flat_map B.entries self.now))
-            (length (flat_map B.entries (take result self.now)))
-            (length (flat_map B.entries (take (result + 1) self.now))) }
-    {
-        let mut low = 0;
-        let mut high = self.count();
-        while high - low > 1 {
-            let middle = low + (high - low) / 2;
-            if self.starts_before(middle, mark, before) {
-                low = middle;
-            } else {
-                high = middle;
-            }
-        }
-        low
-    }
-
-    // Whether the first entry of the block `p` comes before; the block is read only where its mark doesn't tell.
-    fn starts_before<F: Fn(&T) -> bool>(&self, p: usize, mark: u64, before: &F) -> bool
-        requires callable { F.IsAlwaysCallable before.now }
-        requires in_range { p < length self.now }
-        ensures some { length (flat_map B.entries (take p self.now))
-            < length (flat_map B.entries self.now) }
-        ensures told { (q : T → Bool)
-            → IsTestAt F.Fn before.now M.mark mark (flat_map B.entries self.now) q → (d : T)
-            → q (get_or (flat_map B.entries self.now)
-            (length (flat_map B.entries (take p self.now))) d) ≡ result }
-    {
-        let own = self.marks[p];
-        if own == mark {
-            before(self.block(p).first())
-        } else {
-            own < mark
-        }
     }
 }

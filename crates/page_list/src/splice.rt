@@ -6,12 +6,12 @@ ghost use Rattle.page_list.specs.Rows.{IsSeam};
 
 use crate::row::Row;
 use crate::share::shared_round;
-use crate::{Block, Marking, OutOfMemory};
+use crate::{Block, OutOfMemory};
 use std::alloc::Global;
 use std::sync::Arc;
 
 // The block before whose end, and the place in it before which, the first `at` entries end.
-fn seam<T: Drop, M: Marking<T>, B: Block<T, M>>(row: &Row<T, M, B>, at: usize) -> (usize, usize)
+fn seam<T: Drop, B: Block<T>>(row: &Row<T, B>, at: usize) -> (usize, usize)
     requires some { 0 < length row.now }
     requires in_range { at ≤ length (flat_map B.entries row.now) }
     ensures { IsSeam B.entries row.now at result.0 result.1 }
@@ -24,11 +24,7 @@ fn seam<T: Drop, M: Marking<T>, B: Block<T, M>>(row: &Row<T, M, B>, at: usize) -
 }
 
 // The same, but at the start of the block that has the entry `at` where `inner` says that there is one.
-fn first_seam<T: Drop, M: Marking<T>, B: Block<T, M>>(
-    row: &Row<T, M, B>,
-    at: usize,
-    inner: bool,
-) -> (usize, usize)
+fn first_seam<T: Drop, B: Block<T>>(row: &Row<T, B>, at: usize, inner: bool) -> (usize, usize)
     requires some { 0 < length row.now }
     requires in_range { at ≤ length (flat_map B.entries row.now) }
     requires inner { IsTrue inner → at < length (flat_map B.entries row.now) }
@@ -39,12 +35,12 @@ fn first_seam<T: Drop, M: Marking<T>, B: Block<T, M>>(
 
 // The blocks that go in between, joined with a neighbour where they are one small block: those blocks,
 // how many of `left` stand before them, and the last block of `right` that they replace.
-fn joined<T: Drop, M: Marking<T>, B: Block<T, M>>(
+fn joined<T: Drop, B: Block<T>>(
     alloc: Global,
-    left: &Row<T, M, B>,
+    left: &Row<T, B>,
     p: usize,
     made: Vec<Arc<B>>,
-    right: &Row<T, M, B>,
+    right: &Row<T, B>,
     q: usize,
 ) -> Result<(Vec<Arc<B>>, usize, usize), OutOfMemory>
     requires left_in { p < length left.now }
@@ -58,11 +54,11 @@ fn joined<T: Drop, M: Marking<T>, B: Block<T, M>>(
 {
     if made.len() == 1 && made[0].is_small() {
         if p > 0 {
-            let made = with_left::<T, M, B>(alloc, left.block(p - 1), made.as_slice())?;
+            let made = with_left::<T, B>(alloc, left.block(p - 1), made.as_slice())?;
             return Ok((made, p - 1, q));
         }
         if q < right.count() - 1 {
-            let made = with_right::<T, M, B>(alloc, made.as_slice(), right.block(q + 1))?;
+            let made = with_right::<T, B>(alloc, made.as_slice(), right.block(q + 1))?;
             return Ok((made, p, q + 1));
         }
     }
@@ -70,7 +66,7 @@ fn joined<T: Drop, M: Marking<T>, B: Block<T, M>>(
 }
 
 // A block and the one block that `made` has, in new blocks.
-fn with_left<T: Drop, M: Marking<T>, B: Block<T, M>>(
+fn with_left<T: Drop, B: Block<T>>(
     alloc: Global,
     block: &B,
     made: &[Arc<B>],
@@ -83,7 +79,7 @@ fn with_left<T: Drop, M: Marking<T>, B: Block<T, M>>(
 }
 
 // The one block that `made` has and a block, in new blocks.
-fn with_right<T: Drop, M: Marking<T>, B: Block<T, M>>(
+fn with_right<T: Drop, B: Block<T>>(
     alloc: Global,
     made: &[Arc<B>],
     block: &B,
@@ -96,7 +92,7 @@ fn with_right<T: Drop, M: Marking<T>, B: Block<T, M>>(
 }
 
 // Whether no entry comes in, and whole blocks stay on both sides, neither of them small.
-fn is_clean_cut<T: Drop, M: Marking<T>, B: Block<T, M>>(
+fn is_clean_cut<T: Drop, B: Block<T>>(
     first: &B,
     x: usize,
     items: &[Arc<T>],
@@ -111,12 +107,12 @@ fn is_clean_cut<T: Drop, M: Marking<T>, B: Block<T, M>>(
 }
 
 /// The entries of `left` before `from`, `items`, and the entries of `right` from `to` on.
-pub(crate) fn spliced_row<T: Drop, M: Marking<T>, B: Block<T, M>>(
+pub(crate) fn spliced_row<T: Drop, B: Block<T>>(
     alloc: Global,
-    left: &Row<T, M, B>,
+    left: &Row<T, B>,
     from: usize,
     items: Vec<Arc<T>>,
-    right: &Row<T, M, B>,
+    right: &Row<T, B>,
     to: usize,
 ) -> Result<Vec<Arc<B>>, OutOfMemory>
     requires left_some { 0 < length left.now }

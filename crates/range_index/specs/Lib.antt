@@ -1,4 +1,3 @@
 pub mod Arcs
-pub mod Marks
 pub mod Place
 pub mod Steps

@@ -1,4 +1,3 @@
-pub mod Marks
 pub mod Ranks
 pub mod Holding
 pub mod Dropping

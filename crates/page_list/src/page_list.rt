@@ -4,32 +4,28 @@ ghost use Rattle.std.specs.List.{prefix_len};
 ghost use Rattle.std.specs.List.Sorted.{IsPartitionedBy};
 ghost use Rattle.std.specs.Fn.{FnReturnsAt};
 ghost use Rattle.std.specs.Arc.{arc_value};
-ghost use Rattle.page_list.specs.Marks.{PartsAtMark};
 
 use crate::blocks::Blocks;
 use crate::page::Page;
 use crate::row::Row;
 use crate::splice::spliced_row;
-use crate::{Block, MarkedIter, Marking, NoMarks, OutOfMemory};
+use crate::{Block, Iter, OutOfMemory};
 use std::alloc::Global;
 use std::marker::Model;
 use std::sync::Arc;
 
-type Shelf<T, M> = Blocks<T, M, Page<T, M>>;
+type Shelf<T> = Blocks<T, Page<T>>;
 
-type Bookcase<T, M> = Blocks<T, M, Shelf<T, M>>;
+type Bookcase<T> = Blocks<T, Shelf<T>>;
 
 /// A list that stays, seen as the list of its entries: a change makes another list, which shares with it all that
-/// it does not touch. It keeps the mark of each entry for its searches.
+/// it does not touch.
 #[derive(Drop)]
-pub struct MarkedList<T: Drop, M: Marking<T>> {
-    bookcases: Row<T, M, Bookcase<T, M>>,
+pub struct PageList<T: Drop> {
+    bookcases: Row<T, Bookcase<T>>,
 }
 
-/// A list that stays, without marks.
-pub type PageList<T> = MarkedList<T, NoMarks>;
-
-impl<T: Drop, M: Marking<T>> Model for MarkedList<T, M> {
+impl<T: Drop> Model for PageList<T> {
     ghost use Rattle.std.specs.Prelude.{List};
     ghost use Rattle.std.specs.List.{flat_map};
 
@@ -38,12 +34,12 @@ impl<T: Drop, M: Marking<T>> Model for MarkedList<T, M> {
     ghost view = { λ l. flat_map (λ bookcase. bookcase) l.bookcases };
 }
 
-impl<T: Drop, M: Marking<T>> MarkedList<T, M> {
+impl<T: Drop> PageList<T> {
     /// A list with no entry, which takes no memory.
-    pub fn empty(alloc: Global) -> MarkedList<T, M>
+    pub fn empty(alloc: Global) -> PageList<T>
         ensures { result ≡ [] }
     {
-        MarkedList {
+        PageList {
             bookcases: Row::empty(alloc),
         }
     }
@@ -77,10 +73,10 @@ impl<T: Drop, M: Marking<T>> MarkedList<T, M> {
     }
 
     /// The entries in order, one after another: the whole list at a cost linear in its length.
-    pub fn iter(&self) -> MarkedIter<'_, T, M>
+    pub fn iter(&self) -> Iter<'_, T>
         ensures { result ≡ self.now }
     {
-        MarkedIter::over(self)
+        Iter::over(self)
     }
 
     /// How many entries `before` holds of, where these are the first ones: about 20 calls at 131,072 entries.
@@ -94,18 +90,6 @@ impl<T: Drop, M: Marking<T>> MarkedList<T, M> {
         self.bookcases.find(&before)
     }
 
-    /// How many entries `before` holds of, where these are the first ones. It is asked only of entries with the mark
-    /// itself: those of a lesser mark come before, those of a greater one don't.
-    pub fn find_at<F: Fn(&T) -> bool>(&self, mark: u64, before: F) -> usize
-        requires { F.IsAlwaysCallable before }
-        ensures in_range { result ≤ length self.now }
-        ensures exact { (p : T → Bool)
-            → ((x : T) (r : Bool) → FnReturnsAt F.Fn before x r → r ≡ p x)
-            → PartsAtMark M.mark mark p self.now → result ≡ prefix_len p self.now }
-    {
-        self.bookcases.find_at(mark, &before)
-    }
-
     /// The list with `items` in place of the entries `from..to`. Want of memory also where an entry can have no
     /// further owner.
     pub fn with_replaced(
@@ -114,35 +98,32 @@ impl<T: Drop, M: Marking<T>> MarkedList<T, M> {
         from: usize,
         to: usize,
         items: Vec<Arc<T>>,
-    ) -> Result<MarkedList<T, M>, OutOfMemory>
+    ) -> Result<PageList<T>, OutOfMemory>
         requires order { from ≤ to }
         requires in_range { to ≤ length self.now }
         ensures { IfOk result (λ made.
             made ≡ take from self.now ++ map arc_value items.items ++ drop to self.now) }
     {
         let old = &self.bookcases;
-        if let Some(bookcases) = old.replaced(alloc, from, to, items.as_slice()) {
-            return Ok(MarkedList { bookcases });
-        }
         let made = if old.count() == 0 {
             Bookcase::made(alloc, items)?
         } else {
             spliced_row(alloc, old, from, items, old, to)?
         };
-        Ok(MarkedList {
+        Ok(PageList {
             bookcases: Row::of(alloc, made)?,
         })
     }
 }
 
-impl<'a, T: Drop, M: Marking<T>> IntoIterator for &'a MarkedList<T, M> {
+impl<'a, T: Drop> IntoIterator for &'a PageList<T> {
     type Item = &'a Arc<T>;
 
-    type IntoIter = MarkedIter<'a, T, M>;
+    type IntoIter = Iter<'a, T>;
 
     ghost into_iter_gives = { λ list it. it ≡ list.now };
 
-    fn into_iter(self) -> MarkedIter<'a, T, M> {
+    fn into_iter(self) -> Iter<'a, T> {
         self.iter()
     }
 }

@@ -1,8 +1,8 @@
 use Rattle.std.proofs.Common.{sym}
 use Rattle.std.specs.Arc.{arc_value}
 use Rattle.page_list.proofs.Pages.{page_turned, entry_read}
-use Rattle.page_list.proofs.iter.MarkedIterIterator.next.Goals.{then-is_empty+else-self-len, else-is_empty}
-use Rattle.page_list.proofs.iter.MarkedIterIterator.next.Goals as goal
+use Rattle.page_list.proofs.iter.IterIterator.next.Goals.{then-is_empty+else-self-len, else-is_empty}
+use Rattle.page_list.proofs.iter.IterIterator.next.Goals as goal
 
 pub returns-clause-steps : goal.returns-clause-steps
 returns-clause-steps g c =
