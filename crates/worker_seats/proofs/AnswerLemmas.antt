@@ -1,5 +1,5 @@
 -- An answer over batches that were seen is one over all that were placed.
-use Rattle.std.proofs.Common.{◌≡◌, ℕ, ◌+◌, ◌<◌, ◌≤◌, ◌⊎◌, inl, inr, Bool, true, false, List, [], ◌∷◌, ◌++◌, length, take, Option, None, Some, refl, sym, ◌∙◌, ap, subst, arith, length-append}
+use Rattle.std.proofs.Common.{◌≡◌, ℕ, ◌<◌, ◌≤◌, ◌⊎◌, inl, inr, true, false, List, length, take, Option, None, Some, refl, sym, ◌∙◌, ap, arith}
 use Rattle.std.proofs.lemmas.Bool.{false≢true}
 use Rattle.std.proofs.lemmas.List.{take-append-le}
 use mathlib.Core.List.{IsPrefix}
@@ -10,7 +10,7 @@ use Rattle.replay_meaning.specs.Frame.{Input}
 use Rattle.replay_meaning.specs.OutFrame.{Output}
 use Rattle.reply_core.specs.Answered.{reply_in}
 use Rattle.replay_meaning.specs.Step.{Step, Query, Insert, Tell, Does}
-use Rattle.replay_meaning.specs.Fits.{IsOutputOf, IsFor, is_call, is_placed, query_output}
+use Rattle.replay_meaning.specs.Fits.{IsOutputOf, IsFor, is_placed, query_output}
 use Rattle.replay_meaning.proofs.StepLemmas.{TellsNoCall, tells_no_call}
 use Rattle.worker_seats.specs.Answer.{LAST, IsSpent, IsAnswered, spent_output}
 

@@ -1,9 +1,8 @@
 -- The shifts of all workers make one history.
-use Rattle.std.proofs.Common.{◌≡◌, ℕ, zero, suc, ◌+◌, ◌-◌, ◌<◌, ◌≤◌, ◌^◌, ◌⊎◌, inl, inr, Bool, true, false, ◌&&◌, ◌==◌, cond, List, [], ◌∷◌, ◌++◌, length, map, get_or, refl, sym, ◌∙◌, ap, subst, arith, zero-add, length-append}
-use Rattle.std.specs.List.{All, AllZip, AllPairs, flat_map, count_by, sum_by}
-use Rattle.std.proofs.lemmas.Bool.{false≢true}
+use Rattle.std.proofs.Common.{◌≡◌, ℕ, zero, suc, ◌+◌, ◌-◌, ◌<◌, ◌≤◌, ◌^◌, inl, Bool, true, false, ◌&&◌, ◌==◌, cond, List, [], ◌∷◌, ◌++◌, length, map, get_or, refl, sym, ◌∙◌, ap, subst, arith, zero-add, length-append}
+use Rattle.std.specs.List.{All, AllZip, AllPairs, flat_map, count_by}
 use Rattle.std.proofs.lemmas.Bool.Decides.{nat_tests}
-use Rattle.std.proofs.lemmas.List.Elements.{All-nil, All-cons, All-head, All-tail, All-weaker}
+use Rattle.std.proofs.lemmas.List.Elements.{All-nil, All-cons, All-head, All-tail}
 use Rattle.std.proofs.lemmas.List.Sums.{sum_by-append, sum_by-cons}
 use Rattle.std.proofs.lemmas.List.{length-map}
 use Rattle.std.proofs.lemmas.Slice.Zip.{AllZip-long}
@@ -23,10 +22,10 @@ use Rattle.replay_meaning.proofs.SoundLemmas.{replies_are_sound}
 use Rattle.worker_seats.specs.Answer.{LAST, IsAnswered}
 use Rattle.worker_seats.specs.OneFrame.{places_of}
 use Rattle.worker_seats.specs.Shift.{IsInTurn, IsShift}
-use Rattle.worker_seats.specs.Workers.{HasSameWorker, HasWorked, HaveWorked, inputs_of, outputs_of}
-use Rattle.worker_seats.specs.Laws.{AreShifts, ShiftsFit}
+use Rattle.worker_seats.specs.Workers.{HasSameWorker, HaveWorked, inputs_of, outputs_of}
+use Rattle.worker_seats.specs.Laws.{AreShifts}
 use Rattle.worker_seats.proofs.AnswerLemmas.{answered_more, placed_above, answered_for}
-use Rattle.worker_seats.proofs.OwnLemmas.{own, zip_own, pairs_own, Related, parts_sum, at_least, count_refused}
+use Rattle.worker_seats.proofs.OwnLemmas.{zip_own, pairs_own, parts_sum, at_least, count_refused}
 
 -- ---- places
 

@@ -1,6 +1,6 @@
 -- One worker's shift, frame by frame.
-use Rattle.std.proofs.Common.{◌≡◌, ℕ, zero, suc, ◌+◌, ◌-◌, ◌<◌, ◌≤◌, ◌⊎◌, inl, inr, Bool, true, false, cond, ◌==◌, List, [], ◌∷◌, ◌++◌, length, map, take, get_or, Option, None, Some, slice_get, refl, sym, ◌∙◌, ap, subst, arith, append_assoc}
-use Rattle.std.specs.List.{All, AllZip, AllPairs, flat_map, filter}
+use Rattle.std.proofs.Common.{◌≡◌, ℕ, zero, suc, ◌+◌, ◌<◌, ◌≤◌, ◌⊎◌, inl, inr, Bool, true, false, cond, ◌==◌, List, [], ◌∷◌, ◌++◌, length, map, take, get_or, Option, None, Some, slice_get, refl, sym, ◌∙◌, ap, subst, arith, append_assoc}
+use Rattle.std.specs.List.{AllZip}
 use Rattle.std.proofs.lemmas.Bool.{false≢true}
 use Rattle.std.proofs.lemmas.List.{append-nil, map-append, take_more}
 use Rattle.std.proofs.lemmas.List.Elements.{All-nil, All-push, filter-append}
@@ -15,7 +15,7 @@ use Rattle.cache_versions.proofs.Fronts.{prefix_self, prefix_trans, prefix_lengt
 use Rattle.reply_core.specs.Answered.{reply_in}
 use Rattle.replay_meaning.specs.Frame.{Input, input_of}
 use Rattle.replay_meaning.specs.OutFrame.{Output, IsOutput, output_spelling}
-use Rattle.replay_meaning.specs.Step.{Step, Query, Insert, Tell, Does}
+use Rattle.replay_meaning.specs.Step.{Step, Query, Insert, Tell}
 use Rattle.replay_meaning.specs.Fits.{IsOutputOf, is_call, is_placed, query_output}
 use Rattle.replay_meaning.specs.Sound.{IsSoundReply}
 use Rattle.replay_meaning.specs.declared.frame.Frame.{Frame}
@@ -23,7 +23,7 @@ use Rattle.replay_meaning.specs.declared.out_frame.OutKind.{OutKind}
 use Rattle.replay_meaning.specs.declared.out_frame.OutKind.TheVariants.{Reply, Forward, Stored, Refused, Dropped, Error}
 use Rattle.replay_meaning.proofs.FrameLemmas.{spelling-push}
 use Rattle.replay_meaning.proofs.StepLemmas.{TellsNoCall, tells_no_call}
-use Rattle.worker_seats.specs.Answer.{LAST, IsSpent, IsAnswered}
+use Rattle.worker_seats.specs.Answer.{IsSpent, IsAnswered}
 use Rattle.worker_seats.specs.OneFrame.{IsCall, IsDone, DoesOneFrame, places_of}
 use Rattle.worker_seats.specs.Shift.{TellsCall, IsInTurn, IsShift}
 use Rattle.worker_seats.specs.Work.{IsWork}

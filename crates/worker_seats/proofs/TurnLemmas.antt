@@ -1,14 +1,12 @@
 -- What one frame does over a seat.
-use Rattle.std.proofs.Common.{◌≡◌, ℕ, ◌+◌, ◌-◌, ◌<◌, ◌≤◌, ◌⊎◌, inl, inr, Bool, true, false, cond, List, [], ◌∷◌, ◌++◌, length, take, Option, None, Some, slice_get, refl, sym, ◌∙◌, ap, subst, arith, length-append}
+use Rattle.std.proofs.Common.{◌≡◌, ℕ, ◌+◌, ◌-◌, ◌⊎◌, inl, inr, Bool, false, cond, List, [], ◌∷◌, ◌++◌, length, take, Option, None, Some, slice_get, refl, sym, ◌∙◌, ap, subst, arith, length-append}
 use Rattle.std.specs.Prelude.{Result, Ok, Err, OnOk, OnErr}
 use Rattle.std.proofs.lemmas.Bool.{false≢true}
 use Rattle.std.proofs.lemmas.List.{append-nil, take_all}
-use mathlib.Core.List.{IsPrefix}
 use Rattle.dnswire.specs.Query.{IsReadAs}
 use Rattle.dnswire.specs.declared.question.Question.{Question}
 use Rattle.dnswire.specs.declared.query_read.QueryRead.{QueryRead}
-use Rattle.dnswire.specs.declared.query_read.QueryRead.TheVariants as reads
-use Rattle.intake.specs.Batch.{Gives, IsTaken, IsFault}
+use Rattle.intake.specs.Batch.{Gives, IsFault}
 use Rattle.intake.specs.declared.taken.Taken.{Taken}
 use Rattle.intake.specs.declared.intake_fault.IntakeFault.{IntakeFault}
 use Rattle.intake.specs.declared.intake_fault.IntakeFault.TheVariants.{OutOfMemory}
@@ -23,17 +21,17 @@ use Rattle.cache_versions.proofs.Fronts.{prefix_length}
 use Rattle.reply_core.specs.Answered.{reply_in}
 use Rattle.replay_meaning.specs.Frame.{Input}
 use Rattle.replay_meaning.specs.OutFrame.{Output}
-use Rattle.replay_meaning.specs.Outcome.{stored_octets, refusal_code}
+use Rattle.replay_meaning.specs.Outcome.{stored_octets}
 use Rattle.replay_meaning.specs.Step.{Step, Query, Insert, Tell, query_step, answer_step, DoesBy, Does}
-use Rattle.replay_meaning.specs.Fits.{IsOutputOf, is_call, is_placed, query_output, insert_output, told_output}
+use Rattle.replay_meaning.specs.Fits.{IsOutputOf, is_placed, query_output, told_output}
 use Rattle.replay_meaning.specs.Sound.{IsSoundReply}
 use Rattle.replay_meaning.specs.declared.frame.FrameKind.TheVariants as kinds
 use Rattle.replay_meaning.specs.declared.out_frame.OutKind.{OutKind}
-use Rattle.replay_meaning.specs.declared.out_frame.OutKind.TheVariants.{Reply, Forward, Stored, Refused}
+use Rattle.replay_meaning.specs.declared.out_frame.OutKind.TheVariants.{Reply, Stored, Refused}
 use Rattle.replay_meaning.proofs.SoundLemmas.{replies_are_sound}
 use Rattle.replay_meaning.proofs.StepLemmas.{tells_no_call}
-use Rattle.worker_seats.specs.Answer.{LAST, IsSpent, IsAnswered, spent_output}
-use Rattle.worker_seats.specs.OneFrame.{IsDone, DoesOneFrame, HasAtMostOneMore, Writes, places_of}
+use Rattle.worker_seats.specs.Answer.{LAST, IsSpent, IsAnswered}
+use Rattle.worker_seats.specs.OneFrame.{DoesOneFrame, HasAtMostOneMore, Writes, places_of}
 
 pub on_ok : {T E P Q : Type 0} (r : Result T E) → (P → Q) → OnOk r P → OnOk r Q
 on_ok (Ok x) f p = f p

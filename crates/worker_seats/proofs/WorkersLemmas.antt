@@ -1,10 +1,10 @@
 -- The work of all workers, put together.
-use Rattle.std.proofs.Common.{◌≡◌, ℕ, ◌<◌, ◌==◌, List, [], ◌∷◌, ◌++◌, length, map, get_or, refl, sym, ◌∙◌, ap, subst, arith}
+use Rattle.std.proofs.Common.{◌≡◌, ℕ, ◌<◌, ◌==◌, List, length, map, get_or, sym, ◌∙◌, ap, subst, arith}
 use Rattle.std.specs.Prelude.{Result, Ok, Err, IfOk}
 use denote.Param.Members.{Shared}
 use Rattle.std.specs.Fork.{GivesJobs}
-use Rattle.std.specs.List.{All, AllZip, filter}
-use Rattle.std.proofs.lemmas.List.{length-map, map-append}
+use Rattle.std.specs.List.{All}
+use Rattle.std.proofs.lemmas.List.{length-map}
 use Rattle.std.proofs.lemmas.List.Elements.{All-filter}
 use Rattle.std.proofs.lemmas.Slice.Zip.{AllZip-long}
 use Rattle.denial_records.specs.declared.batch.Batch.{Batch}
@@ -14,7 +14,7 @@ use Rattle.cache_versions.specs.declared.seat.Seat.{Seat}
 use Rattle.cache_versions.specs.Rows.{AreNumbered}
 use Rattle.cache_versions.specs.Seats.{number_by, seen_by}
 use Rattle.replay_meaning.specs.Frame.{Input}
-use Rattle.replay_meaning.specs.OutFrame.{Output, IsOutput, outputs_spelling}
+use Rattle.replay_meaning.specs.OutFrame.{Output, IsOutput}
 use Rattle.replay_meaning.proofs.FrameLemmas.{outputs_have_one}
 use Rattle.worker_seats.specs.Answer.{IsAnswered}
 use Rattle.worker_seats.specs.Merge.{AreOutputsOf, AreMerged}

@@ -1,4 +1,4 @@
--- The outputs of all workers, merged in the order of the inputs.
+-- No public clause cites this module. The outputs of all workers, merged in the order of the inputs.
 use Rattle.std.specs.Prelude.{◌≡◌, ℕ, ◌<◌, List, ◌++◌, length, slice_index_or}
 use Rattle.std.specs.List.{All, AllZip}
 use Rattle.replay_meaning.specs.Frame.{Input}
@@ -26,4 +26,6 @@ pub record AreMerged {X : Type 0} (octets_of : X → List ℕ) (parts : List X) 
   pub written : octets ≡ outputs_spelling outputs
   pub valid : All IsOutput outputs
   pub same : AllZip HasSameWorker inputs outputs
-  pub each : (worker : ℕ) (d : X) → worker < length parts → octets_of (slice_index_or parts worker d) ≡ outputs_spelling (outputs_of worker outputs)
+  pub each :
+      (worker : ℕ) (d : X) → worker < length parts
+      → octets_of (slice_index_or parts worker d) ≡ outputs_spelling (outputs_of worker outputs)

@@ -1,4 +1,4 @@
--- What one worker leaves: its seat, and the octets of its outputs.
+-- No public clause cites this module. What one worker leaves: its seat, and the octets of its outputs.
 use Rattle.std.specs.Prelude.{◌≡◌, ℕ, ◌<◌, List, length, slice_index_or}
 use Rattle.std.specs.List.{All}
 use Rattle.denial_records.specs.declared.batch.Batch.{Batch}

@@ -13,3 +13,6 @@ mod workers;
 pub use answering::one_frame;
 pub use laws::shifts_fit;
 pub use workers::run_workers;
+
+#[cfg(test)]
+mod tests;

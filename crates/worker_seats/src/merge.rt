@@ -41,6 +41,15 @@ fn take_frame(octets: &[u8], at: usize, out: &mut Vec<u8>) -> Result<usize, OutO
     Ok(at + size)
 }
 
+// As many octets as all workers have written, so that the output takes no more memory than it needs.
+fn room_of(shifts: &[Shift]) -> usize {
+    let mut room: usize = 0;
+    for shift in shifts {
+        room = room.saturating_add(shift.octets.len());
+    }
+    room
+}
+
 /// The output frames of all workers, in the order of the frames that they are for.
 pub(crate) fn merged(
     alloc: Global,
@@ -55,6 +64,7 @@ pub(crate) fn merged(
         (map input_of frames.now) octets.items) }
 {
     let mut output = Vec::new(alloc);
+    output.reserve_exact(room_of(shifts))?;
     let mut places = [0usize; WORKERS];
     for frame in frames {
         let worker = usize::from(frame.worker);

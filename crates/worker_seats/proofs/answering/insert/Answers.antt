@@ -1,4 +1,3 @@
-use Rattle.std.proofs.Common.{refl}
 use Rattle.std.specs.Prelude.{Ok}
 use Rattle.replay_meaning.specs.Frame.{input_of}
 use Rattle.worker_seats.proofs.TurnLemmas.{on_ok, on_err, placed_frame, spent_frame, answer_does, none_more, one_more}

@@ -1,4 +1,4 @@
-use Rattle.std.proofs.Common.{◌≡◌, ◌<◌, ◌≤◌, ◌+◌, ℕ, List, length, drop, set, get_or, refl, sym, ◌∙◌, ap, subst, arith, length-set, replicate}
+use Rattle.std.proofs.Common.{◌≤◌, ℕ, length, drop, get_or, refl, sym, ◌∙◌, ap, subst, arith, length-set, replicate}
 use Rattle.worker_seats.specs.Merge.{BeginsWithFrame}
 use Rattle.worker_seats.proofs.MergeLemmas.{zeros_at, merges_none, place_within, place_begins, merges_more_at, merges_all}
 use Rattle.worker_seats.proofs.merge.merged.Goals as goal
@@ -6,7 +6,7 @@ use Rattle.worker_seats.proofs.merge.merged.Goals as goal
 pub loop-frame-init : goal.loop-frame-init
 loop-frame-init c = record {
   room = refl;
-  merges = merges_none _ c.args.shifts.now c.args.frames.now (replicate 256 0) _ c.new-output.ensures.items (zeros_at (replicate 256 0) refl) c.requires.outputs;
+  merges = merges_none _ c.args.shifts.now c.args.frames.now (replicate 256 0) _ (c.reserve_exact.ensures.items ∙ c.new-output.ensures.items) (zeros_at (replicate 256 0) refl) c.requires.outputs;
 }
 
 pub take_frame-requires-clause-within : goal.take_frame-requires-clause-within

@@ -1,5 +1,4 @@
-use Rattle.std.proofs.Common.{◌≡◌, ℕ, ◌<◌, List, Ok, length, map, sym, ap, subst, ◌∙◌, arith, get_or}
-use Rattle.std.specs.Prelude.{IfOk}
+use Rattle.std.proofs.Common.{◌≡◌, ◌<◌, Ok, length, map, sym, ap, subst, ◌∙◌, arith, get_or}
 use Rattle.replay_meaning.specs.Frame.{input_of}
 use Rattle.resolver.specs.Caches.{IsSeatOf}
 use Rattle.cache_versions.specs.Rows.{AreNumbered}

@@ -1,4 +1,4 @@
-use Rattle.std.proofs.Common.{◌≡◌, ℕ, ◌<◌, length, map, sym, ap, subst, ◌∙◌, arith, get_or}
+use Rattle.std.proofs.Common.{◌≡◌, ◌<◌, length, map, subst, arith, get_or}
 use Rattle.std.specs.Prelude.{IfOk}
 use Rattle.replay_meaning.specs.Frame.{input_of}
 use Rattle.resolver.specs.Caches.{IsSeatOf}

@@ -1,0 +1,4 @@
+mod meeting;
+mod messages;
+mod pairs;
+mod running;
