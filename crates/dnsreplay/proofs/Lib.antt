@@ -1,4 +1,7 @@
 pub mod CommandLemmas
+pub mod CountLemmas
 pub mod FramesLemmas
+pub mod MadeLemmas
 pub mod OptionLemmas
+pub mod RangeLemmas
 pub mod RunLemmas

@@ -4,7 +4,7 @@ use Rattle.outside_core.specs.Told.{append_told, prepend_told}
 use Rattle.replay_meaning.specs.Replay.{AreFrames, IsReplay}
 use Rattle.dnsreplay.specs.declared.reading.TheConstants.{MAX_INPUT}
 use Rattle.dnsreplay.specs.declared.status.Status.{Status}
-use Rattle.dnsreplay.specs.declared.status.Status.TheVariants.{Good, BadFrame, WriteFault, InputTooLong}
+use Rattle.dnsreplay.specs.declared.status.Status.TheVariants.{Good, BadFrame, WriteFault, OutOfMemory, InputTooLong}
 
 -- the source was read to its end, or to one octet more than the longest input
 pub record IsReadOn (before after : Option (List ℕ)) : Type 0 where
@@ -41,6 +41,10 @@ IsNoFrames workers input = IsShort input × (AreFrames workers input → ⊥)
 -- a replay was made, whether or not all of it could be written
 abbrev pub IsOfReplay : Status → Type 0
 IsOfReplay status = (status ≡ Good) ⊎ (status ≡ WriteFault)
+
+-- a summary was made, whether or not all of it could be written; or there was no memory
+abbrev pub IsOfSelfrun : Status → Type 0
+IsOfSelfrun status = IsOfReplay status ⊎ (status ≡ OutOfMemory)
 
 -- the input is refused as it is
 abbrev pub IsRefused : Status → Type 0

@@ -3,7 +3,7 @@ use Rattle.std.specs.Prelude.{◌≡◌, ℕ, ◌≤◌, List, [], ◌∷◌, �
 use Rattle.std.specs.Str.Parse.{IsNumeral, digits_value}
 use Rattle.std.specs.declared.alloc.Global.{Global}
 use Rattle.dnsreplay.specs.declared.words.Command.{Command}
-use Rattle.dnsreplay.specs.declared.words.Command.TheVariants.{Replay}
+use Rattle.dnsreplay.specs.declared.words.Command.TheVariants.{Replay, Selfrun}
 
 -- a word, octet by octet
 abbrev pub Word : Type 0
@@ -41,9 +41,21 @@ pub data Gives : List (Setting × ℕ) → List Word → Type 0 where
 abbrev pub workers_setting : Setting
 workers_setting = record { name = codes "--workers"; least = 1; most = 32 }
 
+abbrev pub seed_setting : Setting
+seed_setting = record { name = codes "--seed"; least = 0; most = 4294967295 }
+
+abbrev pub names_setting : Setting
+names_setting = record { name = codes "--names"; least = 1; most = 10000 }
+
+abbrev pub queries_setting : Setting
+queries_setting = record { name = codes "--queries"; least = 0; most = 100000 }
+
 -- the words after a command's name are its options
 abbrev pub Means : List Word → Command → Type 0
 Means words (Replay workers) = (options : List Word) × (words ≡ codes "replay" ∷ options) × Gives ((workers_setting, workers) ∷ []) options
+Means words (Selfrun seed names queries) =
+    (options : List Word) × (words ≡ codes "selfrun" ∷ options)
+    × Gives ((seed_setting, seed) ∷ (names_setting, names) ∷ (queries_setting, queries) ∷ []) options
 
 abbrev pub texts : List (String Global) → List Word
 texts words = map string_bytes words

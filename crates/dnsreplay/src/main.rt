@@ -7,7 +7,9 @@ mod frames;
 mod reading;
 mod replay;
 mod run;
+mod selfrun;
 mod status;
+mod summary;
 mod words;
 mod writing;
 

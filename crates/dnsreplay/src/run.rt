@@ -1,15 +1,17 @@
 ghost use Rattle.std.specs.Prelude.{◌≡◌, ◌↔◌, ◌⊎◌, ℕ, ◌<◌, ◌≤◌, List, [], length, IfSome, Some};
 ghost use Rattle.outside_core.specs.Fault.{Rose};
 ghost use Rattle.dnsreplay.specs.Words.{IsCommand, AreWordsOf};
-ghost use Rattle.dnsreplay.specs.Run.{IsReadOn, IsReplayed, IsCutShort, IsTaken, IsNoFrames, IsOfReplay, IsRefused, IsStatusOf};
+ghost use Rattle.dnsreplay.specs.Run.{IsReadOn, IsReplayed, IsCutShort, IsTaken, IsNoFrames, IsOfReplay, IsOfSelfrun, IsRefused, IsStatusOf};
 ghost use Rattle.dnsreplay.specs.declared.reading.TheConstants.{MAX_INPUT};
-ghost use Rattle.dnsreplay.specs.declared.words.Command.TheVariants.{Replay};
+ghost use Rattle.dnsreplay.specs.Summary.{IsSummed, IsSummedInPart};
+ghost use Rattle.dnsreplay.specs.declared.words.Command.TheVariants.{Replay, Selfrun};
 
 use crate::frames::read_frames;
 use crate::reading::{MAX_INPUT, ReadError, read_whole};
 use crate::replay::replay;
+use crate::selfrun::selfrun;
 use crate::status::Status;
-use crate::words::command_of;
+use crate::words::{Command, command_of};
 use crate::writing::write_whole;
 use outside_core::{Gate, Sink, Source};
 use std::alloc::Global;
@@ -64,11 +66,60 @@ pub fn run<R: Threads + Wait + Sync, S: Source, K: Sink, G: Gate>(
         → (Rose (S.faults source.old) (S.faults source.new) → ⊥)
         → (Rose (K.faults sink.old) (K.faults sink.new) → ⊥)
         → IsStatusOf workers input result ⊎ (result ≡ Status.OutOfMemory) }
+
+    // What `selfrun` wrote is the summary of what became of the made frames. It doesn't read.
+    ensures summed { (seed names queries : ℕ)
+        → AreWordsOf words.now (Selfrun seed names queries) → result ≡ Status.Good
+        → IsSummed seed names queries (K.written sink.old) (K.written sink.new) }
+    ensures summed_in_part { (seed names queries : ℕ)
+        → AreWordsOf words.now (Selfrun seed names queries) → result ≡ Status.WriteFault
+        → IsSummedInPart seed names queries (K.written sink.old) (K.written sink.new) }
+    ensures unread { (seed names queries : ℕ)
+        → AreWordsOf words.now (Selfrun seed names queries) → source.new ≡ source.old }
+    ensures summary_ends { (seed names queries : ℕ)
+        → AreWordsOf words.now (Selfrun seed names queries) → IsOfSelfrun result }
+    ensures summary_complete { (seed names queries : ℕ)
+        → AreWordsOf words.now (Selfrun seed names queries)
+        → (Rose (K.faults sink.old) (K.faults sink.new) → ⊥)
+        → (result ≡ Status.Good) ⊎ (result ≡ Status.OutOfMemory) }
 {
-    let Some(command) = command_of(words) else {
-        return Status::Usage;
+    match command_of(words) {
+        None => Status::Usage,
+        Some(Command::Replay { workers }) => run_replay(rt, alloc, workers, source, sink, gate),
+        Some(Command::Selfrun { seed, names, queries }) => {
+            run_selfrun(rt, alloc, seed, names, queries, sink, gate)
+        }
+    }
+}
+
+fn run_selfrun<R: Threads + Wait + Sync, K: Sink, G: Gate>(
+    rt: &R,
+    alloc: Global,
+    seed: u32,
+    names: u32,
+    queries: u32,
+    sink: &mut K,
+    gate: &G,
+) -> Status
+    requires names { (1 ≤ names) × (names ≤ 10000) }
+    requires queries { queries ≤ 100000 }
+    ensures ends { IsOfSelfrun result }
+    ensures summed { result ≡ Status.Good
+        → IsSummed seed names queries (K.written sink.old) (K.written sink.new) }
+    ensures no_fault { result ≡ Status.Good → K.faults sink.new ≡ K.faults sink.old }
+    ensures in_part { result ≡ Status.WriteFault
+        → IsSummedInPart seed names queries (K.written sink.old) (K.written sink.new) }
+    ensures write_fault { result ≡ Status.WriteFault
+        → Rose (K.faults sink.old) (K.faults sink.new) }
+    ensures unwritten { result ≡ Status.OutOfMemory → sink.new ≡ sink.old }
+{
+    let Ok(text) = selfrun(rt, alloc, seed, names, queries, gate) else {
+        return Status::OutOfMemory;
     };
-    run_replay(rt, alloc, command.workers(), source, sink, gate)
+    if write_whole(sink, text.as_bytes()).is_err() {
+        return Status::WriteFault;
+    }
+    Status::Good
 }
 
 fn run_replay<R: Threads + Wait + Sync, S: Source, K: Sink, G: Gate>(
@@ -137,5 +188,7 @@ mod gate_tests;
 mod life_tests;
 #[cfg(test)]
 mod message_tests;
+#[cfg(test)]
+mod selfrun_tests;
 #[cfg(test)]
 mod tests;

@@ -1,23 +1,14 @@
 ghost use Rattle.std.specs.Prelude.{◌≡◌, ◌↔◌, ◌<◌, ◌≤◌, ℕ, List, [], ◌∷◌, ◌++◌, map, length, drop, set, slice_get, true, false, IfSome, IfNone, IsSomeAnd, IsTrue, Some, None};
 ghost use Rattle.std.specs.String.{string_bytes};
-ghost use Rattle.dnsreplay.specs.Words.{Word, Setting, IsValue, Gives, AreWordsOf, texts, workers_setting};
+ghost use Rattle.dnsreplay.specs.Words.{Word, Setting, IsValue, Gives, AreWordsOf, texts, workers_setting, seed_setting, names_setting, queries_setting};
 ghost use Rattle.dnsreplay.specs.Options.{Begins, Fills, is_bare, are_names, setting_of, name_of, pairs};
-ghost use Rattle.dnsreplay.specs.declared.words.Command.TheVariants.{Replay};
+ghost use Rattle.dnsreplay.specs.declared.words.Command.TheVariants.{Replay, Selfrun};
 
 /// What the words ask for.
 #[derive(Clone, Copy, Debug, PartialEq, Eq)]
 pub enum Command {
     Replay { workers: u8 },
-}
-
-impl Command {
-    pub fn workers(self) -> u8
-        ensures { self ≡ Replay result }
-    {
-        match self {
-            Command::Replay { workers } => workers,
-        }
-    }
+    Selfrun { seed: u32, names: u32, queries: u32 },
 }
 
 /// An option of a command, with the range of its values.
@@ -40,6 +31,9 @@ pub fn command_of(words: &[String]) -> Option<Command>
     let options = after_first(words);
     if is_word(first, "replay") {
         return replay_of(options);
+    }
+    if is_word(first, "selfrun") {
+        return selfrun_of(options);
     }
     None
 }
@@ -64,6 +58,52 @@ fn replay_of(options: &[String]) -> Option<Command>
     };
     Some(Command::Replay {
         workers: workers as u8,
+    })
+}
+
+fn selfrun_of(options: &[String]) -> Option<Command>
+    ensures read { IfSome result (λ command. (seed names queries : ℕ)
+        × (command ≡ Selfrun seed names queries)
+        × Gives ((seed_setting, seed) ∷ (names_setting, names) ∷ (queries_setting, queries) ∷ [])
+        (texts options.now)) }
+    ensures every { (seed names queries : ℕ)
+        → Gives ((seed_setting, seed) ∷ (names_setting, names) ∷ (queries_setting, queries) ∷ [])
+        (texts options.now) → result ≡ Some (Selfrun seed names queries) }
+{
+    let settings = [
+        Setting {
+            name: "--seed",
+            least: 0,
+            most: u32::MAX,
+        },
+        Setting {
+            name: "--names",
+            least: 1,
+            most: 10_000,
+        },
+        Setting {
+            name: "--queries",
+            least: 0,
+            most: 100_000,
+        },
+    ];
+    let mut found = [None; 3];
+    if !read_settings(&settings, options, &mut found) {
+        return None;
+    }
+    let Some(seed) = found_at(&found, 0) else {
+        return None;
+    };
+    let Some(names) = found_at(&found, 1) else {
+        return None;
+    };
+    let Some(queries) = found_at(&found, 2) else {
+        return None;
+    };
+    Some(Command::Selfrun {
+        seed,
+        names,
+        queries,
     })
 }
 

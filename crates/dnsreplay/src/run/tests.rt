@@ -165,7 +165,7 @@ fn other_words_are_refused(rt: HostRuntime) -> Result<(), Fail> {
         "replay --workers 0",
         "replay --workers=33",
         "replay --workers 1 --",
-        "selfrun --seed 1 --names 1 --queries 1",
+        "selfrun --seed 1 --names 0 --queries 1",
         "serve --listen 5300 --upstream 5301 --workers 2 --datagrams 1",
     ] {
         let words = words_of(alloc, text)?;

@@ -11,6 +11,23 @@ const REPLAYS: [(&str, u8); 5] = [
     ("replay|--workers=0000000032", 32),
 ];
 
+const SELFRUNS: [(&str, u32, u32, u32); 4] = [
+    (
+        "selfrun|--seed|1|--names|1000|--queries|5000",
+        1,
+        1_000,
+        5_000,
+    ),
+    ("selfrun|--seed|0|--names|1|--queries|0", 0, 1, 0),
+    ("selfrun|--seed|77|--names|37|--queries|500", 77, 37, 500),
+    (
+        "selfrun|--queries=8|--seed|4294967295|--names=4",
+        u32::MAX,
+        4,
+        8,
+    ),
+];
+
 // Words that are no command of any kind, or ask for help.
 const STRANGERS: [&str; 8] = [
     "",
@@ -47,9 +64,18 @@ const VALUES: [&str; 8] = [
     "replay|--workers=00000000001",
 ];
 
+const SELFRUN_OPTIONS: [&str; 7] = [
+    "selfrun|--seed|0|--names|5",
+    "selfrun|--seed|0|--names|0|--queries|0",
+    "selfrun|--seed|0|--names|10001|--queries|0",
+    "selfrun|--seed|0|--names|1|--queries|100001",
+    "selfrun|--seed|4294967296|--names|1|--queries|0",
+    "selfrun|--seed|0|--names|5|--queries|1|--workers|1",
+    "selfrun|--seed|--names|1|--queries|1",
+];
+
 // What isn't built yet.
-const SERVES: [&str; 3] = [
-    "selfrun|--seed|1|--names|1000|--queries|5000",
+const SERVES: [&str; 2] = [
     "serve",
     "serve|--listen|5300|--upstream|5301|--workers|2|--datagrams|1",
 ];
@@ -81,6 +107,20 @@ fn words_ask_for_workers(rt: HostRuntime) -> Result<(), Fail> {
 }
 
 #[test]
+fn words_ask_for_a_made_zone(rt: HostRuntime) -> Result<(), Fail> {
+    for (text, seed, names, queries) in SELFRUNS {
+        let command = command_in(rt.alloc(), text)?;
+        let wanted = Command::Selfrun {
+            seed,
+            names,
+            queries,
+        };
+        assert_eq!(rt; command, Some(wanted), "{text}");
+    }
+    Ok(())
+}
+
+#[test]
 fn other_words_are_no_command(rt: HostRuntime) -> Result<(), Fail> {
     for text in STRANGERS {
         assert!(rt; is_refused(rt.alloc(), text)?, "{text}");
@@ -94,6 +134,9 @@ fn other_words_are_no_command(rt: HostRuntime) -> Result<(), Fail> {
 #[test]
 fn other_values_are_no_command(rt: HostRuntime) -> Result<(), Fail> {
     for text in VALUES {
+        assert!(rt; is_refused(rt.alloc(), text)?, "{text}");
+    }
+    for text in SELFRUN_OPTIONS {
         assert!(rt; is_refused(rt.alloc(), text)?, "{text}");
     }
     for text in SERVES {

@@ -2,7 +2,7 @@ use Rattle.std.proofs.Common.{sym, ◌∙◌, refl}
 use Rattle.std.specs.Prelude.{string_bytes}
 use Rattle.std.proofs.lemmas.Bool.{false≢true}
 use Rattle.dnsreplay.specs.Words.{texts}
-use Rattle.dnsreplay.proofs.CommandLemmas.{no_words, other, replay_every, replay_read}
+use Rattle.dnsreplay.proofs.CommandLemmas.{neither, no_words, replay_every, replay_read, selfrun_every, selfrun_read}
 use Rattle.dnsreplay.proofs.OptionLemmas.{is_none, no_texts, not_empty, texts_first}
 use Rattle.dnsreplay.proofs.words.command_of.Goals as goal
 
@@ -22,8 +22,20 @@ returns-then-is_word-clause-every c =
     (texts_first c.args.words.now c.after_first-options.result.now c.index-words-0.result _ (not_empty c.args.words.now _ c.is_empty.ensures c.if-is_empty.false) c.index-words-0.is (sym (c.is_word.ensures.0 c.if-is_word.true)) c.after_first-options.ensures)
     c.replay_of.ensures.every
 
+pub returns-then-is_word-2-clause-read : goal.returns-then-is_word-2-clause-read
+returns-then-is_word-2-clause-read c =
+    selfrun_read (texts c.args.words.now) (texts c.after_first-options.result.now) _
+    (texts_first c.args.words.now c.after_first-options.result.now c.index-words-0.result _ (not_empty c.args.words.now _ c.is_empty.ensures c.if-is_empty.false) c.index-words-0.is (sym (c.is_word-2.ensures.0 c.if-is_word-2.true)) c.after_first-options.ensures)
+    c.selfrun_of.ensures.read
+
+pub returns-then-is_word-2-clause-every : goal.returns-then-is_word-2-clause-every
+returns-then-is_word-2-clause-every c =
+    selfrun_every (texts c.args.words.now) (texts c.after_first-options.result.now) _
+    (texts_first c.args.words.now c.after_first-options.result.now c.index-words-0.result _ (not_empty c.args.words.now _ c.is_empty.ensures c.if-is_empty.false) c.index-words-0.is (sym (c.is_word-2.ensures.0 c.if-is_word-2.true)) c.after_first-options.ensures)
+    c.selfrun_of.ensures.every
+
 pub returns-clause-every : goal.returns-clause-every
 returns-clause-every c = λ command are.
-    absurd (other (texts c.args.words.now) (texts c.after_first-options.result.now) (string_bytes c.index-words-0.result)
+    absurd (neither (texts c.args.words.now) (texts c.after_first-options.result.now) (string_bytes c.index-words-0.result)
     (texts_first c.args.words.now c.after_first-options.result.now c.index-words-0.result _ (not_empty c.args.words.now _ c.is_empty.ensures c.if-is_empty.false) c.index-words-0.is refl c.after_first-options.ensures)
-    (λ e. false≢true (sym c.if-is_word.false ∙ c.is_word.ensures.1 e)) command are)
+    (λ e. false≢true (sym c.if-is_word.false ∙ c.is_word.ensures.1 e)) (λ e. false≢true (sym c.if-is_word-2.false ∙ c.is_word-2.ensures.1 e)) command are)
