@@ -65,7 +65,6 @@ all_counted counted octets rest number has none outputs valid is = let (behind, 
 
 -- ---- lines
 
-
 -- seven lines, put one after the other
 pub seven_put : (a b c d e f g one two three four five six seven zero : List ℕ) → zero ≡ [] → one ≡ zero ++ a → two ≡ one ++ b → three ≡ two ++ c → four ≡ three ++ d → five ≡ four ++ e → six ≡ five ++ f → seven ≡ six ++ g → seven ≡ a ++ b ++ c ++ d ++ e ++ f ++ g
 seven_put a b c d e f g one two three four five six seven zero z is1 is2 is3 is4 is5 is6 is7 =

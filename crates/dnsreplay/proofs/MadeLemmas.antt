@@ -65,6 +65,7 @@ asked_short seed names j = by ((j / 4) % 2 == 0)
   where
     i : ℕ
     i = asked_number seed names j
+
     by : (b : Bool) → Short (if b then asked_first (turn_at i) (name_at i) else asked_second (turn_at i) (name_at i)).name
     by true = first_short (turn_at i) i
     by false = second_short (turn_at i) i
@@ -116,8 +117,15 @@ message_fits seed names k =
     let soa : List ℕ = signed_octets made_example SOA_TYPE soa_data in
     let nsec : List ℕ = signed_octets (made_owner k) NSEC_TYPE (nsec_data names k) in
     let head_long : length head ≡ 12 = refl in
-    omega (arith, five_long head asked (answer_of seed k) soa nsec, head_long, question_short (made_owner k) A_TYPE (made_short k), answers_short seed k,
-      signed_short made_example SOA_TYPE soa_data (made_short 0) (omega arith), signed_short (made_owner k) NSEC_TYPE (nsec_data names k) (made_short k) (omega (arith, nsec_short names k)))
+    omega (
+      arith,
+      five_long head asked (answer_of seed k) soa nsec,
+      head_long,
+      question_short (made_owner k) A_TYPE (made_short k),
+      answers_short seed k,
+      signed_short made_example SOA_TYPE soa_data (made_short 0) (omega arith),
+      signed_short (made_owner k) NSEC_TYPE (nsec_data names k) (made_short k) (omega (arith, nsec_short names k)),
+    )
 
 query_fits : (seed names j : ℕ) → length (query_at seed names j) < 2 ^ 16
 query_fits seed names j =
@@ -184,8 +192,14 @@ unfolding made_inputs queries_of
 inputs_many seed names queries =
     let messages : List Input = map (made_input Upstream 1000000000) (messages_of seed names) in
     let asked : List Input = map (made_input Query 1000000100) (queries_of seed names queries) in
-    omega (arith, length-append messages asked, length-map (messages_of seed names) (made_input Upstream 1000000000), length-map (queries_of seed names queries) (made_input Query 1000000100),
-      length-map-range_with_len (message_at seed names) 0 (names + 1), length-map-range_with_len (query_at seed names) 0 queries)
+    omega (
+      arith,
+      length-append messages asked,
+      length-map (messages_of seed names) (made_input Upstream 1000000000),
+      length-map (queries_of seed names queries) (made_input Query 1000000100),
+      length-map-range_with_len (message_at seed names) 0 (names + 1),
+      length-map-range_with_len (query_at seed names) 0 queries,
+    )
 
 pub few_made : (seed names queries : ℕ) (frames : List Frame) → map input_of frames ≡ made_inputs seed names queries → names ≤ 10000 → queries ≤ 100000 → length frames < 2 ^ 32
 few_made seed names queries frames is small few = omega (arith, length-map frames input_of, ap length is, inputs_many seed names queries, small, few)

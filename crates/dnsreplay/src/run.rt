@@ -86,9 +86,13 @@ pub fn run<R: Threads + Wait + Sync, S: Source, K: Sink, G: Gate>(
     match command_of(words) {
         None => Status::Usage,
         Some(Command::Replay { workers }) => run_replay(rt, alloc, workers, source, sink, gate),
-        Some(Command::Selfrun { seed, names, queries }) => {
-            run_selfrun(rt, alloc, seed, names, queries, sink, gate)
-        }
+        Some(
+            Command::Selfrun {
+                seed,
+                names,
+                queries,
+            },
+        ) => { run_selfrun(rt, alloc, seed, names, queries, sink, gate) }
     }
 }
 

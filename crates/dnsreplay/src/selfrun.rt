@@ -55,7 +55,12 @@ fn made_output<R: Threads + Wait + Sync, G: Gate>(
     let made = make(alloc, seed, names)?;
     let asked = questions(alloc, seed, names, queries)?;
     let mut frames = Vec::new(alloc);
-    put_frames(&mut frames, FrameKind::Upstream, MESSAGES_AT, &made.messages)?;
+    put_frames(
+        &mut frames,
+        FrameKind::Upstream,
+        MESSAGES_AT,
+        &made.messages,
+    )?;
     put_frames(&mut frames, FrameKind::Query, QUERIES_AT, &asked)?;
     replay(rt, alloc, 1, &frames, gate)
 }

@@ -119,5 +119,9 @@ fn answers_in(reply: &[u8]) -> u16
 fn octet_at(octets: &[u8], place: usize) -> u8
     ensures { result ≡ get_or octets.now place 0 }
 {
-    if place < octets.len() { octets[place] } else { 0 }
+    if place < octets.len() {
+        octets[place]
+    } else {
+        0
+    }
 }

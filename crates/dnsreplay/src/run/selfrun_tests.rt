@@ -21,10 +21,7 @@ const SUMMARIES: [(&str, &[u8]); 4] = [
         "selfrun --seed 77 --names 37 --queries 500",
         b"names 37\nbatches 38\nqueries 500\nanswers 60\nno-data 253\nname-errors 128\nforwards 59\n",
     ),
-    (
-        "selfrun --queries=8 --seed 4294967295 --names=4",
-        EIGHT,
-    ),
+    ("selfrun --queries=8 --seed 4294967295 --names=4", EIGHT),
 ];
 
 const EIGHT: &[u8] =
