@@ -1,7 +1,6 @@
-pub mod CommandLemmas
 pub mod CountLemmas
 pub mod FramesLemmas
+pub mod GivenLemmas
 pub mod MadeLemmas
-pub mod OptionLemmas
-pub mod RangeLemmas
 pub mod RunLemmas
+pub mod ServeLemmas

@@ -1,7 +1,6 @@
 pub mod Frames
 pub mod Made
-pub mod Options
 pub mod Run
+pub mod Serve
 pub mod Status
 pub mod Summary
-pub mod Words

@@ -12,6 +12,11 @@ pub record IsReadOn (before after : Option (List ℕ)) : Type 0 where
   pub given : before ≡ prepend_told octets after
   pub until : (length octets ≡ MAX_INPUT + 1) ⊎ IfSome after (λ left. left ≡ [])
 
+-- the source gave some octets, and has left what came after them
+pub record HasGiven (before after : Option (List ℕ)) : Type 0 where
+  pub octets : List ℕ
+  pub given : before ≡ prepend_told octets after
+
 -- the sink has got the whole output of a replay of the input for so many workers
 pub record IsReplayed (workers : ℕ) (input : List ℕ) (before after : Option (List ℕ)) : Type 0 where
   pub output : List ℕ

@@ -1,7 +1,7 @@
 -- The numbers with which the program ends.
 use Rattle.std.specs.Prelude.{ℕ}
 use Rattle.dnsreplay.specs.declared.status.Status.{Status}
-use Rattle.dnsreplay.specs.declared.status.Status.TheVariants.{Good, Usage, ReadFault, BadFrame, WriteFault, OutOfMemory, InputTooLong}
+use Rattle.dnsreplay.specs.declared.status.Status.TheVariants.{Good, Usage, ReadFault, BadFrame, WriteFault, OutOfMemory, InputTooLong, HarborFault}
 
 abbrev pub status_number : Status → ℕ
 status_number Good = 0
@@ -11,3 +11,4 @@ status_number BadFrame = 4
 status_number WriteFault = 5
 status_number OutOfMemory = 6
 status_number InputTooLong = 7
+status_number HarborFault = 8

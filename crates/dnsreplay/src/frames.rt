@@ -6,6 +6,9 @@ use dname::OutOfMemory;
 use replay_meaning::{Frame, read_frame};
 use std::alloc::Global;
 
+/// As many octets as the frame of a short query has.
+const SHORT: usize = 32;
+
 /// The frames of an input, in order, which lend their messages. None where the octets don't spell frames, each for one of
 /// so many workers.
 pub fn read_frames(
@@ -18,6 +21,8 @@ pub fn read_frames(
         (λ frames. AreFramesOf workers octets.now frames.items)) }
 {
     let mut frames = Vec::new(alloc);
+    // So that it is seldom moved; without that room it grows.
+    let _ = frames.reserve_exact(octets.len() / SHORT);
     let mut rest = octets;
     while !rest.is_empty() {
         let Some((frame, after)) = read_frame(rest) else {

@@ -1,6 +1,6 @@
-//! `dnsreplay`: frames of queries and upstream answers in, frames of what becomes of them out. `run` carries the headline;
-//! read `specs/Run.antt`, `Words` and `Status`, and then those of `replay_meaning`. `Frames` and `Options` are the words of its
-//! parts.
+//! `dnsreplay`: frames of queries and upstream answers in, frames of what becomes of them out; or datagrams on loopback. `run`
+//! carries the headline; read `specs/Run.antt`, `Serve` and `Status`, then `Words` of `command_line`, and then the specs of
+//! `replay_meaning` and `server`. `Frames` are the words of its parts.
 #![tactic(auto)]
 
 mod frames;
@@ -10,19 +10,28 @@ mod run;
 mod selfrun;
 mod status;
 mod summary;
-mod words;
-mod writing;
 
 use crate::status::Status;
-use outside_core::{OpenGate, StreamSink, StreamSource};
+use outside_core::{OpenGate, StreamSink, StreamSource, SystemClock, UdpHarbor};
 use std::process::ExitCode;
 use std::{env, io};
 
 fn main(rt: HostRuntime) -> ExitCode {
     let mut source = StreamSource::over(rt.stdin());
     let mut sink = StreamSink::over(rt.stdout());
+    let mut harbor = UdpHarbor::over(&rt);
+    let clock = SystemClock::over(&rt);
     let status = match words_of(&rt) {
-        Ok(words) => run::run(&rt, rt.alloc(), &words, &mut source, &mut sink, &OpenGate),
+        Ok(words) => run::run(
+            &rt,
+            rt.alloc(),
+            &words,
+            &mut source,
+            &mut sink,
+            &OpenGate,
+            &mut harbor,
+            &clock,
+        ),
         Err(status) => status,
     };
     if let Some(line) = status.line() {

@@ -1,6 +1,7 @@
 ghost use Rattle.std.specs.Prelude.{◌≡◌, ℕ, ◌+◌, ◌<◌, ◌≤◌, List, [], ◌++◌, length, IfOk, IfSome, OnErr, IsErrOf};
 ghost use Rattle.outside_core.specs.Told.{prepend_told};
 ghost use Rattle.outside_core.specs.Fault.{Rose};
+ghost use Rattle.dnsreplay.specs.Run.{HasGiven};
 ghost use Rattle.dnsreplay.specs.declared.reading.TheConstants.{MAX_INPUT};
 
 use outside_core::Source;
@@ -10,7 +11,7 @@ use std::alloc::Global;
 pub const MAX_INPUT: usize = 67_108_864;
 
 /// The octets that one call of the source asks for at most.
-const PIECE: usize = 16_384;
+const PIECE: usize = 65_536;
 
 #[derive(Clone, Copy, Debug, PartialEq, Eq)]
 pub enum ReadError {
@@ -28,8 +29,11 @@ pub fn read_whole<S: Source>(alloc: Global, source: &mut S) -> Result<Vec<u8>, R
     ensures faults { IfOk result (λ _. S.faults source.new ≡ S.faults source.old) }
     ensures failed { IsErrOf result ReadError.Failed
         → Rose (S.faults source.old) (S.faults source.new) }
+    ensures part { OnErr result (HasGiven (S.left source.old) (S.left source.new)) }
 {
     let mut input = Vec::new(alloc);
+    // So that it is never moved; without that room it grows.
+    let _ = input.reserve_exact(MAX_INPUT + 1);
     while input.len() <= MAX_INPUT {
         match read_piece(source, &mut input) {
             Ok(0) => break,
@@ -52,6 +56,7 @@ fn read_piece<S: Source>(source: &mut S, input: &mut Vec<u8>) -> Result<usize, R
     ensures faults { IfOk result (λ _. S.faults source.new ≡ S.faults source.old) }
     ensures failed { IsErrOf result ReadError.Failed
         → Rose (S.faults source.old) (S.faults source.new) }
+    ensures part { OnErr result (HasGiven (S.left source.old) (S.left source.new)) }
 {
     let mut piece = [0; PIECE];
     let room = (MAX_INPUT + 1 - input.len()).min(PIECE);

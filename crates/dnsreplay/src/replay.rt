@@ -1,5 +1,7 @@
-ghost use Rattle.std.specs.Prelude.{ℕ, List, ◌<◌, ◌≤◌, ◌^◌, length, All, IfOk};
+ghost use Rattle.std.specs.Prelude.{ℕ, List, ◌<◌, ◌≤◌, ◌≡◌, ◌^◌, length, map, All, IfOk};
+ghost use Rattle.replay_meaning.specs.Frame.{input_of};
 ghost use Rattle.replay_meaning.specs.Replay.{IsReplay};
+ghost use Rattle.worker_seats.specs.Merge.{AreMerged, CanBeMerged};
 ghost use Rattle.dnsreplay.specs.Frames.{AreFramesOf};
 
 use dname::OutOfMemory;
@@ -9,27 +11,30 @@ use resolver::SharedCache;
 use std::alloc::Global;
 use std::sync::Wait;
 use std::thread::Threads;
-use worker_seats::run_workers;
+use worker_seats::{Outputs, run_workers};
 
-/// The output of the frames for so many workers, each on a thread of its own, over a cache that holds nothing at first.
+/// What so many workers write of the frames, each on a thread of its own, over a cache that holds nothing at first.
 pub fn replay<R: Threads + Wait + Sync, G: Gate>(
     rt: &R,
     alloc: Global,
     workers: u8,
     frames: &[Frame<'_>],
     gate: &G,
-) -> Result<Vec<u8>, OutOfMemory>
+) -> Result<Outputs, OutOfMemory>
     requires workers { (1 ≤ workers) × (workers ≤ 32) }
     requires below { All (λ frame. frame.worker < workers) frames.now }
     requires few { length frames.now < 2 ^ 32 }
-    ensures { IfOk result (λ output. (octets : List ℕ)
-        → AreFramesOf workers octets frames.now → IsReplay workers octets output.items) }
+    ensures all { IfOk result (λ outputs. length outputs ≡ workers) }
+    ensures merge { IfOk result (λ outputs. CanBeMerged outputs (map input_of frames.now)) }
+    ensures replay { IfOk result (λ outputs. (octets output : List ℕ)
+        → AreFramesOf workers octets frames.now
+        → AreMerged outputs (map input_of frames.now) output → IsReplay workers octets output) }
 {
     let (cache, seats) = SharedCache::with_seats(rt, alloc, workers)?;
     match run_workers(rt, alloc, &cache, seats, frames, gate) {
-        Ok((seats, output)) => {
+        Ok((seats, outputs)) => {
             let _ = cache.close(rt, seats);
-            Ok(output)
+            Ok(outputs)
         }
         Err(error) => {
             cache.give_up(rt);

@@ -1,33 +1,42 @@
-ghost use Rattle.std.specs.Prelude.{◌≡◌, ◌↔◌, ◌⊎◌, ℕ, ◌<◌, ◌≤◌, List, [], length, IfSome, Some};
+ghost use Rattle.std.specs.Prelude.{◌≡◌, ◌⊎◌, ℕ, ◌+◌, ◌<◌, ◌≤◌, List, [], length, IfSome, Some};
 ghost use Rattle.outside_core.specs.Fault.{Rose};
-ghost use Rattle.dnsreplay.specs.Words.{IsCommand, AreWordsOf};
-ghost use Rattle.dnsreplay.specs.Run.{IsReadOn, IsReplayed, IsCutShort, IsTaken, IsNoFrames, IsOfReplay, IsOfSelfrun, IsRefused, IsStatusOf};
+ghost use Rattle.command_line.specs.Words.{IsCommand, AreWordsOf};
+ghost use Rattle.dnsreplay.specs.Run.{HasGiven, IsReadOn, IsReplayed, IsCutShort, IsTaken, IsNoFrames, IsOfReplay, IsOfSelfrun, IsRefused, IsStatusOf};
 ghost use Rattle.dnsreplay.specs.declared.reading.TheConstants.{MAX_INPUT};
 ghost use Rattle.dnsreplay.specs.Summary.{IsSummed, IsSummedInPart};
-ghost use Rattle.dnsreplay.specs.declared.words.Command.TheVariants.{Replay, Selfrun};
+ghost use Rattle.command_line.specs.declared.command.Command.TheVariants.{Replay, Selfrun, Serve};
+ghost use Rattle.server.specs.Back.{CameBack, AllServedWhole};
+ghost use Rattle.dnsreplay.specs.Serve.{service_of, IsOfServe, ServedInPart};
 
 use crate::frames::read_frames;
 use crate::reading::{MAX_INPUT, ReadError, read_whole};
 use crate::replay::replay;
 use crate::selfrun::selfrun;
 use crate::status::Status;
-use crate::words::{Command, command_of};
-use crate::writing::write_whole;
-use outside_core::{Gate, Sink, Source};
+use command_line::{Command, command_of};
+use outside_core::{Clock, Gate, Harbor, Sink, Source};
+use server::{ServeError, Service, serve};
 use std::alloc::Global;
 use std::sync::Wait;
 use std::thread::Threads;
+use worker_seats::{write_outputs, write_whole};
 
-/// Runs the words, those after the program's name, over the source and the sink. Workers pass the gate.
-pub fn run<R: Threads + Wait + Sync, S: Source, K: Sink, G: Gate>(
+/// Runs the words, those after the program's name: replays over the source and the sink, and serves over the harbor at the
+/// moments that the clock tells. Workers of a replay pass the gate.
+pub fn run<R: Threads + Wait + Sync, S: Source, K: Sink, G: Gate, H: Harbor, C: Clock>(
     rt: &R,
     alloc: Global,
     words: &[String],
     source: &mut S,
     sink: &mut K,
     gate: &G,
+    harbor: &mut H,
+    clock: &C,
 ) -> Status
-    ensures usage { (result ≡ Status.Usage) ↔ (IsCommand words.now → ⊥) }
+    // Want of memory may take the place of any status, as it may of any answer.
+    ensures usage { result ≡ Status.Usage → IsCommand words.now → ⊥ }
+    ensures no_command { (IsCommand words.now → ⊥)
+        → (result ≡ Status.Usage) ⊎ (result ≡ Status.OutOfMemory) }
     ensures untouched { result ≡ Status.Usage
         → (source.new ≡ source.old) × (sink.new ≡ sink.old) }
 
@@ -53,6 +62,9 @@ pub fn run<R: Threads + Wait + Sync, S: Source, K: Sink, G: Gate>(
     ensures read { (workers : ℕ) → AreWordsOf words.now (Replay workers)
         → IsOfReplay result ⊎ IsRefused result
         → IsReadOn (S.left source.old) (S.left source.new) }
+    ensures read_part { (workers : ℕ) → AreWordsOf words.now (Replay workers)
+        → (result ≡ Status.ReadFault) ⊎ (result ≡ Status.OutOfMemory)
+        → HasGiven (S.left source.old) (S.left source.new) }
 
     // The input is looked at whole before anything is done: its length, then its frames.
     ensures too_long { result ≡ Status.InputTooLong
@@ -82,17 +94,108 @@ pub fn run<R: Threads + Wait + Sync, S: Source, K: Sink, G: Gate>(
         → AreWordsOf words.now (Selfrun seed names queries)
         → (Rose (K.faults sink.old) (K.faults sink.new) → ⊥)
         → (result ≡ Status.Good) ⊎ (result ≡ Status.OutOfMemory) }
+
+    // Links that came back from `serve` had each received what the words say, and sent what that
+    // calls for, over one list of batches. It neither reads nor writes.
+    ensures served { (listen upstream workers datagrams : ℕ)
+        → AreWordsOf words.now (Serve listen upstream workers datagrams)
+        → result ≡ Status.Good
+        → CameBack (H.Harbor.came_back harbor.old) (H.Harbor.came_back harbor.new)
+        (AllServedWhole (service_of listen upstream workers datagrams)
+        (C.Clock.moment clock.now)) }
+    ensures served_in_part { (listen upstream workers datagrams : ℕ)
+        → AreWordsOf words.now (Serve listen upstream workers datagrams)
+        → result ≡ Status.HarborFault
+        → CameBack (H.Harbor.came_back harbor.old) (H.Harbor.came_back harbor.new)
+        (ServedInPart (service_of listen upstream workers datagrams)
+        (C.Clock.moment clock.now)) }
+    ensures serve_ends { (listen upstream workers datagrams : ℕ)
+        → AreWordsOf words.now (Serve listen upstream workers datagrams) → IsOfServe result }
+    ensures serve_complete { (listen upstream workers datagrams : ℕ)
+        → AreWordsOf words.now (Serve listen upstream workers datagrams)
+        → (Rose (H.Harbor.faults harbor.old) (H.Harbor.faults harbor.new) → ⊥)
+        → (result ≡ Status.Good) ⊎ (result ≡ Status.OutOfMemory) }
+    ensures aside { (listen upstream workers datagrams : ℕ)
+        → AreWordsOf words.now (Serve listen upstream workers datagrams)
+        → (source.new ≡ source.old) × (sink.new ≡ sink.old) }
+    ensures harbor_fault { result ≡ Status.HarborFault
+        → Rose (H.Harbor.faults harbor.old) (H.Harbor.faults harbor.new) }
+    ensures no_harbor_fault { result ≡ Status.Good
+        → H.Harbor.faults harbor.new ≡ H.Harbor.faults harbor.old }
+    ensures unmoored { ((listen upstream workers datagrams : ℕ)
+        → AreWordsOf words.now (Serve listen upstream workers datagrams) → ⊥)
+        → harbor.new ≡ harbor.old }
 {
-    match command_of(words) {
-        None => Status::Usage,
-        Some(Command::Replay { workers }) => run_replay(rt, alloc, workers, source, sink, gate),
-        Some(
-            Command::Selfrun {
-                seed,
-                names,
-                queries,
-            },
+    match command_of(alloc, words) {
+        Err(_) => Status::OutOfMemory,
+        Ok(None) => Status::Usage,
+        Ok(Some(Command::Replay { workers })) => {
+            run_replay(rt, alloc, workers, source, sink, gate)
+        }
+        Ok(
+            Some(
+                Command::Selfrun {
+                    seed,
+                    names,
+                    queries,
+                },
+            ),
         ) => { run_selfrun(rt, alloc, seed, names, queries, sink, gate) }
+        Ok(
+            Some(
+                Command::Serve {
+                    listen,
+                    upstream,
+                    workers,
+                    datagrams,
+                },
+            ),
+        ) => {
+            run_serve(
+                rt, alloc, listen, upstream, workers, datagrams, harbor, clock,
+            )
+        }
+    }
+}
+
+fn run_serve<R: Threads + Wait + Sync, H: Harbor, C: Clock>(
+    rt: &R,
+    alloc: Global,
+    listen: u16,
+    upstream: u16,
+    workers: u8,
+    datagrams: u32,
+    harbor: &mut H,
+    clock: &C,
+) -> Status
+    requires some { 1 ≤ workers }
+    requires most { workers ≤ 32 }
+    requires ports { listen + workers ≤ 65_536 }
+    requires few { datagrams ≤ 5_000 }
+    ensures ends { IsOfServe result }
+    ensures served { result ≡ Status.Good
+        → CameBack (H.Harbor.came_back harbor.old) (H.Harbor.came_back harbor.new)
+        (AllServedWhole (service_of listen upstream workers datagrams)
+        (C.Clock.moment clock.now)) }
+    ensures in_part { result ≡ Status.HarborFault
+        → CameBack (H.Harbor.came_back harbor.old) (H.Harbor.came_back harbor.new)
+        (ServedInPart (service_of listen upstream workers datagrams)
+        (C.Clock.moment clock.now)) }
+    ensures fault { result ≡ Status.HarborFault
+        → Rose (H.Harbor.faults harbor.old) (H.Harbor.faults harbor.new) }
+    ensures no_fault { result ≡ Status.Good
+        → H.Harbor.faults harbor.new ≡ H.Harbor.faults harbor.old }
+{
+    let service = Service {
+        listen,
+        upstream,
+        workers,
+        datagrams: datagrams as u16,
+    };
+    match serve(rt, alloc, &service, harbor, clock) {
+        Ok(()) => Status::Good,
+        Err(ServeError::Harbor) => Status::HarborFault,
+        Err(ServeError::OutOfMemory) => Status::OutOfMemory,
     }
 }
 
@@ -136,6 +239,7 @@ fn run_replay<R: Threads + Wait + Sync, S: Source, K: Sink, G: Gate>(
 ) -> Status
     requires { (1 ≤ workers) × (workers ≤ 32) }
     ensures command { result ≡ Status.Usage → ⊥ }
+    ensures ashore { result ≡ Status.HarborFault → ⊥ }
     ensures good { result ≡ Status.Good
         → IfSome (S.left source.old) (λ input.
         IsReplayed workers input (K.written sink.old) (K.written sink.new)) }
@@ -154,6 +258,8 @@ fn run_replay<R: Threads + Wait + Sync, S: Source, K: Sink, G: Gate>(
         ⊎ IsRefused result → sink.new ≡ sink.old }
     ensures read { IsOfReplay result ⊎ IsRefused result
         → IsReadOn (S.left source.old) (S.left source.new) }
+    ensures read_part { (result ≡ Status.ReadFault) ⊎ (result ≡ Status.OutOfMemory)
+        → HasGiven (S.left source.old) (S.left source.new) }
     ensures too_long { result ≡ Status.InputTooLong
         → IfSome (S.left source.old) (λ input. MAX_INPUT < length input) }
     ensures bad_frame { result ≡ Status.BadFrame
@@ -177,10 +283,10 @@ fn run_replay<R: Threads + Wait + Sync, S: Source, K: Sink, G: Gate>(
         Ok(None) => return Status::BadFrame,
         Err(_) => return Status::OutOfMemory,
     };
-    let Ok(output) = replay(rt, alloc, workers, &frames, gate) else {
+    let Ok(outputs) = replay(rt, alloc, workers, &frames, gate) else {
         return Status::OutOfMemory;
     };
-    match write_whole(sink, &output) {
+    match write_outputs(alloc, sink, &frames, &outputs) {
         Ok(()) => Status::Good,
         Err(_) => Status::WriteFault,
     }
@@ -188,6 +294,8 @@ fn run_replay<R: Threads + Wait + Sync, S: Source, K: Sink, G: Gate>(
 
 #[cfg(test)]
 mod gate_tests;
+#[cfg(test)]
+mod hostile_tests;
 #[cfg(test)]
 mod life_tests;
 #[cfg(test)]

@@ -1,4 +1,4 @@
-ghost use Rattle.std.specs.Prelude.{◌≡◌, ◌≤◌, ◌++◌, map, IfOk, OnOk};
+ghost use Rattle.std.specs.Prelude.{◌≡◌, ℕ, ◌≤◌, List, ◌++◌, length, map, slice_index_or, IfOk, OnOk};
 ghost use Rattle.std.specs.String.{string_bytes};
 ghost use Rattle.replay_meaning.specs.Frame.{input_of, inputs_spelling};
 ghost use Rattle.replay_meaning.specs.Replay.{IsReplay};
@@ -14,6 +14,7 @@ use reply_core::ReplyBuffer;
 use std::alloc::Global;
 use std::sync::Wait;
 use std::thread::Threads;
+use worker_seats::Outputs;
 use zone_maker::{make, question};
 
 /// When the messages come, in seconds.
@@ -35,22 +36,24 @@ pub fn selfrun<R: Threads + Wait + Sync, G: Gate>(
     requires queries { queries ≤ 100000 }
     ensures { IfOk result (λ text. IsMadeSummary seed names queries (string_bytes text)) }
 {
-    let output = made_output(rt, alloc, seed, names, queries, gate)?;
-    summary(alloc, names, queries, &output)
+    let outputs = made_outputs(rt, alloc, seed, names, queries, gate)?;
+    summary(alloc, names, queries, outputs.of_worker(0))
 }
 
-fn made_output<R: Threads + Wait + Sync, G: Gate>(
+// What the one worker writes of the made frames.
+fn made_outputs<R: Threads + Wait + Sync, G: Gate>(
     rt: &R,
     alloc: Global,
     seed: u32,
     names: u32,
     queries: u32,
     gate: &G,
-) -> Result<Vec<u8>, OutOfMemory>
+) -> Result<Outputs, OutOfMemory>
     requires names { (1 ≤ names) × (names ≤ 10000) }
     requires queries { queries ≤ 100000 }
-    ensures { IfOk result (λ output.
-        IsReplay 1 (inputs_spelling (made_inputs seed names queries)) output.items) }
+    ensures one { IfOk result (λ outputs. length outputs ≡ 1) }
+    ensures replay { IfOk result (λ outputs. (d : List ℕ) → IsReplay 1
+        (inputs_spelling (made_inputs seed names queries)) (slice_index_or outputs 0 d)) }
 {
     let made = make(alloc, seed, names)?;
     let asked = questions(alloc, seed, names, queries)?;

@@ -19,6 +19,8 @@ pub enum Status {
     OutOfMemory,
     /// The input is longer than the longest that is taken.
     InputTooLong,
+    /// A link of the harbor couldn't be bound, or failed.
+    HarborFault,
 }
 
 impl Status {
@@ -41,6 +43,7 @@ impl Status {
             Status::WriteFault => Some("write fault"),
             Status::OutOfMemory => Some("out of memory"),
             Status::InputTooLong => Some("input too long"),
+            Status::HarborFault => Some("link fault"),
         }
     }
 
@@ -55,6 +58,7 @@ impl Status {
             Status::WriteFault => 5,
             Status::OutOfMemory => 6,
             Status::InputTooLong => 7,
+            Status::HarborFault => 8,
         }
     }
 }

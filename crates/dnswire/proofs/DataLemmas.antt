@@ -1,13 +1,9 @@
 -- The data of a record is read in one way only, field by field.
 use Rattle.std.proofs.Common.{◌≡◌, ℕ, ◌+◌, ◌-◌, ◌≤◌, List, [], ◌∷◌, ◌++◌, length, take, drop, refl, sym, ◌∙◌, ap, subst, arith, length-drop, append_assoc, Option, Some, None}
 use Rattle.std.proofs.lemmas.List.{take_at, take-append-drop, length-take-le, append-nil}
-use Rattle.dname.specs.Name.{Label, wire_of}
-use Rattle.dname.specs.Read.{written}
-use Rattle.dname.proofs.ReadLemmas.{wire_of-written}
+use Rattle.dname.specs.Name.{wire_of}
 use Rattle.dnswire.specs.Data.{IsWrittenOut, IsCharacterString, AreOctets, IsField, IsData, HasNoData}
 use Rattle.dnswire.specs.DataField.{IsMissing, HasAppended, Appends}
-use Rattle.dnswire.specs.MessageName.{Reads}
-use Rattle.dnswire.specs.LabelsLeft.{AreLeft, AreNoneLeft, first_of}
 use Rattle.dnswire.specs.declared.field.Field.{Field}
 use Rattle.dnswire.specs.declared.field.Field.TheVariants.{Numbers, Name, CharacterString, Rest}
 use Rattle.dnswire.proofs.MessageNameLemmas.{one_reading}
@@ -91,25 +87,6 @@ string_appended message stop at size rest before after is =
     appended_as message stop (Numbers (1 + size)) CharacterString at before after
     (λ octets end f. (f.0, is_string (drop at message) octets f.0.rest size rest f.0.stands is f.1))
     (λ octets end f. (f.0, string_size (drop at message) octets f.0.rest size rest f.0.stands is f.1))
-
--- ---- a name in data
-
-pub name_appended : (message : List ℕ) (stop at : ℕ) (labels : List Label) (end : ℕ) (before now after : List ℕ) → AreLeft (first_of message at) labels end → end ≤ stop → now ≡ before ++ written labels → after ≡ now ++ 0 ∷ [] → HasAppended message stop Name at before after end
-name_appended message stop at labels end before now after left within has last = record {
-  octets = wire_of labels;
-  stands = record { labels = labels; reads = subst (Reads message at at labels) (sym left.end_is) left.reads; fits = omega (arith, left.fits); wire = refl };
-  within = within;
-  appended = last ∙ ap (λ o. o ++ 0 ∷ []) has ∙ append_assoc before (written labels) (0 ∷ []) ∙ ap (λ o. before ++ o) (sym (wire_of-written labels));
-}
-
--- a name that ends after the data's end doesn't stand in the data
-pub runs_past : (message : List ℕ) (stop at : ℕ) (labels : List Label) (end : ℕ) → AreLeft (first_of message at) labels end → stop + 1 ≤ end → IsMissing message stop Name at
-runs_past message stop at labels end left past octets end' w within =
-    let same = one_reading message at at labels w.labels left.stop end' left.reads w.reads in
-    omega (arith, past, within, same.1, left.end_is)
-
-pub name_missing : (message : List ℕ) (stop at : ℕ) → AreNoneLeft (first_of message at) → IsMissing message stop Name at
-name_missing message stop at none octets end w within = none w.labels end (record { stop = end; reads = w.reads; end_is = refl; fits = omega (arith, w.fits) })
 
 -- ---- the loop over the fields
 

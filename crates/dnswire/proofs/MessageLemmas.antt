@@ -26,6 +26,16 @@ use Rattle.dnswire.proofs.HeaderLemmas.{one_header}
 use Rattle.dnswire.proofs.InTurnLemmas.{Same, in_turn-append, one_in_turn, goes_on}
 use Rattle.dnswire.proofs.MessageNameLemmas.{one_name_at}
 
+-- ---- a name's fault
+
+pub owner_refused : (message : List ℕ) (at : ℕ) (fault : WireFault) → (fault ≡ OutOfMemory) ⊎ (HasNoName message at × (fault ≡ BadName at)) → (fault ≡ OutOfMemory) ⊎ HasRrFault message at fault
+owner_refused message at fault (inl is) = inl is
+owner_refused message at fault (inr named) = inr (no_owner named.0 named.1)
+
+pub name_refused : (octets : List ℕ) (header : Header) (fault : WireFault) → IsHeader octets header → header.questions ≡ 1 → (fault ≡ OutOfMemory) ⊎ (HasNoName octets HEADER_OCTETS × (fault ≡ BadName HEADER_OCTETS)) → (fault ≡ OutOfMemory) ⊎ IsFaultOf octets fault
+name_refused octets header fault head one (inl is) = inl is
+name_refused octets header fault head one (inr named) = inr (no_name header head one named.0 named.1)
+
 -- ---- one record
 
 pub one_rr : (message : List ℕ) (at : ℕ) (rr rr' : Rr) (end end' : ℕ) → IsRr message at rr end → IsRr message at rr' end' → Same rr rr' end end'

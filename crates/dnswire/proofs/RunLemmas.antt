@@ -1,11 +1,11 @@
 -- Runs of labels in a message, and the sizes of what stands where pointers go.
-use Rattle.std.proofs.Common.{◌≡◌, ◌≢◌, ℕ, ◌+◌, ◌-◌, ◌<◌, ◌≤◌, List, [], ◌∷◌, ◌++◌, length, min, map, take, drop, set, get_or, replicate, zero, suc, refl, sym, ◌∙◌, ap, subst, arith, length-append, Result, Ok, Err}
+use Rattle.std.proofs.Common.{◌≡◌, ℕ, ◌+◌, ◌-◌, ◌<◌, ◌≤◌, List, [], ◌∷◌, length, min, map, take, drop, set, get_or, replicate, zero, suc, refl, sym, ◌∙◌, ap, subst, arith, length-append, Result, Ok, Err}
 use Rattle.std.proofs.lemmas.List.{length-take-le, length-drop, get_or-set_same, get_or-set_other}
 use native.Mathlib.Decide.{ℕ_discrete}
 use Rattle.dname.specs.Name.{Label, lowered, wire_of}
 use Rattle.dnswire.specs.MessageName.{BeginsWithEnd, BeginsWithLabel, BeginsWithPointer, Reads, NameAt}
 use Rattle.dnswire.specs.MessageName.Reads.{closed, labelled, pointed}
-use Rattle.dnswire.specs.Runs.{Passed, IsRunEnd, IsRunAt, EndsWith, HasNoRoom, HasSize, AreSizes, Leads}
+use Rattle.dnswire.specs.Runs.{Passed, HasNoRoom, HasSize, AreSizes, Leads}
 use Rattle.dnswire.proofs.MessageNameLemmas.{after_pointer, one_reading}
 use Rattle.dnswire.proofs.NameLabelsLemmas.{begins_with_label}
 

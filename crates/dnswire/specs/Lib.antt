@@ -9,5 +9,6 @@ pub mod InTurn
 pub mod LabelsLeft
 pub mod NameLabels
 pub mod Runs
+pub mod Expansions
 pub mod RecordsPassed
 pub mod DataField

@@ -1,6 +1,7 @@
 -- No public clause cites this module. How a reader passes over names in a message, run by run, and what it remembers.
-use Rattle.std.specs.Prelude.{◌≡◌, ℕ, ◌+◌, ◌-◌, ◌<◌, ◌≤◌, List, length, drop, get_or, Option, Some, None}
+use Rattle.std.specs.Prelude.{◌≡◌, ℕ, ◌+◌, ◌-◌, ◌<◌, ◌≤◌, List, ◌++◌, length, drop, get_or, Option, Some, None}
 use Rattle.dname.specs.Name.{Label, wire_of}
+use Rattle.dname.specs.Read.{written}
 use Rattle.dnswire.specs.MessageName.{BeginsWithEnd, BeginsWithLabel, BeginsWithPointer, Reads}
 use Rattle.dnswire.specs.declared.label_run.Run.{Run}
 
@@ -15,6 +16,15 @@ pub record Passed (message : List ℕ) (at here : ℕ) : Type 0 where
       (start end : ℕ) (all : List Label) → Reads message start at all end
       → (labels : List Label) × Reads message start here labels end
       × (length (wire_of all) ≡ here - at + length (wire_of labels))
+
+-- in a run, these labels stand from the one offset up to the other
+pub record Stand (message : List ℕ) (at : ℕ) (labels : List Label) (here : ℕ) : Type 0 where
+  pub octets : drop at message ≡ written labels ++ drop here message
+  pub size : here ≡ at + length (written labels)
+  pub goes : (start end : ℕ) (rest : List Label) → Reads message start here rest end → Reads message start at (labels ++ rest) end
+  pub back :
+      (start end : ℕ) (all : List Label) → Reads message start at all end
+      → (rest : List Label) × (all ≡ labels ++ rest) × Reads message start here rest end
 
 -- labels stand from the one offset up to the other, where no label stands
 pub record IsRunEnd (message : List ℕ) (at last : ℕ) : Type 0 where

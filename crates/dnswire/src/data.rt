@@ -1,14 +1,17 @@
 ghost use Rattle.std.specs.Prelude.{◌≡◌, ◌≤◌, ◌⊎◌, length, IfOk, IfErr};
 ghost use Rattle.dnswire.specs.Data.{layout_of, IsData, HasNoData};
 ghost use Rattle.dnswire.specs.DataField.{Appends};
+ghost use Rattle.dnswire.specs.Expansions.{IsTableOf};
 ghost use Rattle.dnswire.specs.declared.field.Field.{Field};
 ghost use Rattle.dnswire.specs.declared.wire_fault.WireFault.{WireFault};
 
 use crate::WireFault;
 use crate::field::{Field, layout_of};
-use crate::name_labels::{NameLabels, NameStep};
+use crate::name_read::{NEAR_OCTETS, NotRead, whole_at, write_out};
+use crate::name_table::NameTable;
+use arrayvec::ArrayVec;
 use dname::{Octets, OutOfMemory, octets_between};
-use std::alloc::Global;
+use std::alloc::{AllocError, Global};
 
 /// The data of a record of the type, from its offset to where it ends, with the names in it written out.
 pub(crate) fn read_data(
@@ -17,13 +20,16 @@ pub(crate) fn read_data(
     rtype: u16,
     at: usize,
     end: usize,
+    table: &mut NameTable,
 ) -> Result<Octets, WireFault>
-    requires { (at ≤ end) × (end ≤ length message.now) }
+    requires within { (at ≤ end) × (end ≤ length message.now) }
+    requires table { IsTableOf message.now table.old }
     ensures read { IfOk result (IsData message.now end (layout_of rtype) at) }
     ensures refused { IfErr result (λ fault. (fault ≡ WireFault.OutOfMemory)
         ⊎ (HasNoData message.now end (layout_of rtype) at × (fault ≡ WireFault.BadData at))) }
+    ensures table { IsTableOf message.now table.new }
 {
-    read_fields(alloc, message, layout_of(rtype), at, end)
+    read_fields(alloc, message, layout_of(rtype), at, end, table)
 }
 
 fn read_fields(
@@ -32,16 +38,19 @@ fn read_fields(
     fields: &[Field],
     at: usize,
     end: usize,
+    table: &mut NameTable,
 ) -> Result<Octets, WireFault>
-    requires { (at ≤ end) × (end ≤ length message.now) }
+    requires within { (at ≤ end) × (end ≤ length message.now) }
+    requires table { IsTableOf message.now table.old }
     ensures read { IfOk result (IsData message.now end fields.now at) }
     ensures refused { IfErr result (λ fault. (fault ≡ WireFault.OutOfMemory)
         ⊎ (HasNoData message.now end fields.now at × (fault ≡ WireFault.BadData at))) }
+    ensures table { IsTableOf message.now table.new }
 {
     let mut octets = Octets::empty(alloc);
     let mut here = at;
     for field in fields {
-        match append_field(message, *field, here, end, &mut octets) {
+        match append_field(alloc, message, *field, here, end, table, &mut octets) {
             Ok(Some(after)) => here = after,
             Ok(None) => return Err(WireFault::BadData { at }),
             Err(_) => return Err(WireFault::OutOfMemory),
@@ -56,18 +65,22 @@ fn read_fields(
 // Appends the field at the offset, in data that ends before `stop`, and gives the offset after the field; none where the
 // field isn't there.
 fn append_field(
+    alloc: Global,
     message: &[u8],
     field: Field,
     at: usize,
     stop: usize,
+    table: &mut NameTable,
     octets: &mut Octets,
 ) -> Result<Option<usize>, OutOfMemory>
-    requires { (at ≤ stop) × (stop ≤ length message.now) }
-    ensures { IfOk result (Appends message.now stop field at octets.old octets.new) }
+    requires within { (at ≤ stop) × (stop ≤ length message.now) }
+    requires table { IsTableOf message.now table.old }
+    ensures ok { IfOk result (Appends message.now stop field at octets.old octets.new) }
+    ensures table { IsTableOf message.now table.new }
 {
     match field {
         Field::Numbers(count) => append_octets(message, count, at, stop, octets),
-        Field::Name => append_name(message, at, stop, octets),
+        Field::Name => append_name(alloc, message, at, stop, table, octets),
         Field::CharacterString => append_character_string(message, at, stop, octets),
         Field::Rest => append_octets(message, stop - at, at, stop, octets),
     }
@@ -75,30 +88,52 @@ fn append_field(
 
 // Its letters stay as they came.
 fn append_name(
+    alloc: Global,
     message: &[u8],
     at: usize,
     stop: usize,
+    table: &mut NameTable,
     octets: &mut Octets,
 ) -> Result<Option<usize>, OutOfMemory>
-    ensures { IfOk result (Appends message.now stop Field.Name at octets.old octets.new) }
+    requires { IsTableOf message.now table.old }
+    ensures ok { IfOk result (Appends message.now stop Field.Name at octets.old octets.new) }
+    ensures table { IsTableOf message.now table.new }
 {
-    let mut labels = NameLabels::of(message, at);
-    loop {
-        match labels.next() {
-            Some(NameStep::Label(label)) => {
-                octets.append(&[label.len() as u8])?;
-                octets.append(label)?;
-            }
-            Some(NameStep::End(end)) => {
-                if end > stop {
-                    return Ok(None);
-                }
-                octets.append(&[0])?;
-                return Ok(Some(end));
-            }
-            None => return Ok(None),
-        }
+    let near = if table.is_open() { 0 } else { NEAR_OCTETS };
+    let Some(whole) = whole_at(message, at, near) else {
+        return append_far_name(alloc, message, at, stop, table, octets);
+    };
+    if whole.end > stop {
+        return Ok(None);
     }
+    octets.append(octets_between(message, whole.start, whole.start + whole.size))?;
+    Ok(Some(whole.end))
+}
+
+// Run by run.
+fn append_far_name(
+    alloc: Global,
+    message: &[u8],
+    at: usize,
+    stop: usize,
+    table: &mut NameTable,
+    octets: &mut Octets,
+) -> Result<Option<usize>, OutOfMemory>
+    requires { IsTableOf message.now table.old }
+    ensures ok { IfOk result (Appends message.now stop Field.Name at octets.old octets.new) }
+    ensures table { IsTableOf message.now table.new }
+{
+    let mut name = ArrayVec::new();
+    let end = match write_out(alloc, message, at, table, &mut name) {
+        Ok(end) => end,
+        Err(NotRead::Faulty) => return Ok(None),
+        Err(NotRead::OutOfMemory) => return Err(AllocError),
+    };
+    if end > stop {
+        return Ok(None);
+    }
+    octets.append(name.as_slice())?;
+    Ok(Some(end))
 }
 
 fn append_character_string(

@@ -1,7 +1,7 @@
 ghost use Rattle.std.specs.Prelude.{◌≡◌, ◌+◌, ◌≤◌, ◌<◌, ℕ, List, IfSome, IfNone, length, drop};
 ghost use Rattle.dname.specs.Name.{Label, wire_of};
 ghost use Rattle.dnswire.specs.MessageName.{Reads};
-ghost use Rattle.dnswire.specs.Runs.{IsRunEnd, IsRunAt, HasNoRoom};
+ghost use Rattle.dnswire.specs.Runs.{IsRunEnd, IsRunAt, HasNoRoom, Stand};
 
 use crate::name_labels::{Piece, piece_at};
 
@@ -18,7 +18,10 @@ pub(crate) struct Run {
 pub(crate) fn run_at(message: &[u8], at: usize, room: usize) -> Option<Run>
     requires { room ≤ 255 }
     ensures read { IfSome result (IsRunAt message.now at) }
+    ensures labels { IfSome result (λ run. (labels : List Label)
+        × Stand message.now at labels (at + run.size)) }
     ensures room { IfSome result (λ run. run.size < room) }
+    ensures within { IfSome result (λ run. at + run.size ≤ length message.now) }
     ensures none { IfNone result (HasNoRoom message.now at room) }
 {
     let Some(last) = labels_end(message, at, room) else {
@@ -39,6 +42,8 @@ pub(crate) fn run_at(message: &[u8], at: usize, room: usize) -> Option<Run>
 fn labels_end(message: &[u8], at: usize, room: usize) -> Option<usize>
     requires { room ≤ 255 }
     ensures read { IfSome result (IsRunEnd message.now at) }
+    ensures labels { IfSome result (λ last. (labels : List Label)
+        × Stand message.now at labels last) }
     ensures room { IfSome result (λ last. last < at + room) }
     ensures none { IfNone result ((start end : ℕ) (labels : List Label)
         → Reads message.now start at labels end → room < length (wire_of labels)) }

@@ -4,7 +4,8 @@ ghost use Rattle.dnswire.specs.declared.message.Message.{Message};
 ghost use Rattle.dnswire.specs.declared.wire_fault.WireFault.{WireFault};
 
 use crate::header::{HEADER_OCTETS, Header};
-use crate::message_name::read_name;
+use crate::message_name::name_or_fault;
+use crate::name_table::NameTable;
 use crate::question_fields::QuestionFields;
 use crate::section::read_section;
 use crate::{RrList, WireFault};
@@ -55,15 +56,14 @@ fn message_of(alloc: Global, octets: &[u8]) -> Result<Message, WireFault>
     if header.questions != 1 {
         return Err(WireFault::BadCount);
     }
-    let Some((name, fields_at)) = read_name(octets, HEADER_OCTETS) else {
-        return Err(WireFault::BadName { at: HEADER_OCTETS });
-    };
+    let mut table = NameTable::empty(alloc);
+    let (name, fields_at) = name_or_fault(alloc, octets, HEADER_OCTETS, &mut table)?;
     let Some(question) = QuestionFields::read(octets, fields_at) else {
         return Err(WireFault::Short);
     };
-    let (answer, at) = read_section(alloc, octets, question.end, header.answers)?;
-    let (authority, at) = read_section(alloc, octets, at, header.authorities)?;
-    let (additional, _) = read_section(alloc, octets, at, header.additionals)?;
+    let (answer, at) = read_section(alloc, octets, question.end, header.answers, &mut table)?;
+    let (authority, at) = read_section(alloc, octets, at, header.authorities, &mut table)?;
+    let (additional, _) = read_section(alloc, octets, at, header.additionals, &mut table)?;
     Ok(Message {
         id: header.id,
         flags: header.flags,

@@ -1,10 +1,12 @@
 ghost use Rattle.std.specs.Prelude.{◌≡◌, ◌⊎◌, IfOk, IfErr};
+ghost use Rattle.dnswire.specs.Expansions.{IsTableOf};
 ghost use Rattle.dnswire.specs.Message.{IsRr, HasRrFault};
 ghost use Rattle.dnswire.specs.declared.wire_fault.WireFault.{WireFault};
 
 use crate::WireFault;
 use crate::data::read_data;
-use crate::message_name::read_name;
+use crate::message_name::name_or_fault;
+use crate::name_table::NameTable;
 use crate::rr_fields::RrFields;
 use dname::{ItemList, Name, Octets};
 use std::alloc::Global;
@@ -26,18 +28,30 @@ pub struct Rr {
 
 impl Rr {
     /// The record at the offset, and the offset after it.
-    pub(crate) fn read(alloc: Global, message: &[u8], at: usize) -> Result<(Rr, usize), WireFault>
+    pub(crate) fn read(
+        alloc: Global,
+        message: &[u8],
+        at: usize,
+        table: &mut NameTable,
+    ) -> Result<(Rr, usize), WireFault>
+        requires { IsTableOf message.now table.old }
         ensures read { IfOk result (λ read. IsRr message.now at read.0 read.1) }
         ensures refused { IfErr result (λ fault. (fault ≡ WireFault.OutOfMemory)
             ⊎ HasRrFault message.now at fault) }
+        ensures table { IsTableOf message.now table.new }
     {
-        let Some((owner, fields_at)) = read_name(message, at) else {
-            return Err(WireFault::BadName { at });
-        };
+        let (owner, fields_at) = name_or_fault(alloc, message, at, table)?;
         let Some(fields) = RrFields::read(message, fields_at) else {
             return Err(WireFault::Short);
         };
-        let octets = read_data(alloc, message, fields.rtype, fields.data_at, fields.end)?;
+        let octets = read_data(
+            alloc,
+            message,
+            fields.rtype,
+            fields.data_at,
+            fields.end,
+            table,
+        )?;
         let rr = Rr {
             owner,
             rtype: fields.rtype,

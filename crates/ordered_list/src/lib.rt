@@ -5,5 +5,5 @@ mod ordered_list;
 mod ranking;
 
 pub use ordered_list::OrderedList;
-pub use page_list::{Iter, OutOfMemory};
+pub use page_list::{Iter, Marking, OutOfMemory};
 pub use ranking::Ranking;

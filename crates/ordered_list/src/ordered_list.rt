@@ -5,20 +5,20 @@ ghost use Rattle.std.specs.List.Sorted.{IsPartitionedBy};
 ghost use Rattle.std.specs.Ordering.{is_lt, is_eq};
 ghost use Rattle.std.specs.Fn.{FnReturnsAt};
 ghost use Rattle.std.specs.Arc.{arc_value};
+ghost use Rattle.page_list.specs.Marks.{PartsAtMark};
 ghost use Rattle.ordered_list.specs.Order.{IsInOrder, entry_at, with_entry, without_entry};
 
 use crate::Ranking;
-use page_list::{Iter, OutOfMemory, PageList};
+use page_list::{Iter, MarkedList, OutOfMemory};
 use std::alloc::Global;
-use std::marker::{Model, PhantomData};
+use std::marker::Model;
 use std::sync::Arc;
 
 /// Entries in strict order, seen as their list: of those that rank equal it holds one. A change makes another list,
 /// which shares with this one all that it does not touch, and reads no more of it than its place.
 #[derive(Drop)]
 pub struct OrderedList<T: Drop, R: Ranking<T>> {
-    list: PageList<T>,
-    by: PhantomData<R>,
+    list: MarkedList<T, R>,
 }
 
 impl<T: Drop, R: Ranking<T>> Model for OrderedList<T, R> {
@@ -38,8 +38,7 @@ impl<T: Drop, R: Ranking<T>> OrderedList<T, R> {
         ensures { result ≡ [] }
     {
         OrderedList {
-            list: PageList::empty(alloc),
-            by: PhantomData,
+            list: MarkedList::empty(alloc),
         }
     }
 
@@ -71,7 +70,7 @@ impl<T: Drop, R: Ranking<T>> OrderedList<T, R> {
         self.list.iter()
     }
 
-    /// The entry that ranks equal with `like`: about 20 comparisons at 131,072 entries.
+    /// The entry that ranks equal with `like`. It is compared with entries of its own mark alone.
     pub fn at(&self, like: &T) -> Option<&Arc<T>>
         ensures entry { option_map (λ entry. arc_value entry.now) result
             ≡ entry_at R.cmp like.now self.now }
@@ -90,7 +89,8 @@ impl<T: Drop, R: Ranking<T>> OrderedList<T, R> {
         ensures count { result ≡ length (filter (λ x. is_lt (R.cmp x like.now)) self.now) }
         ensures in_range { result ≤ length self.now }
     {
-        self.list.find(|entry| R::compare(entry, like).is_lt())
+        self.list
+            .find_at(R::mark(like), |entry| R::compare(entry, like).is_lt())
     }
 
     // How many entries rank below `like`, and how many don't rank above it.
@@ -122,6 +122,19 @@ impl<T: Drop, R: Ranking<T>> OrderedList<T, R> {
         self.list.find(before)
     }
 
+    /// How many entries `before` holds of, where these are the first ones: all with a lesser mark, and none with a greater
+    /// one. It is asked of entries with the mark itself alone.
+    pub fn find_at<F: Fn(&T) -> bool>(&self, mark: u64, before: F) -> usize
+        requires { F.IsAlwaysCallable before }
+        ensures in_range { result ≤ length self.now }
+        ensures exact { (p : T → Bool)
+            → ((x : T) (r : Bool) → FnReturnsAt F.Fn before x r → r ≡ p x)
+            → PartsAtMark R.mark mark p self.now → result ≡ prefix_len p self.now }
+        ensures in_order { IsInOrder R.cmp self.now }
+    {
+        self.list.find_at(mark, before)
+    }
+
     /// The list with the entry in its place, and so in the place of the one that ranks equal, if there is one.
     pub fn with(&self, alloc: Global, entry: Arc<T>) -> Result<OrderedList<T, R>, OutOfMemory>
         ensures made { IfOk result (λ made. made ≡ with_entry R.cmp (arc_value entry) self.now) }
@@ -131,10 +144,7 @@ impl<T: Drop, R: Ranking<T>> OrderedList<T, R> {
         let mut items = Vec::with_capacity(alloc, 1)?;
         items.push(entry)?;
         let list = self.list.with_replaced(alloc, from, to, items)?;
-        Ok(OrderedList {
-            list,
-            by: PhantomData,
-        })
+        Ok(OrderedList { list })
     }
 
     /// The list without the entry that ranks equal with `like`.
@@ -144,10 +154,7 @@ impl<T: Drop, R: Ranking<T>> OrderedList<T, R> {
     {
         let (from, to) = self.place(like);
         let list = self.list.with_replaced(alloc, from, to, Vec::new(alloc))?;
-        Ok(OrderedList {
-            list,
-            by: PhantomData,
-        })
+        Ok(OrderedList { list })
     }
 
     /// The list without its first `n` entries.
@@ -156,10 +163,7 @@ impl<T: Drop, R: Ranking<T>> OrderedList<T, R> {
         ensures { IfOk result (λ made. made ≡ drop n self.now) }
     {
         let list = self.list.with_replaced(alloc, 0, n, Vec::new(alloc))?;
-        Ok(OrderedList {
-            list,
-            by: PhantomData,
-        })
+        Ok(OrderedList { list })
     }
 }
 

@@ -23,3 +23,7 @@ after_success plan = record plan { calls = next_count plan.calls }
 -- the plan after a call that failed
 abbrev pub after_fault : Plan → Plan
 after_fault plan = record plan { calls = next_count plan.calls; faults = next_count plan.faults }
+
+-- the plan after a fault that is no call
+abbrev pub after_note : Plan → Plan
+after_note plan = record plan { faults = next_count plan.faults }

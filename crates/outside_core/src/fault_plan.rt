@@ -1,6 +1,6 @@
-ghost use Rattle.std.specs.Prelude.{◌≡◌, ◌↔◌, IsTrue};
+ghost use Rattle.std.specs.Prelude.{◌≡◌, ◌≤◌, ◌↔◌, IsTrue};
 ghost use Rattle.outside_core.specs.Fault.{Rose};
-ghost use Rattle.outside_core.specs.FaultPlan.{plan_of, IsDue, after_success, after_fault};
+ghost use Rattle.outside_core.specs.FaultPlan.{plan_of, IsDue, after_success, after_fault, after_note};
 
 use crate::Failed;
 use std::marker::Model;
@@ -54,5 +54,20 @@ impl FaultPlan {
     {
         self.calls = self.calls.saturating_add(1);
         Failed::counted(&mut self.faults)
+    }
+
+    /// Counts a fault that is no call.
+    pub fn note(&mut self)
+        ensures noted { self.new ≡ after_note self.old }
+        ensures rose { Rose self.old.faults self.new.faults }
+    {
+        let _failed = Failed::counted(&mut self.faults);
+    }
+
+    /// Whether there was a fault.
+    pub fn has_failed(&self) -> bool
+        ensures { IsTrue result ↔ (1 ≤ self.now.faults) }
+    {
+        self.faults > 0
     }
 }

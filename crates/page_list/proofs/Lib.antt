@@ -1,3 +1,5 @@
+pub mod Marks
 pub mod Pages
 pub mod Rows
 pub mod Search
+pub mod Values

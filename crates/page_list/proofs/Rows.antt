@@ -1,10 +1,10 @@
-use Rattle.std.proofs.Common.{◌≡◌, ℕ, zero, suc, ◌+◌, ◌-◌, ◌<◌, ◌≤◌, List, [], ◌∷◌, ◌++◌, length, get_or, take, drop, map, reverse, refl, sym, ◌∙◌, ap, append_assoc, length-append, add-zero, inl, inr, arith}
-use Rattle.std.proofs.lemmas.List.{append-nil, map-append, length-map, take_more, drop_more, take-append-drop, get_or-map, get_or_default, get_or_push, get_or_append_left, length_push, length-take, take-append-le, drop-append-le, take_all, reverse-append}
+use Rattle.std.proofs.Common.{◌≡◌, ℕ, zero, suc, ◌+◌, ◌-◌, ◌<◌, ◌≤◌, List, [], ◌∷◌, ◌++◌, length, get_or, set, take, drop, map, reverse, refl, subst, ◌⊎◌, sym, ◌∙◌, ap, append_assoc, length-append, add-zero, inl, inr, arith}
+use Rattle.std.proofs.lemmas.List.{append-nil, map-append, length-map, take_more, drop_more, take-append-drop, get_or-map, get_or_default, get_or_push, get_or_append_left, length_push, length-take, take-append-le, drop-append-le, take_all, reverse-append, length-set, get_or-set_same, get_or-set_other, take-set, take-set-le, drop-set-lt}
 use Rattle.std.proofs.lemmas.List.Concat.{flat_map-append, get_or-flat_map}
 use Rattle.std.proofs.lemmas.Bool.{cases_lt}
 use Rattle.std.proofs.Math.Seq.{take-append-add, drop-append-add}
 use Rattle.std.specs.List.{flat_map}
-use Rattle.page_list.specs.Rows.{IsEnds, IsPlace, IsSeam}
+use Rattle.page_list.specs.Rows.{AreMoved, IsEnds, IsPlace, IsSeam}
 
 -- the ends of the blocks so far, and the last of them
 pub record HasEnds {X A : Type 0} (f : X → List A) (xs : List X) (ends : List ℕ) (end : ℕ) : Type 0 where
@@ -177,3 +177,118 @@ clean_whole f left right none all front back items from to p x q y l first secon
     let at_r : drop to (flat_map f right) ≡ flat_map f (drop q right) =
     second.right l ∙ (ap (λ n. drop n (f (get_or right q l)) ++ flat_map f (drop (q + 1) right)) start ∙ sym (ap (flat_map f) (drop_more right q l second.in_range))) in
     rw (e_all, e_front, e_back, is_none, flat_map-append, flat_map-append, at_l, at_r, no_items) refl
+
+pub nat_cases : (k p : ℕ) → (k ≡ p) ⊎ (k ≡ p → ⊥)
+nat_cases k p = elim (cases_lt k p) [
+  | inl lt ↦ inr (λ same. omega arith)
+  | inr le ↦
+      elim (cases_lt p k) [
+        | inl more ↦ inr (λ same. omega arith)
+        | inr ge ↦ inl (omega arith)
+      ]
+]
+
+-- a place that no block but p has, or at which p starts or ends
+pub IsSeam-in_block : {X A : Type 0} (f : X → List A) (xs : List X) (at p start end : ℕ) → p < length xs → start ≡ length (flat_map f (take p xs)) → end ≡ length (flat_map f (take (p + 1) xs)) → start ≤ at → at ≤ end → IsSeam f xs at p (at - start)
+IsSeam-in_block f xs at p start end h is_start is_end from to =
+    IsSeam-from_place f xs at p (at - start) h (omega arith) (λ d. let more = length_more f xs p (get_or xs p d) h (get_or_default xs p (get_or xs p d) d h) in omega arith)
+
+pub block_end : {X A : Type 0} (f : X → List A) (xs : List X) (ends : List ℕ) (p end : ℕ) → IsEnds f xs ends → p < length xs → end ≡ get_or ends p end → end ≡ length (flat_map f (take (p + 1) xs))
+block_end f xs ends p end has h is = is ∙ (get_or_default ends p end 0 (omega (arith, has.one_each)) ∙ has.sums p h)
+
+-- the entries where a block stands in the place of another one
+flat_set : {X A : Type 0} (f : X → List A) (xs : List X) (p : ℕ) (b : X) → p < length xs → flat_map f (set xs p b) ≡ flat_map f (take p xs) ++ (f b ++ flat_map f (drop (p + 1) xs))
+flat_set f xs p b h =
+    flat_split f (set xs p b) p b (rw (length-set xs p b) h)
+    ∙ (ap (λ z. flat_map f z ++ (f (get_or (set xs p b) p b) ++ flat_map f (drop (p + 1) (set xs p b)))) (take-set xs p b)
+    ∙ (ap (λ z. flat_map f (take p xs) ++ (f z ++ flat_map f (drop (p + 1) (set xs p b)))) (get_or-set_same xs p b b h)
+    ∙ ap (λ z. flat_map f (take p xs) ++ (f b ++ flat_map f z)) (drop-set-lt (p + 1) xs p b (omega arith))))
+
+pub replaced_whole : {X A : Type 0} (f : X → List A) (xs all : List X) (items : List A) (from to p x y : ℕ) (b b' : X) → IsSeam f xs from p x → IsSeam f xs to p y → b ≡ get_or xs p b → f b' ≡ take x (f b) ++ items ++ drop y (f b) → all ≡ set xs p b' → flat_map f all ≡ take from (flat_map f xs) ++ items ++ drop to (flat_map f xs)
+replaced_whole f xs all items from to p x y b b' first last is new whole =
+    let start : take from (flat_map f xs) ≡ flat_map f (take p xs) ++ take x (f b) = first.left b ∙ ap (λ z. flat_map f (take p xs) ++ take x (f z)) (sym is) in
+    let end : drop to (flat_map f xs) ≡ drop y (f b) ++ flat_map f (drop (p + 1) xs) = last.right b ∙ ap (λ z. drop y (f z) ++ flat_map f (drop (p + 1) xs)) (sym is) in
+    rw (whole, flat_set f xs p b' first.in_range, new, start, end) (simp append_assoc refl)
+
+-- how many entries there are up to a place behind the block that is exchanged
+length_set : {X A : Type 0} (f : X → List A) (xs : List X) (p k : ℕ) (b d : X) → p < length xs → p < k → length (flat_map f (take k (set xs p b))) + length (f (get_or xs p d)) ≡ length (flat_map f (take k xs)) + length (f b)
+length_set f [] p k b d h lt = absurd (omega arith)
+length_set f (x ∷ xs) p zero b d h lt = absurd (omega arith)
+length_set f (x ∷ xs) zero (suc k) b d h lt =
+    omega (arith, length-append (f b) (flat_map f (take k xs)), length-append (f x) (flat_map f (take k xs)))
+length_set f (x ∷ xs) (suc p) (suc k) b d h lt =
+    omega (arith, length_set f xs p k b d (omega arith) (omega arith), length-append (f x) (flat_map f (take k xs)), length-append (f x) (flat_map f (take k (set xs p b))))
+
+-- the ends of a row in which a block stands in the place of another one
+pub IsEnds-set : {X A : Type 0} (f : X → List A) (xs : List X) (ends ends' : List ℕ) (p old new : ℕ) (b b' : X) → p < length xs → b ≡ get_or xs p b → old ≡ length (f b) → new ≡ length (f b') → AreMoved ends p old new ends' → IsEnds f xs ends → IsEnds f (set xs p b') ends'
+IsEnds-set f xs ends ends' p old new b b' h is is_old is_new moved was = record {
+  one_each = moved.one_each ∙ (was.one_each ∙ sym (length-set xs p b'));
+  sums = λ k lt. elim (cases_lt k p) [
+    | inl front ↦
+        moved.before k front
+        ∙ (was.sums k (omega (arith, length-set xs p b')) ∙ ap (λ z. length (flat_map f z)) (sym (take-set-le (k + 1) xs p b' (omega arith))))
+    | inr behind ↦
+        (let in_xs : k < length xs = omega (arith, length-set xs p b') in
+        let e = length_set f xs p (k + 1) b' b h (omega arith) in
+        let same : length (f (get_or xs p b)) ≡ old = ap (λ z. length (f z)) (sym is) ∙ sym is_old in
+        omega (arith, e, same, moved.behind k behind (omega (arith, was.one_each)), was.sums k in_xs))
+  ];
+}
+
+-- each end from a block's on is no less than its length
+pub end_is_past : {X A : Type 0} (f : X → List A) (xs : List X) (ends : List ℕ) (p old k : ℕ) (b : X) → p < length xs → b ≡ get_or xs p b → old ≡ length (f b) → IsEnds f xs ends → p ≤ k → k < length ends → old ≤ get_or ends k 0
+end_is_past f xs ends p old k b h is is_old was le lt =
+    omega (arith, was.one_each, was.sums k (omega (arith, was.one_each)), length_along f xs (p + 1) (k + 1) (omega arith), length_more f xs p b h (sym is))
+
+-- the numbers up to k are moved
+pub record AreMovedTo (numbers : List ℕ) (p old new k : ℕ) (made : List ℕ) : Type 0 where
+  pub one_each : length made ≡ length numbers
+  pub order : p ≤ k
+  pub before : (j : ℕ) → j < p → get_or made j 0 ≡ get_or numbers j 0
+  pub behind : (j : ℕ) → p ≤ j → j < k → j < length numbers → get_or made j 0 + old ≡ get_or numbers j 0 + new
+  pub rest : (j : ℕ) → k ≤ j → get_or made j 0 ≡ get_or numbers j 0
+
+pub AreMovedTo-start : (numbers : List ℕ) (p old new : ℕ) → AreMovedTo numbers p old new p numbers
+AreMovedTo-start numbers p old new = record {
+  one_each = refl;
+  order = omega arith;
+  before = λ j lt. refl;
+  behind = λ j le lt lt'. absurd (omega arith);
+  rest = λ j le. refl;
+}
+
+pub AreMovedTo-more : (numbers : List ℕ) (p old new k number was_number : ℕ) (made : List ℕ) → AreMovedTo numbers p old new k made → k < length made → was_number ≡ get_or made k was_number → old ≤ was_number → number ≡ was_number - old + new → AreMovedTo numbers p old new (k + 1) (set made k number)
+AreMovedTo-more numbers p old new k number was_number made was lt is le e =
+    let read : was_number ≡ get_or made k 0 = is ∙ get_or_default made k was_number 0 lt in
+    record {
+      one_each = length-set made k number ∙ was.one_each;
+      order = omega (arith, was.order);
+      before = λ j lt'. get_or-set_other made k j number 0 (λ same. omega (arith, was.order)) ∙ was.before j lt';
+      behind = λ j le' lt' in_range. elim (nat_cases j k) [
+        | inl same ↦
+            (let at : get_or (set made k number) j 0 ≡ number = ap (λ n. get_or (set made k number) n 0) same ∙ get_or-set_same made k number 0 lt in
+            let old_at : get_or made j 0 ≡ get_or numbers j 0 = was.rest j (omega arith) in
+            let here : get_or made j 0 ≡ was_number = ap (λ n. get_or made n 0) same ∙ sym read in
+            omega (arith, at, old_at, here))
+        | inr apart ↦
+            (let e' = get_or-set_other made k j number 0 apart in
+            let below : j < k = elim (cases_lt j k) [ inl b ↦ b | inr a ↦ absurd (apart (omega arith)) ] in
+            omega (arith, e', was.behind j le' below in_range))
+      ];
+      rest = λ j le'. get_or-set_other made k j number 0 (λ same. omega arith) ∙ was.rest j (omega arith);
+    }
+
+pub AreMovedTo-done : (numbers : List ℕ) (p old new k : ℕ) (made : List ℕ) → AreMovedTo numbers p old new k made → length made ≤ k → AreMoved numbers p old new made
+AreMovedTo-done numbers p old new k made was le = record {
+  one_each = was.one_each;
+  before = was.before;
+  behind = λ j le' lt. was.behind j le' (omega (arith, was.one_each)) lt;
+}
+
+-- where new is old nothing moves
+pub AreMoved-same : (numbers made : List ℕ) (p old new : ℕ) → made ≡ numbers → new ≡ old → AreMoved numbers p old new made
+AreMoved-same numbers made p old new is same = record {
+  one_each = ap length is;
+  before = λ k lt. ap (λ z. get_or z k 0) is;
+  behind = λ k le lt. ap (λ z. get_or z k 0 + old) is ∙ ap (λ n. get_or numbers k 0 + n) (sym same);
+}

@@ -1,4 +1,4 @@
-use Rattle.std.proofs.Common.{◌≡◌, ℕ, ◌+◌, ◌-◌, ◌<◌, ◌≤◌, Bool, true, false, List, [], ◌∷◌, length, get_or, take, inl, inr, arith, refl, sym, ap, ◌∙◌}
+use Rattle.std.proofs.Common.{◌≡◌, ℕ, ◌+◌, ◌-◌, ◌<◌, ◌≤◌, Bool, true, false, List, [], ◌∷◌, length, get_or, take, inl, inr, arith, refl, sym, ap, subst, ◌∙◌}
 use denote.Ref.{Bor}
 use denote.Param.Members.{Shared}
 use Rattle.std.specs.Fn.{FnReturnsAt}
@@ -7,14 +7,15 @@ use Rattle.std.proofs.lemmas.List.{get_or_read}
 use Rattle.std.specs.List.{flat_map, prefix_len}
 use Rattle.std.specs.List.Sorted.{IsPartitionedBy}
 use Rattle.page_list.proofs.Rows.{length_more, entry_at}
-use Rattle.page_list.specs.Search.{HasNarrowed}
+use Rattle.page_list.specs.Marks.{Marked}
+use Rattle.page_list.specs.Search.{IsTestOf, HasNarrowed}
 use Rattle.std.proofs.lemmas.List.Sums.{prefix_len_is, prefix_len_passes, prefix_len_stops}
 use Rattle.std.proofs.lemmas.Bool.{cases_lt}
 
 -- what a call at the entry `middle` tells of any test that the calls compute
-pub answered : {X F : Type 0} (g : Shared F (Bor X × Unit {0}) Bool) (f : F) (xs : List X) (middle : ℕ) (y : Bor X) (r b : Bool) → middle < length xs → y.now ≡ get_or xs middle y.now → g.post f (y, tt) r → r ≡ b → (p : X → Bool) → ((x : X) (s : Bool) → FnReturnsAt g f x s → s ≡ p x) → (d : X) → p (get_or xs middle d) ≡ b
-answered g f xs middle y r b h e post eq p test d =
-    sym (test y.now b (says_at g {f = f} {y = y} {r = r} {v = b} post eq) ∙ ap p (get_or_read xs middle y.now h e d))
+pub answered : {X F : Type 0} (g : Shared F (Bor X × Unit {0}) Bool) (f : F) (xs : List (Marked X)) (middle : ℕ) (entry : Marked X) (y : Bor X) (r b : Bool) → middle < length xs → entry ≡ get_or xs middle entry → y.now ≡ entry.value → g.post f (y, tt) r → r ≡ b → (p : Marked X → Bool) → IsTestOf g f p → (d : Marked X) → p (get_or xs middle d) ≡ b
+answered g f xs middle entry y r b h e shown post eq p test d =
+    sym (test entry b (subst (λ x. FnReturnsAt g f x b) shown (says_at g {f = f} {y = y} {r = r} {v = b} post eq)) ∙ ap p (get_or_read xs middle entry h e d))
 
 pub HasNarrowed-start : {X : Type 0} (xs : List X) (IsTest : (X → Bool) → Type 0) → HasNarrowed xs IsTest 0 (length xs)
 HasNarrowed-start xs IsTest = record {

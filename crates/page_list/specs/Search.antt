@@ -2,12 +2,18 @@
 use Rattle.std.specs.Prelude.{◌≡◌, ℕ, ◌<◌, ◌≤◌, Bool, true, false, List, length, get_or}
 use Rattle.std.specs.Fn.{FnReturnsAt}
 use Rattle.std.specs.List.Sorted.{IsPartitionedBy}
+use Rattle.page_list.specs.Marks.{Marked, mark_of, PartsAtMark}
 use denote.Ref.{Bor}
 use denote.Param.Members.{Shared}
 
--- each call of the closure f answers as the test p does
-abbrev pub IsTestOf : {F X : Type 0} → Shared F (Bor X × Unit {0}) Bool → F → (X → Bool) → Type 0
-IsTestOf {F} {X} g f p = (x : X) (r : Bool) → FnReturnsAt g f x r → r ≡ p x
+-- each call of the closure f at a value answers as the test p does of the entry
+abbrev pub IsTestOf : {F X : Type 0} → Shared F (Bor X × Unit {0}) Bool → F → (Marked X → Bool) → Type 0
+IsTestOf {F} {X} g f p = (entry : Marked X) (r : Bool) → FnReturnsAt g f entry.value r → r ≡ p entry
+
+-- the same, where the marks of entries agree with the test
+pub record IsTestAt {F X : Type 0} (g : Shared F (Bor X × Unit {0}) Bool) (f : F) (mark : ℕ) (entries : List (Marked X)) (p : Marked X → Bool) : Type 0 where
+  pub answers : IsTestOf g f p
+  pub parts : PartsAtMark mark_of mark p entries
 
 -- by each test that holds of the first entries alone: it holds before low, and fails from high on
 pub record HasNarrowed {X : Type 0} (xs : List X) (IsTest : (X → Bool) → Type 0) (low high : ℕ) : Type 0 where

@@ -1,22 +1,23 @@
 //! A block: one or more entries that lie together, a page or a run of blocks.
-ghost use Rattle.std.specs.Prelude.{◌≡◌, ◌<◌, ◌≤◌, ◌++◌, Bool, List, length, take, drop, map, IfOk, slice_index_or};
+ghost use Rattle.std.specs.Prelude.{◌≡◌, ◌<◌, ◌≤◌, ◌++◌, Bool, List, length, take, drop, map, IfOk, IfSome, slice_index_or};
 ghost use Rattle.std.specs.List.{flat_map, prefix_len};
 ghost use Rattle.std.specs.List.Sorted.{IsPartitionedBy};
 ghost use Rattle.std.specs.Arc.{arc_value};
+ghost use Rattle.page_list.specs.Marks.{Marked, mark_of, PartsAtMark};
 ghost use Rattle.page_list.specs.Search.{IsTestOf};
 
-use crate::OutOfMemory;
+use crate::{Entry, OutOfMemory};
 use std::alloc::Global;
 use std::sync::Arc;
 
 pub(crate) trait Block<T: Drop>: Drop {
     // its entries, in order
-    ghost entries: { Self → List T };
+    ghost entries: { Self → List (Marked T) };
 
     /// The items in new blocks, as even as they go.
-    fn made(alloc: Global, items: Vec<Arc<T>>) -> Result<Vec<Arc<Self>>, OutOfMemory>
+    fn made(alloc: Global, items: Vec<Entry<T>>) -> Result<Vec<Arc<Self>>, OutOfMemory>
         ensures { IfOk result (λ made. flat_map entries (map arc_value made.items)
-            ≡ map arc_value items.items) };
+            ≡ items.items) };
 
     fn len(&self) -> usize
         ensures { result ≡ length (entries self.now) };
@@ -24,37 +25,63 @@ pub(crate) trait Block<T: Drop>: Drop {
     /// Whether it has fewer than half of the parts that it may have.
     fn is_small(&self) -> bool;
 
-    fn first(&self) -> &Arc<T>
+    fn first(&self) -> &Entry<T>
         ensures some { 0 < length (entries self.now) }
-        ensures first { arc_value result.now
-            ≡ slice_index_or (entries self.now) 0 (arc_value result.now) };
+        ensures first { result.now ≡ slice_index_or (entries self.now) 0 result.now };
+
+    /// The mark of its first entry.
+    fn first_mark(&self) -> u64
+        ensures some { 0 < length (entries self.now) }
+        ensures first { (a : Marked T) → result ≡ mark_of (slice_index_or (entries self.now) 0 a) };
 
     /// The entries from the entry `i` on, as far as its page goes.
-    fn page_from(&self, i: usize) -> &[Arc<T>]
+    fn page_from(&self, i: usize) -> &[Entry<T>]
         requires { i < length (entries self.now) }
         ensures some { 0 < length result.now }
-        ensures entries { map arc_value result.now
-            ≡ take (length result.now) (drop i (entries self.now)) };
+        ensures entries { result.now ≡ take (length result.now) (drop i (entries self.now)) };
 
     /// How many entries `before` holds of, which are the first ones.
     fn find<F: Fn(&T) -> bool>(&self, before: &F) -> usize
         requires { F.IsAlwaysCallable before.now }
         ensures in_range { result ≤ length (entries self.now) }
-        ensures exact { (p : T → Bool) → IsTestOf F.Fn before.now p
+        ensures exact { (p : Marked T → Bool) → IsTestOf F.Fn before.now p
             → IsPartitionedBy p (entries self.now) → result ≡ prefix_len p (entries self.now) };
+
+    /// The same, asked only of entries with the mark: those of a lesser mark come before, those of a greater one don't.
+    fn find_at<F: Fn(&T) -> bool>(&self, mark: u64, before: &F) -> usize
+        requires { F.IsAlwaysCallable before.now }
+        ensures in_range { result ≤ length (entries self.now) }
+        ensures exact { (p : Marked T → Bool) → IsTestOf F.Fn before.now p
+            → PartsAtMark mark_of mark p (entries self.now)
+            → result ≡ prefix_len p (entries self.now) };
+
+    /// The entries with `items` in place of those in `from..to`, in one block of as many parts, or a page that is neither
+    /// small nor too long. None where that can't be, and for want of memory.
+    fn replaced(
+        &self,
+        alloc: Global,
+        from: usize,
+        to: usize,
+        items: &[Entry<T>],
+    ) -> Option<Arc<Self>>
+        requires order { from ≤ to }
+        requires in_range { to ≤ length (entries self.now) }
+        ensures { IfSome result (λ made. entries (arc_value made)
+            ≡ take from (entries self.now) ++ items.now
+            ++ drop to (entries self.now)) };
 
     /// The entries of `left` before `from`, `items`, and the entries of `right` from `to` on, in new blocks.
     fn spliced(
         alloc: Global,
         left: &Self,
         from: usize,
-        items: Vec<Arc<T>>,
+        items: Vec<Entry<T>>,
         right: &Self,
         to: usize,
     ) -> Result<Vec<Arc<Self>>, OutOfMemory>
         requires from_in { from ≤ length (entries left.now) }
         requires to_in { to ≤ length (entries right.now) }
         ensures { IfOk result (λ made. flat_map entries (map arc_value made.items)
-            ≡ take from (entries left.now) ++ map arc_value items.items
+            ≡ take from (entries left.now) ++ items.items
             ++ drop to (entries right.now)) };
 }

@@ -7,7 +7,7 @@ use crate::cut::cut;
 use crate::row::Row;
 use crate::short::{MOST, Short};
 use crate::splice::spliced_row;
-use crate::{Block, OutOfMemory};
+use crate::{Block, Entry, OutOfMemory};
 use std::alloc::Global;
 use std::marker::Model;
 use std::sync::Arc;
@@ -20,9 +20,10 @@ pub(crate) struct Blocks<T: Drop, B: Block<T>> {
 impl<T: Drop, B: Block<T>> Model for Blocks<T, B> {
     ghost use Rattle.std.specs.Prelude.{◌<◌, ◌≤◌, List, length};
     ghost use Rattle.std.specs.List.{flat_map};
+    ghost use Rattle.page_list.specs.Marks.{Marked};
     ghost use Rattle.page_list.specs.declared.short.TheConstants.{MOST};
 
-    ghost Value = { List T };
+    ghost Value = { List (Marked T) };
 
     ghost view = { λ b. flat_map B.entries b.row };
 
@@ -63,9 +64,9 @@ fn blocks_of<T: Drop, B: Block<T>>(
 impl<T: Drop, B: Block<T>> Block<T> for Blocks<T, B> {
     ghost entries = { λ block. block };
 
-    fn made(alloc: Global, items: Vec<Arc<T>>) -> Result<Vec<Arc<Blocks<T, B>>>, OutOfMemory>
+    fn made(alloc: Global, items: Vec<Entry<T>>) -> Result<Vec<Arc<Blocks<T, B>>>, OutOfMemory>
         ensures { IfOk result (λ made. flat_map (λ block. block) (map arc_value made.items)
-            ≡ map arc_value items.items) }
+            ≡ items.items) }
     {
         blocks_of(alloc, B::made(alloc, items)?)
     }
@@ -78,11 +79,15 @@ impl<T: Drop, B: Block<T>> Block<T> for Blocks<T, B> {
         self.row.count() < MOST / 2
     }
 
-    fn first(&self) -> &Arc<T> {
+    fn first(&self) -> &Entry<T> {
         self.row.block(0).first()
     }
 
-    fn page_from(&self, i: usize) -> &[Arc<T>] {
+    fn first_mark(&self) -> u64 {
+        self.row.first_mark()
+    }
+
+    fn page_from(&self, i: usize) -> &[Entry<T>] {
         self.row.page_from(i)
     }
 
@@ -90,18 +95,36 @@ impl<T: Drop, B: Block<T>> Block<T> for Blocks<T, B> {
         self.row.find(before)
     }
 
+    fn find_at<F: Fn(&T) -> bool>(&self, mark: u64, before: &F) -> usize {
+        self.row.find_at(mark, before)
+    }
+
+    fn replaced(
+        &self,
+        alloc: Global,
+        from: usize,
+        to: usize,
+        items: &[Entry<T>],
+    ) -> Option<Arc<Self>> {
+        let row = self.row.replaced(alloc, from, to, items)?;
+        match Arc::new(alloc, Blocks { row }) {
+            Ok(block) => Some(block),
+            Err(_) => None,
+        }
+    }
+
     fn spliced(
         alloc: Global,
         left: &Self,
         from: usize,
-        items: Vec<Arc<T>>,
+        items: Vec<Entry<T>>,
         right: &Self,
         to: usize,
     ) -> Result<Vec<Arc<Self>>, OutOfMemory>
         requires from_in { from ≤ length left.now }
         requires to_in { to ≤ length right.now }
         ensures { IfOk result (λ made. flat_map (λ block. block) (map arc_value made.items)
-            ≡ take from left.now ++ map arc_value items.items ++ drop to right.now) }
+            ≡ take from left.now ++ items.items ++ drop to right.now) }
     {
         blocks_of(
             alloc,

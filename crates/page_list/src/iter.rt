@@ -2,17 +2,19 @@
 ghost use Rattle.std.specs.Prelude.{◌≡◌, ◌++◌, List, [], map, drop};
 ghost use Rattle.std.specs.Iterator.{YieldsFirstBy, item_count};
 ghost use Rattle.std.specs.Arc.{arc_value};
+ghost use Rattle.page_list.specs.Marks.{value_of};
 
-use crate::PageList;
+use crate::Entry;
+use crate::entry_list::EntryList;
 use std::marker::Model;
 use std::sync::Arc;
 
 /// Lends the entries of a list in order, seen as the list of those that are still to come.
 #[derive(Drop)]
 pub struct Iter<'a, T: Drop> {
-    list: &'a PageList<T>,
+    list: &'a EntryList<T>,
     // what is left of the page that is being read
-    page: &'a [Arc<T>],
+    page: &'a [Entry<T>],
     // how many entries of the list there are up to the end of that page
     end: usize,
 }
@@ -20,12 +22,12 @@ pub struct Iter<'a, T: Drop> {
 impl<'a, T: Drop> Model for Iter<'a, T> {
     ghost Value = { List T };
 
-    ghost view = { λ it. map arc_value it.page.now ++ drop it.end it.list.now };
+    ghost view = { λ it. map value_of (it.page.now ++ drop it.end it.list.now) };
 }
 
 impl<'a, T: Drop> Iter<'a, T> {
-    pub(crate) fn over(list: &'a PageList<T>) -> Iter<'a, T>
-        ensures { result ≡ list.now }
+    pub(crate) fn over(list: &'a EntryList<T>) -> Iter<'a, T>
+        ensures { result ≡ map value_of list.now }
     {
         Iter {
             list,
@@ -52,6 +54,6 @@ impl<'a, T: Drop> Iterator for Iter<'a, T> {
         }
         let (entry, rest) = self.page.split_first()?;
         self.page = rest;
-        Some(entry)
+        Some(entry.share())
     }
 }

@@ -1,23 +1,31 @@
 //! A list that stays: a change makes another list, which shares with it all that it does not touch.
 //!
-//! The clauses of `PageList` and `Iter` speak in std's words alone. `specs/`, in reading order, serves what is
-//! private: `Rows` (places in a row of blocks) and `Search` (what a search has told so far).
+//! `PageList` is a `MarkedList` without marks; a `MarkedList` keeps a number beside each entry, by which it searches.
+//! Their clauses speak in std's words but for a search by marks, where `specs/` has `Marks` (a test that marks agree
+//! with). The rest of it serves what is private, in reading order: `Rows` (places in a row of blocks) and `Search` (what
+//! a search has told so far).
 #![tactic(auto)]
 
 mod block;
 mod blocks;
 mod cut;
+mod entries;
+mod entry;
+mod entry_list;
 mod iter;
+mod marked_list;
+mod marking;
 mod page;
-mod page_list;
 mod row;
 mod share;
 mod short;
 mod splice;
 
 pub(crate) use block::Block;
+pub(crate) use entry::Entry;
 pub use iter::Iter;
-pub use page_list::PageList;
+pub use marked_list::{MarkedList, PageList};
+pub use marking::{Marking, NoMarks};
 use std::alloc::AllocError;
 
 /// Want of memory, or of a further owner of an entry.

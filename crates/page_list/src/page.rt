@@ -1,67 +1,118 @@
-//! A page: one to `MOST` shared entries.
-ghost use Rattle.std.specs.Prelude.{◌≡◌, ◌≤◌, ◌++◌, length, take, drop, map, IfOk};
+//! A page: one to `MOST` entries.
+ghost use Rattle.std.specs.Prelude.{◌≡◌, ◌<◌, ◌≤◌, ◌+◌, ◌-◌, ◌++◌, Bool, length, get_or, take, drop, map, IfOk};
 ghost use Rattle.std.specs.Arc.{arc_value};
 ghost use Rattle.std.specs.List.{flat_map};
+ghost use Rattle.page_list.specs.declared.short.TheConstants.{MOST};
+ghost use Rattle.page_list.specs.Marks.{Marked};
+ghost use Rattle.page_list.specs.Search.{IsTestAt};
 
 use crate::cut::cut;
-use crate::share::{shared_round, shares_before, shares_from};
+use crate::entries::{entries_before, entries_from, entries_round};
 use crate::short::{MOST, Short};
-use crate::{Block, OutOfMemory};
+use crate::{Block, Entry, OutOfMemory};
 use std::alloc::Global;
 use std::marker::Model;
 use std::sync::Arc;
 
 #[derive(Drop)]
 pub(crate) struct Page<T> {
-    shares: Short<Arc<T>>,
+    entries: Short<Entry<T>>,
 }
 
 impl<T> Model for Page<T> {
-    ghost use Rattle.std.specs.Prelude.{List, map};
-    ghost use Rattle.std.specs.Arc.{arc_value};
+    ghost use Rattle.std.specs.Prelude.{List};
+    ghost use Rattle.page_list.specs.Marks.{Marked};
 
-    ghost Value = { List T };
+    ghost Value = { List (Marked T) };
 
-    ghost view = { λ p. map arc_value p.shares };
+    ghost view = { λ p. p.entries };
+}
+
+impl<T: Drop> Page<T> {
+    // The page with `items` in place of the entries `from..to`.
+    fn with(
+        &self,
+        alloc: Global,
+        from: usize,
+        to: usize,
+        items: &[Entry<T>],
+        count: usize,
+    ) -> Result<Arc<Page<T>>, OutOfMemory>
+        requires order { from ≤ to }
+        requires in_range { to ≤ length self.now }
+        requires count { count ≡ from + length items.now + (length self.now - to) }
+        requires some { 0 < count }
+        requires few { count ≤ MOST }
+        ensures { IfOk result (λ page. arc_value page
+            ≡ take from self.now ++ items.now ++ drop to self.now) }
+    {
+        let entries = self.entries.as_slice();
+        let before = entries_before(entries, from);
+        let entries = entries_round(alloc, before, items, entries_from(entries, to))?;
+        let page = Page {
+            entries: Short::of(entries),
+        };
+        Ok(Arc::new(alloc, page)?)
+    }
+
+    // Whether the entry `i` comes before; its value is read only where its mark doesn't tell.
+    fn is_before<F: Fn(&T) -> bool>(&self, i: usize, mark: u64, before: &F) -> bool
+        requires callable { F.IsAlwaysCallable before.now }
+        requires in_range { i < length self.now }
+        ensures { (q : Marked T → Bool) → IsTestAt F.Fn before.now mark self.now q
+            → (d : Marked T) → q (get_or self.now i d) ≡ result }
+    {
+        let entry = &self.entries.as_slice()[i];
+        let own = entry.mark();
+        if own == mark {
+            before(entry.share())
+        } else {
+            own < mark
+        }
+    }
 }
 
 impl<T: Drop> Block<T> for Page<T> {
     ghost entries = { λ page. page };
 
-    fn made(alloc: Global, items: Vec<Arc<T>>) -> Result<Vec<Arc<Page<T>>>, OutOfMemory>
+    fn made(alloc: Global, items: Vec<Entry<T>>) -> Result<Vec<Arc<Page<T>>>, OutOfMemory>
         ensures { IfOk result (λ made. flat_map (λ page. page) (map arc_value made.items)
-            ≡ map arc_value items.items) }
+            ≡ items.items) }
     {
         let mut pages = Vec::new(alloc);
         for part in cut(alloc, items)? {
-            pages.push(Arc::new(alloc, Page { shares: part })?)?;
+            pages.push(Arc::new(alloc, Page { entries: part })?)?;
         }
         Ok(pages)
     }
 
     fn len(&self) -> usize {
-        self.shares.as_slice().len()
+        self.entries.as_slice().len()
     }
 
     fn is_small(&self) -> bool {
-        self.shares.as_slice().len() < MOST / 2
+        self.entries.as_slice().len() < MOST / 2
     }
 
-    fn first(&self) -> &Arc<T> {
-        &self.shares.as_slice()[0]
+    fn first(&self) -> &Entry<T> {
+        &self.entries.as_slice()[0]
     }
 
-    fn page_from(&self, i: usize) -> &[Arc<T>] {
-        shares_from(self.shares.as_slice(), i)
+    fn first_mark(&self) -> u64 {
+        self.entries.as_slice()[0].mark()
+    }
+
+    fn page_from(&self, i: usize) -> &[Entry<T>] {
+        entries_from(self.entries.as_slice(), i)
     }
 
     fn find<F: Fn(&T) -> bool>(&self, before: &F) -> usize {
-        let shares = self.shares.as_slice();
+        let entries = self.entries.as_slice();
         let mut low = 0;
-        let mut high = shares.len();
+        let mut high = entries.len();
         while low < high {
             let middle = low + (high - low) / 2;
-            if before(&shares[middle]) {
+            if before(entries[middle].share()) {
                 low = middle + 1;
             } else {
                 high = middle;
@@ -70,21 +121,56 @@ impl<T: Drop> Block<T> for Page<T> {
         low
     }
 
+    fn find_at<F: Fn(&T) -> bool>(&self, mark: u64, before: &F) -> usize {
+        let mut low = 0;
+        let mut high = self.len();
+        while low < high {
+            let middle = low + (high - low) / 2;
+            if self.is_before(middle, mark, before) {
+                low = middle + 1;
+            } else {
+                high = middle;
+            }
+        }
+        low
+    }
+
+    fn replaced(
+        &self,
+        alloc: Global,
+        from: usize,
+        to: usize,
+        items: &[Entry<T>],
+    ) -> Option<Arc<Self>> {
+        let kept = from + (self.len() - to);
+        let count = kept.checked_add(items.len())?;
+        if count < MOST / 2 || count > MOST {
+            return None;
+        }
+        match self.with(alloc, from, to, items, count) {
+            Ok(page) => Some(page),
+            Err(_) => None,
+        }
+    }
+
     fn spliced(
         alloc: Global,
         left: &Self,
         from: usize,
-        items: Vec<Arc<T>>,
+        items: Vec<Entry<T>>,
         right: &Self,
         to: usize,
     ) -> Result<Vec<Arc<Self>>, OutOfMemory>
         requires from_in { from ≤ length left.now }
         requires to_in { to ≤ length right.now }
         ensures { IfOk result (λ made. flat_map (λ page. page) (map arc_value made.items)
-            ≡ take from left.now ++ map arc_value items.items ++ drop to right.now) }
+            ≡ take from left.now ++ items.items ++ drop to right.now) }
     {
-        let before = shares_before(left.shares.as_slice(), from);
-        let after = shares_from(right.shares.as_slice(), to);
-        Self::made(alloc, shared_round(alloc, before, items, after)?)
+        let before = entries_before(left.entries.as_slice(), from);
+        let after = entries_from(right.entries.as_slice(), to);
+        Self::made(
+            alloc,
+            entries_round(alloc, before, items.as_slice(), after)?,
+        )
     }
 }

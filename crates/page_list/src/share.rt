@@ -1,5 +1,5 @@
 //! More owners of what is shared.
-ghost use Rattle.std.specs.Prelude.{◌≡◌, ◌++◌, map, IfOk, OnOk, take, drop};
+ghost use Rattle.std.specs.Prelude.{◌≡◌, ◌<◌, ◌++◌, length, map, set, IfOk, OnOk, take, drop};
 ghost use Rattle.std.specs.Arc.{arc_value};
 
 use crate::OutOfMemory;
@@ -25,6 +25,23 @@ pub(crate) fn shared_round<X: Drop>(
     share_onto(&mut all, before)?;
     all.append(&mut between)?;
     share_onto(&mut all, after)?;
+    Ok(all)
+}
+
+/// New owners of the shares, with `share` in the place `p`.
+pub(crate) fn shared_but<X: Drop>(
+    alloc: Global,
+    shares: &[Arc<X>],
+    p: usize,
+    share: Arc<X>,
+) -> Result<Vec<Arc<X>>, OutOfMemory>
+    requires { p < length shares.now }
+    ensures { IfOk result (λ all. map arc_value all.items
+        ≡ set (map arc_value shares.now) p (arc_value share)) }
+{
+    let mut all = Vec::with_capacity(alloc, shares.len())?;
+    share_onto(&mut all, shares)?;
+    all[p] = share;
     Ok(all)
 }
 

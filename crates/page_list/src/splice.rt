@@ -6,7 +6,7 @@ ghost use Rattle.page_list.specs.Rows.{IsSeam};
 
 use crate::row::Row;
 use crate::share::shared_round;
-use crate::{Block, OutOfMemory};
+use crate::{Block, Entry, OutOfMemory};
 use std::alloc::Global;
 use std::sync::Arc;
 
@@ -95,7 +95,7 @@ fn with_right<T: Drop, B: Block<T>>(
 fn is_clean_cut<T: Drop, B: Block<T>>(
     first: &B,
     x: usize,
-    items: &[Arc<T>],
+    items: &[Entry<T>],
     last: &B,
     y: usize,
 ) -> bool
@@ -111,7 +111,7 @@ pub(crate) fn spliced_row<T: Drop, B: Block<T>>(
     alloc: Global,
     left: &Row<T, B>,
     from: usize,
-    items: Vec<Arc<T>>,
+    items: Vec<Entry<T>>,
     right: &Row<T, B>,
     to: usize,
 ) -> Result<Vec<Arc<B>>, OutOfMemory>
@@ -120,7 +120,7 @@ pub(crate) fn spliced_row<T: Drop, B: Block<T>>(
     requires from_in { from ≤ length (flat_map B.entries left.now) }
     requires to_in { to ≤ length (flat_map B.entries right.now) }
     ensures { IfOk result (λ made. flat_map B.entries (map arc_value made.items)
-        ≡ take from (flat_map B.entries left.now) ++ map arc_value items.items
+        ≡ take from (flat_map B.entries left.now) ++ items.items
         ++ drop to (flat_map B.entries right.now)) }
 {
     let inner = from < to && from < left.total();

@@ -1,5 +1,7 @@
 pub mod InsertLemmas
 pub mod KeptLemmas
+pub mod KeyMarkLemmas
+mod MarkLemmas
 pub mod MemberLemmas
 pub mod OrderLemmas
 pub mod RunLemmas

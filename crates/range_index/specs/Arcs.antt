@@ -1,6 +1,6 @@
 -- Lists of spans of a ring, in order of start, of which no two meet.
 use Rattle.std.specs.Prelude.{◌≡◌, ◌≤◌, ℕ, length, Bool, false, true, not, if◌then◌else◌, List, [], ◌∷◌, filter}
-use Rattle.std.specs.List.{AllPairs, AllWithin}
+use Rattle.std.specs.List.{All, AllPairs, AllWithin}
 use Rattle.std.specs.Ordering.{is_lt, is_eq}
 use Rattle.std.specs.declared.cmp.Ordering.{Ordering}
 use Rattle.dname.specs.Arc.{arc_has, arcs_meet}
@@ -20,6 +20,10 @@ starts_before cmp start other span = is_lt (cmp (start span) (start other))
 -- the span doesn't start at the key
 abbrev pub starts_elsewhere : {S K : Type 0} → (K → K → Ordering) → (S → K) → K → S → Bool
 starts_elsewhere cmp start key span = not (is_eq (cmp (start span) key))
+
+-- keys have the same marks from each span's frame as from that one
+abbrev pub AreOfFrame : {S F K : Type 0} → (S → F) → (F → K → ℕ) → F → List S → Type 0
+AreOfFrame {S} {F} {K} frame mark one spans = All (λ span. (key : K) → mark (frame span) key ≡ mark one key) spans
 
 -- spans in order of start, no two of which meet
 pub record IsArcs {S K : Type 0} (cmp : K → K → Ordering) (start end : S → K) (spans : List S) : Type 0 where

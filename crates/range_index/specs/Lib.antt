@@ -1,3 +1,4 @@
 pub mod Arcs
+pub mod Marks
 pub mod Place
 pub mod Steps

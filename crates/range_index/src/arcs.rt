@@ -3,14 +3,15 @@ ghost use Rattle.std.specs.Prelude.{◌≡◌, ◌<◌, [], ◌∷◌, length, f
 ghost use Rattle.std.specs.Fn.{FnReturnsAt};
 ghost use Rattle.std.specs.Arc.{arc_value};
 ghost use Rattle.dname.specs.Arc.{arc_has};
-ghost use Rattle.range_index.specs.Arcs.{span_has, is_apart, starts_elsewhere, IsArcs, FailInRuns, arcs_with};
+ghost use Rattle.range_index.specs.Arcs.{span_has, is_apart, starts_elsewhere, AreOfFrame, IsArcs, FailInRuns, arcs_with};
 ghost use Rattle.range_index.specs.Place.{place_of};
 
 use crate::cut::{list_with, met_in};
 use crate::kept::kept_shares;
+use crate::ring_span::ByStart;
 use crate::search::{candidate, place_in, span_has, starting_at};
 use crate::{Met, OutOfMemory, Place, RingSpan};
-use page_list::{Iter, PageList};
+use page_list::{Iter, MarkedList};
 use std::alloc::Global;
 use std::marker::Model;
 use std::sync::Arc;
@@ -18,28 +19,28 @@ use std::sync::Arc;
 /// Spans whose arcs don't meet, seen as their list in order of start. A change makes another list, which shares with it
 /// what it doesn't touch.
 #[derive(Drop)]
-pub struct Arcs<R: RingSpan> {
-    list: PageList<R>,
+pub struct Arcs<T: Drop, R: RingSpan<T>> {
+    list: MarkedList<T, ByStart<R>>,
 }
 
-impl<R: RingSpan> Model for Arcs<R> {
+impl<T: Drop, R: RingSpan<T>> Model for Arcs<T, R> {
     ghost use Rattle.std.specs.Prelude.{List};
     ghost use Rattle.range_index.specs.Arcs.{IsArcs};
 
-    ghost Value = { List R };
+    ghost Value = { List T };
 
     ghost view = { λ a. a.list };
 
     ghost invariant = { λ a. IsArcs R.Key.Ord.cmp R.start R.end a.list };
 }
 
-impl<R: RingSpan> Arcs<R> {
+impl<T: Drop, R: RingSpan<T>> Arcs<T, R> {
     /// No spans, which take no memory.
-    pub fn empty(alloc: Global) -> Arcs<R>
+    pub fn empty(alloc: Global) -> Arcs<T, R>
         ensures { result ≡ [] }
     {
         Arcs {
-            list: PageList::empty(alloc),
+            list: MarkedList::empty(alloc),
         }
     }
 
@@ -52,7 +53,7 @@ impl<R: RingSpan> Arcs<R> {
     }
 
     /// The span at a place in the order of starts.
-    pub fn get(&self, i: usize) -> &Arc<R>
+    pub fn get(&self, i: usize) -> &Arc<T>
         requires { i < length self.now }
         ensures { arc_value result.now ≡ slice_index_or self.now i (arc_value result.now) }
     {
@@ -60,7 +61,7 @@ impl<R: RingSpan> Arcs<R> {
     }
 
     /// The spans one after another, at a cost linear in their number.
-    pub fn iter(&self) -> Iter<'_, R>
+    pub fn iter(&self) -> Iter<'_, T>
         ensures { result ≡ self.now }
     {
         self.list.iter()
@@ -68,7 +69,8 @@ impl<R: RingSpan> Arcs<R> {
 
     /// The span whose arc has the key, and where in it the key lies; None where no arc has it. The key is compared three
     /// times more at most than a search of the list takes.
-    pub fn at(&self, key: &R::Key) -> Option<(&R, Place)>
+    pub fn at(&self, frame: &R::Key, key: &R::Key) -> Option<(&T, Place)>
+        requires { AreOfFrame R.frame R.mark frame.now self.now }
         ensures span { MatchOption result
             (filter (span_has R.Key.Ord.cmp R.start R.end key.now) self.now ≡ [])
             (λ found. filter (span_has R.Key.Ord.cmp R.start R.end key.now) self.now ≡ found.0.now ∷ []) }
@@ -78,17 +80,18 @@ impl<R: RingSpan> Arcs<R> {
         if self.list.len() == 0 {
             return None;
         }
-        let (place, started) = candidate(&self.list, key);
-        let span: &R = self.list.get(place);
-        if span_has(span, key, started) {
-            Some((span, place_in(span, key, started)))
+        let (place, started) = candidate(&self.list, frame, key);
+        let span: &T = self.list.get(place);
+        if span_has::<T, R>(span, key, started) {
+            Some((span, place_in::<T, R>(span, key, started)))
         } else {
             None
         }
     }
 
     /// The spans whose arcs don't meet the new one's, and the new one.
-    pub fn with(&self, alloc: Global, span: Arc<R>) -> Result<Arcs<R>, OutOfMemory>
+    pub fn with(&self, alloc: Global, span: Arc<T>) -> Result<Arcs<T, R>, OutOfMemory>
+        requires { AreOfFrame R.frame R.mark (R.frame (arc_value span)) self.now }
         ensures { IfOk result (λ made.
             made ≡ arcs_with R.Key.Ord.cmp R.start R.end (arc_value span) self.now) }
     {
@@ -97,7 +100,8 @@ impl<R: RingSpan> Arcs<R> {
     }
 
     /// Which spans `with` drops for this one: those that it meets.
-    pub fn met_by(&self, span: &R) -> Met
+    pub fn met_by(&self, span: &T) -> Met
+        requires { AreOfFrame R.frame R.mark (R.frame span.now) self.now }
         ensures { FailInRuns (is_apart R.Key.Ord.cmp R.start R.end span.now) self.now
             result.from result.to result.last }
     {
@@ -105,24 +109,30 @@ impl<R: RingSpan> Arcs<R> {
     }
 
     /// The spans without the one that starts at the key, if there is one.
-    pub fn without(&self, alloc: Global, key: &R::Key) -> Result<Arcs<R>, OutOfMemory>
+    pub fn without(
+        &self,
+        alloc: Global,
+        frame: &R::Key,
+        key: &R::Key,
+    ) -> Result<Arcs<T, R>, OutOfMemory>
+        requires { AreOfFrame R.frame R.mark frame.now self.now }
         ensures { IfOk result (λ made.
             made ≡ filter (starts_elsewhere R.Key.Ord.cmp R.start key.now) self.now) }
     {
-        let (from, to) = starting_at(&self.list, key);
+        let (from, to) = starting_at(&self.list, frame, key);
         let list = self.list.with_replaced(alloc, from, to, Vec::new(alloc))?;
         Ok(Arcs { list })
     }
 
     /// The spans that `keep` holds of.
-    pub fn kept<F: Fn(&R) -> bool>(&self, alloc: Global, keep: F) -> Result<Arcs<R>, OutOfMemory>
+    pub fn kept<F: Fn(&T) -> bool>(&self, alloc: Global, keep: F) -> Result<Arcs<T, R>, OutOfMemory>
         requires { F.IsAlwaysCallable keep }
-        ensures { IfOk result (λ made. (p : R → Bool)
-            → ((x : R) (r : Bool) → FnReturnsAt F.Fn keep x r → r ≡ p x)
+        ensures { IfOk result (λ made. (p : T → Bool)
+            → ((x : T) (r : Bool) → FnReturnsAt F.Fn keep x r → r ≡ p x)
             → made ≡ filter p self.now) }
     {
         let shares = kept_shares(alloc, &self.list, keep)?;
-        let list = PageList::empty(alloc).with_replaced(alloc, 0, 0, shares)?;
+        let list = MarkedList::empty(alloc).with_replaced(alloc, 0, 0, shares)?;
         Ok(Arcs { list })
     }
 }

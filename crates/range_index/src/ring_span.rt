@@ -1,18 +1,53 @@
 //! Spans between two keys of an order.
-ghost use Rattle.std.specs.Prelude.{◌≡◌};
+ghost use Rattle.std.specs.Prelude.{◌≡◌, ◌<◌, ℕ};
+ghost use Rattle.std.specs.declared.cmp.Ordering.TheVariants.{Less};
 
-/// What is known of an arc: from its start on, and before its end. Where the end isn't after the start, the arc goes over
-/// the end of the order, and one whose start is its end is the whole ring.
-pub trait RingSpan: Drop {
+use page_list::Marking;
+use std::marker::PhantomData;
+
+/// How entries are spans, as a type of its own, so that one type of entries may be spans in several ways. What is known of an
+/// entry's arc: from its start on, and before its end. Where the end isn't after the start, the arc goes over the end of the
+/// order, and one whose start is its end is the whole ring.
+///
+/// A key has a mark of eight octets, by which it is sought first. It is reckoned from a frame, as a name's from a zone's apex,
+/// and the spans of a list have one frame.
+pub trait RingSpan<T> {
     type Key: Ord;
 
-    ghost start: { Self → Self.Key };
+    ghost start: { T → Self.Key };
 
-    ghost end: { Self → Self.Key };
+    ghost end: { T → Self.Key };
 
-    fn start_key(&self) -> &Self::Key
-        ensures { result.now ≡ start self.now };
+    ghost frame: { T → Self.Key };
 
-    fn end_key(&self) -> &Self::Key
-        ensures { result.now ≡ end self.now };
+    ghost mark: { Self.Key → Self.Key → ℕ };
+
+    fn start_key(span: &T) -> &Self::Key
+        ensures { result.now ≡ start span.now };
+
+    fn end_key(span: &T) -> &Self::Key
+        ensures { result.now ≡ end span.now };
+
+    fn frame(span: &T) -> &Self::Key
+        ensures { result.now ≡ frame span.now };
+
+    fn mark(within: &Self::Key, key: &Self::Key) -> u64
+        ensures { result ≡ mark within.now key.now };
+
+    ghost marks_rise: { (frame one other : Self.Key)
+        → mark frame one < mark frame other → Self.Key.Ord.cmp one other ≡ Less };
+}
+
+/// The mark of a span: that of its start.
+#[derive(Drop)]
+pub struct ByStart<R> {
+    spans: PhantomData<R>,
+}
+
+impl<T, R: RingSpan<T>> Marking<T> for ByStart<R> {
+    ghost mark = { λ span. R.mark (R.frame span) (R.start span) };
+
+    fn mark(span: &T) -> u64 {
+        R::mark(R::frame(span), R::start_key(span))
+    }
 }

@@ -24,7 +24,8 @@ use Rattle.ordered_list.proofs.OrderLemmas.{no_duplicates}
 use Rattle.zone_chains.specs.Zone.{OneChain, OneZone, chains_in, records_in, IsOfItsChain, IsOneZone, IsDenialOf, has_records}
 use Rattle.record_store.specs.Dropping.{AreSets, IsZoneLeft, AreWithLeft, AreWithoutLeft, AreZonesLeft}
 use Rattle.record_store.specs.Holding.{chains_of_zones, held_in, IsZoneOf, IsTied, held_rest, AreBut}
-use Rattle.record_store.specs.Ranks.{apex_cmp, going_cmp, goings_total, keys_total}
+use Rattle.record_store.specs.Ranks.{apex_cmp, going_cmp, goings_total, set_cmp, sets_total}
+use Rattle.record_store.proofs.MarkLemmas.{key_tied}
 use Rattle.record_store.proofs.SearchLemmas.{same_names}
 use Rattle.record_store.proofs.ZoneChainLemmas.{AreWhole, one_of_zones, none_of_zones, chains_all_held, chains_left}
 use Rattle.record_store.proofs.ZoneLemmas.{in_flat, some_of_flat}
@@ -96,13 +97,13 @@ apart_first (x ∷ xs) ys apart rest = subst NoneDisplaces (sym rest) (pairs_tai
 -- ---- the sets
 
 module _ (gone : Record) (goings sets : List Record) (zones : List OneZone) (tied : IsTied goings sets zones) (left : List Record) (but : AreBut gone goings left) where
-  pub sets_but : Contains goings gone → (made : List Record) → made ≡ without_entry key_cmp gone sets → AreSets left made
+  pub sets_but : Contains goings gone → (made : List Record) → made ≡ without_entry set_cmp gone sets → AreSets left made
   sets_but listed made is item =
-      let has = without_members key_cmp gone sets item in (
+      let has = without_members set_cmp gone sets item in (
         λ h. (let both = has.0 (subst (λ l. Contains l item) is h) in let was = (tied.sets_are item).0 both.0 in
-            ((but item).1 (was.0, λ same. both.1 (subst (λ r. key_cmp item r ≡ Equal) same (tied_itself keys_total item))), was.1)),
+            ((but item).1 (was.0, λ same. both.1 (subst (λ r. set_cmp item r ≡ Equal) same (tied_itself sets_total item))), was.1)),
         λ h. (let was = (but item).0 h.0 in subst (λ l. Contains l item) (sym is)
-            (has.1 ((tied.sets_are item).1 (was.0, h.1), λ tie. was.1 (one_has_the_key goings tied.apart item gone was.0 listed tie)))),
+            (has.1 ((tied.sets_are item).1 (was.0, h.1), λ tie. was.1 (one_has_the_key goings tied.apart item gone was.0 listed (key_tied item gone tie))))),
       )
 
   pub sets_stay : ((set : SetRec) → gone ≡ Set set → ⊥) → (made : List Record) → made ≡ sets → AreSets left made

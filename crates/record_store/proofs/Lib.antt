@@ -3,6 +3,7 @@ pub mod DroppingLemmas
 pub mod GoingLemmas
 pub mod LongestLemmas
 pub mod LookUpLemmas
+pub mod MarkLemmas
 pub mod PhaseLemmas
 pub mod PutLemmas
 pub mod RestLemmas

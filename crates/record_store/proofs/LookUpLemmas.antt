@@ -35,7 +35,8 @@ use Rattle.ordered_list.proofs.OrderLemmas.{below_rest, rest_in_order}
 use Rattle.zone_chains.specs.Zone.{OneZone, chains_in, records_in, IsOneZone, IsDenialOf, IsChosen}
 use Rattle.record_store.specs.Holding.{held_in, chains_of_zones, IsTied}
 use Rattle.record_store.specs.LookUp.{is_apex, first_apex, IsFirstZone, IsZoneIn, set_like}
-use Rattle.record_store.specs.Ranks.{apex_cmp, keys_total}
+use Rattle.record_store.specs.Ranks.{apex_cmp, set_cmp, sets_total}
+use Rattle.record_store.proofs.MarkLemmas.{set_tied}
 use Rattle.record_store.proofs.SearchLemmas.{same_names}
 
 -- ---- the zone for a question
@@ -252,7 +253,7 @@ set_ties zone owner rtype (Set set) a is =
     let types = subst (λ n. nat_cmp set.rtype n ≡ Equal) ((Decides-eqb set.rtype rtype).0 second.1) (tied_itself nat_cmp_total set.rtype) in
     rw (zones, owners) types
 
-module _ (zone owner : List Label) (rtype : ℕ) (sets : List Record) (order : IsInOrder key_cmp sets) (n : ℕ) (start : n ≡ prefix_len (λ item. is_lt (key_cmp item (set_like zone owner rtype))) sets) where
+module _ (zone owner : List Label) (rtype : ℕ) (sets : List Record) (order : IsInOrder set_cmp sets) (n : ℕ) (start : n ≡ prefix_len (λ item. is_lt (set_cmp item (set_like zone owner rtype))) sets) where
   pub chosen_here : (item : Record) → n < length sets → item ≡ get_or sets n item → (result : Option SetRec) → result ≡ as_set_at zone owner rtype item → IsChosen (as_set_at zone owner rtype) sets result
   chosen_here item within is (Some set) result = (item, (n, within, sym is), sym result)
   chosen_here item within is None result = λ each has. by each has (as_set_at zone owner rtype each) refl
@@ -260,7 +261,7 @@ module _ (zone owner : List Label) (rtype : ℕ) (sets : List Record) (order : I
       by : (each : Record) → Contains sets each → (o : Option SetRec) → as_set_at zone owner rtype each ≡ o → as_set_at zone owner rtype each ≡ None
       by each has None none = none
       by each has (Some set) some =
-          let same = tied_is_here key_cmp keys_total (set_like zone owner rtype) sets order n start each has (set_ties zone owner rtype each set some) item within is in
+          let same = tied_is_here set_cmp sets_total (set_like zone owner rtype) sets order n start each has (set_tied each (set_like zone owner rtype) (set_ties zone owner rtype each set some)) item within is in
           absurd (none_some (result ∙ (ap (as_set_at zone owner rtype) same ∙ some)))
 
   pub none_here : length sets ≤ n → IsChosen (as_set_at zone owner rtype) sets None
@@ -268,4 +269,4 @@ module _ (zone owner : List Label) (rtype : ℕ) (sets : List Record) (order : I
     where
       by : (o : Option SetRec) → as_set_at zone owner rtype each ≡ o → as_set_at zone owner rtype each ≡ None
       by None none = none
-      by (Some set) some = absurd (omega (arith, past, has.1, not_before key_cmp keys_total (set_like zone owner rtype) sets order n start each has (set_ties zone owner rtype each set some)))
+      by (Some set) some = absurd (omega (arith, past, has.1, not_before set_cmp sets_total (set_like zone owner rtype) sets order n start each has (set_tied each (set_like zone owner rtype) (set_ties zone owner rtype each set some))))

@@ -92,19 +92,3 @@ module _ {X : Type 0} (name : X → List Label) where
 
 pub zones_rise : (zones : List OneZone) → IsInOrder apex_cmp zones → Rises (λ zone. zone.apex) zones
 zones_rise zones order i j d before within = ap is_gt (order i j d before within)
-
-pub sets_rise : (sets : List Record) → IsInOrder key_cmp sets → ((item : Record) → Contains sets item → chain_of item ≡ None) → Rises zone_of sets
-sets_rise sets order are i j d before within =
-    by (get_or sets i d) (get_or sets j d) (order i j d before within) (are _ (Contains-get_or sets i d (omega arith))) (are _ (Contains-get_or sets j d within))
-  where
-    first_part : (a b : Ordering) → ordering_then a b ≡ Less → is_gt a ≡ false
-    first_part Less b less = refl
-    first_part Equal b less = refl
-    first_part Greater b less = absurd (true≢false (ap is_gt less))
-
-    by : (one other : Record) → key_cmp one other ≡ Less → chain_of one ≡ None → chain_of other ≡ None → is_gt (canonical_cmp (zone_of one) (zone_of other)) ≡ false
-    by (Set one) (Set other) less is are' = first_part _ _ less
-    by (Set one) (Nsec other) less is are' = cc
-    by (Set one) (Nsec3 other) less is are' = cc
-    by (Nsec one) other less is are' = cc
-    by (Nsec3 one) other less is are' = cc

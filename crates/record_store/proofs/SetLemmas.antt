@@ -21,7 +21,8 @@ use Rattle.ordered_list.proofs.ChangeLemmas.{with_members, entry_some, entry_non
 use Rattle.zone_chains.specs.Zone.{OneZone, third_for, is_of, chains_with, IsDenialOf}
 use Rattle.record_store.specs.Holding.{held_in, IsTied, AreBut, AreCleared, AreWith}
 use Rattle.record_store.specs.Putting.{chains_for, IsZoneFor}
-use Rattle.record_store.specs.Ranks.{apex_cmp, keys_total}
+use Rattle.record_store.specs.Ranks.{apex_cmp, set_cmp, keys_total}
+use Rattle.record_store.proofs.MarkLemmas.{set_tied, key_tied}
 use Rattle.record_store.proofs.PutLemmas.{not_same}
 use Rattle.record_store.proofs.TiedLemmas.{IsPut, put_tied, put_reordered}
 use Rattle.record_store.proofs.ZoneForLemmas.{two_for, once_for}
@@ -49,24 +50,24 @@ tie_turned : {X : Type 0} (cmp : X → X → Ordering) → IsTotalOrder cmp → 
 tie_turned cmp total x y z tie tie' = grind (arith, common_steps, total)
 
 module _ (goings sets : List Record) (zones : List OneZone) (tied : IsTied goings sets zones) (new : Record) (none : chain_of new ≡ None) where
-  pub cleared_none : entry_at key_cmp new sets ≡ None → (cleared : List Record) → cleared ≡ goings → AreCleared new goings cleared
+  pub cleared_none : entry_at set_cmp new sets ≡ None → (cleared : List Record) → cleared ≡ goings → AreCleared new goings cleared
   cleared_none missed cleared same item = (
-    λ h. (let old = subst (λ l. Contains l item) same h in (old, not_same (displaces new item) (λ is. (let tie = set_tie new item none is in entry_none key_cmp new sets missed item ((tied.sets_are item).1 (old, tie.0)) tie.1)))),
+    λ h. (let old = subst (λ l. Contains l item) same h in (old, not_same (displaces new item) (λ is. (let tie = set_tie new item none is in entry_none set_cmp new sets missed item ((tied.sets_are item).1 (old, tie.0)) (set_tied item new tie.1))))),
     λ h. subst (λ l. Contains l item) (sym same) h.0,
   )
 
-  pub cleared_some : (old : Record) → entry_at key_cmp new sets ≡ Some old → (cleared : List Record) → AreBut old goings cleared → AreCleared new goings cleared
+  pub cleared_some : (old : Record) → entry_at set_cmp new sets ≡ Some old → (cleared : List Record) → AreBut old goings cleared → AreCleared new goings cleared
   cleared_some old is cleared but item =
-      let found = entry_some key_cmp new sets old is in
+      let found = entry_some set_cmp new sets old is in
       let there = ((tied.sets_are old).0 found.0).0 in (
-        λ h. (let two = (but item).0 h in (two.0, not_same (displaces new item) (λ is'. two.1 (one_has_the_key goings tied.apart item old two.0 there (tie_turned key_cmp keys_total item old new (set_tie new item none is').1 found.1))))),
-        λ h. (but item).1 (h.0, λ same. true≢false (sym (displaces_either_way new old ∙ one_key_displaces old new found.1) ∙ (ap (displaces new) (sym same) ∙ h.1))),
+        λ h. (let two = (but item).0 h in (two.0, not_same (displaces new item) (λ is'. two.1 (one_has_the_key goings tied.apart item old two.0 there (tie_turned key_cmp keys_total item old new (set_tie new item none is').1 (key_tied old new found.1)))))),
+        λ h. (but item).1 (h.0, λ same. true≢false (sym (displaces_either_way new old ∙ one_key_displaces old new (key_tied old new found.1)) ∙ (ap (displaces new) (sym same) ∙ h.1))),
       )
 
-  pub old_there : (old : Record) → entry_at key_cmp new sets ≡ Some old → Contains goings old
-  old_there old is = ((tied.sets_are old).0 (entry_some key_cmp new sets old is).0).0
+  pub old_there : (old : Record) → entry_at set_cmp new sets ≡ Some old → Contains goings old
+  old_there old is = ((tied.sets_are old).0 (entry_some set_cmp new sets old is).0).0
 
-  pub set_put : (zone : OneZone) → IsZoneFor (held_in goings zones) new zone → (cleared made sets' : List Record) → AreCleared new goings cleared → AreWith new cleared made → NoneDisplaces made → sets' ≡ with_entry key_cmp new sets
+  pub set_put : (zone : OneZone) → IsZoneFor (held_in goings zones) new zone → (cleared made sets' : List Record) → AreCleared new goings cleared → AreWith new cleared made → NoneDisplaces made → sets' ≡ with_entry set_cmp new sets
       → (zones' : List OneZone) → ((each : OneZone) → Contains zones' each ↔ ((each ≡ zone) ⊎ (Contains zones each × (each.apex ≡ zone.apex → ⊥)))) → IsInOrder apex_cmp zones'
       → IsPut goings zones new zone made sets' zones'
   set_put zone is cleared made sets' are with apart made_sets zones' zones_are order = record {
@@ -76,8 +77,8 @@ module _ (goings sets : List Record) (zones : List OneZone) (tied : IsTied going
       λ h. (with item).1 (⊎_elim inl (λ old. inr ((are item).1 (old.0, old.1))) h),
     );
     sets_are = λ item. (
-      λ h. ⊎_elim (λ same. (there item (inl same), ap chain_of same ∙ none)) (λ old. (let was = (tied.sets_are item).0 old.0 in (there item (inr ((are item).1 (was.0, not_same (displaces new item) (λ is'. old.1 (set_tie new item none is').1)))), was.1))) ((with_members key_cmp new sets item).0 (subst (λ l. Contains l item) made_sets h)),
-      λ h. subst (λ l. Contains l item) (sym made_sets) ((with_members key_cmp new sets item).1 (⊎_elim inl (λ old. (let two = (are item).0 old in inr ((tied.sets_are item).1 (two.0, h.1), λ tie. true≢false (sym (displaces_either_way new item ∙ one_key_displaces item new tie) ∙ two.1)))) ((with item).0 h.0))),
+      λ h. ⊎_elim (λ same. (there item (inl same), ap chain_of same ∙ none)) (λ old. (let was = (tied.sets_are item).0 old.0 in (there item (inr ((are item).1 (was.0, not_same (displaces new item) (λ is'. old.1 (set_tied item new (set_tie new item none is').1))))), was.1))) ((with_members set_cmp new sets item).0 (subst (λ l. Contains l item) made_sets h)),
+      λ h. subst (λ l. Contains l item) (sym made_sets) ((with_members set_cmp new sets item).1 (⊎_elim inl (λ old. (let two = (are item).0 old in inr ((tied.sets_are item).1 (two.0, h.1), λ tie. true≢false (sym (displaces_either_way new item ∙ one_key_displaces item new (key_tied item new tie)) ∙ two.1)))) ((with item).0 h.0))),
     );
     apex = is.apex;
     whole = is.whole;
@@ -103,7 +104,7 @@ module _ (goings sets : List Record) (zones : List OneZone) (tied : IsTied going
   pub set_made : (held : Held) → held_in goings zones ≡ held → (zone : OneZone) (r : Record) → r ≡ new → IsZoneFor held r zone
       → (cleared : List Record) (r' : Record) → r' ≡ new → AreCleared r' held.records cleared
       → (made was : List Record) → was ≡ cleared → AreWith new was made → NoneDisplaces made
-      → (sets' : List Record) → sets' ≡ with_entry key_cmp new sets
+      → (sets' : List Record) → sets' ≡ with_entry set_cmp new sets
       → (zones' before : List OneZone) → before ≡ zones → ((each : OneZone) → Contains zones' each ↔ ((each ≡ zone) ⊎ (Contains before each × (each.apex ≡ zone.apex → ⊥)))) → IsInOrder apex_cmp zones' → IsInOrder apex_cmp before
       → IsTied made sets' zones' × IsReordered (held_with held new) (held_in made zones')
   set_made held view zone r same is cleared r' same' are made was is_cleared with apart sets' made_sets zones' before is_zones zones_are order ordered =

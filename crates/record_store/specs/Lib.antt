@@ -1,3 +1,4 @@
+pub mod Marks
 pub mod Ranks
 pub mod Holding
 pub mod Dropping

@@ -69,9 +69,10 @@ pub(crate) fn without_displaced(
     ensures chains { IfOk result (λ cleared.
         chains_in (arc_value cleared.zone) ≡ chains_in (arc_value zone)) }
 {
+    let item: &Record = new;
     let mut goings = Arc::try_clone(goings)?;
     let mut zone = zone;
-    while let Some(old) = zone.displaced_by(new)? {
+    while let Some(old) = zone.displaced_by(item) {
         let old = Arc::try_clone(old)?;
         goings = without(alloc, &goings, &old)?;
         zone = Arc::new(alloc, zone.without(alloc, &old)?)?;

@@ -6,7 +6,7 @@ ghost use Rattle.held_laws.specs.HeldLaws.{NoneDisplaces, EachChainHasARecord};
 ghost use Rattle.ordered_list.specs.Order.{IsInOrder};
 ghost use Rattle.record_store.specs.Ranks.{going_cmp};
 
-use crate::ranks::{ByApex, ByGoing, ByKey};
+use crate::ranks::{ByApex, ByGoing, BySet};
 use denial_records::Record;
 use dname::OutOfMemory;
 use ordered_list::OrderedList;
@@ -17,7 +17,7 @@ use zone_chains::ZoneRecords;
 
 pub(crate) type Goings = OrderedList<Record, ByGoing>;
 
-pub(crate) type Sets = OrderedList<Record, ByKey>;
+pub(crate) type Sets = OrderedList<Record, BySet>;
 
 pub(crate) type Zones = OrderedList<ZoneRecords, ByApex>;
 

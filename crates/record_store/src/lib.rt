@@ -1,13 +1,14 @@
 //! The records that a cache holds, found by search: the held state of `cache_meaning`, in the order of keys.
 //!
 //! Public clauses cite the definitions of `cache_meaning` and `held_laws` (`KeyOrder`). Specs of its own, which serve the inner
-//! steps, in reading order: `Ranks`, `Holding`, `LookUp`, `Putting`, `Dropping`.
+//! steps, in reading order: `Marks`, `Ranks`, `Holding`, `LookUp`, `Putting`, `Dropping`.
 #![tactic(auto)]
 
 mod dropping;
 mod goings;
 mod holding;
 mod look_up;
+mod marks;
 mod phases;
 mod putting;
 mod ranks;

@@ -1,23 +1,34 @@
 //! The orders in which records are held.
 ghost use Rattle.std.specs.Prelude.{◌≡◌};
 ghost use Rattle.cache_meaning.specs.Held.{zone_of, expiry_of, key_cmp, set_key_cmp, nsec_key_cmp, nsec3_key_cmp};
-ghost use Rattle.record_store.specs.Ranks.{going_cmp, apex_cmp};
+ghost use Rattle.record_store.specs.Ranks.{going_cmp, set_cmp, apex_cmp};
 
+use crate::marks::set_number;
 use denial_records::{Nsec3Rec, NsecRec, Record, SetRec};
 use dname::Name;
-use ordered_list::Ranking;
+use ordered_list::{Marking, Ranking};
 use std::cmp::Ordering;
 use zone_chains::ZoneRecords;
 
 /// Zones by their apex, in canonical order.
 pub(crate) struct ByApex;
 
+impl Marking<ZoneRecords> for ByApex {
+    ghost mark = { λ zone. 0 };
+
+    fn mark(_zone: &ZoneRecords) -> u64 {
+        0
+    }
+}
+
 impl Ranking<ZoneRecords> for ByApex {
-    ghost use Rattle.record_store.specs.Ranks.{apex_cmp, apexes_total};
+    ghost use Rattle.record_store.specs.Ranks.{apex_cmp, apexes_total, apexes_rise};
 
     ghost cmp = { apex_cmp };
 
     ghost total = { apexes_total };
+
+    ghost marks_rise = { apexes_rise };
 
     fn compare(one: &ZoneRecords, other: &ZoneRecords) -> Ordering
         ensures { result ≡ apex_cmp one.now other.now }
@@ -26,33 +37,63 @@ impl Ranking<ZoneRecords> for ByApex {
     }
 }
 
-/// Records by their keys.
-pub(crate) struct ByKey;
+/// Sets by the numbers by which they are sought, and then by their keys.
+pub(crate) struct BySet;
 
-impl Ranking<Record> for ByKey {
-    ghost use Rattle.cache_meaning.specs.Held.{key_cmp};
-    ghost use Rattle.record_store.specs.Ranks.{keys_total};
+impl Marking<Record> for BySet {
+    ghost use Rattle.record_store.specs.Marks.{set_mark};
 
-    ghost cmp = { key_cmp };
+    ghost mark = { set_mark };
 
-    ghost total = { keys_total };
+    fn mark(item: &Record) -> u64 {
+        match item {
+            Record::Set(set) => set_number(&set.zone, &set.owner, set.rtype),
+            _ => 0,
+        }
+    }
+}
+
+impl Ranking<Record> for BySet {
+    ghost use Rattle.record_store.specs.Ranks.{set_cmp, sets_total, sets_rise};
+
+    ghost cmp = { set_cmp };
+
+    ghost total = { sets_total };
+
+    ghost marks_rise = { sets_rise };
 
     fn compare(one: &Record, other: &Record) -> Ordering
-        ensures { result ≡ key_cmp one.now other.now }
+        ensures { result ≡ set_cmp one.now other.now }
     {
-        key_cmp(one, other)
+        // records of one key have one number
+        match key_cmp(one, other) {
+            Ordering::Equal => Ordering::Equal,
+            by_key => BySet::mark(one).cmp(&BySet::mark(other)).then(by_key),
+        }
     }
 }
 
 /// Records in the order in which they go where there are too many: what expires first, of several the first by its key.
 pub(crate) struct ByGoing;
 
+impl Marking<Record> for ByGoing {
+    ghost use Rattle.cache_meaning.specs.Held.{expiry_of};
+
+    ghost mark = { expiry_of };
+
+    fn mark(item: &Record) -> u64 {
+        expiry_of(item)
+    }
+}
+
 impl Ranking<Record> for ByGoing {
-    ghost use Rattle.record_store.specs.Ranks.{going_cmp, goings_total};
+    ghost use Rattle.record_store.specs.Ranks.{going_cmp, goings_total, goings_rise};
 
     ghost cmp = { going_cmp };
 
     ghost total = { goings_total };
+
+    ghost marks_rise = { goings_rise };
 
     fn compare(one: &Record, other: &Record) -> Ordering
         ensures { result ≡ going_cmp one.now other.now }

@@ -2,14 +2,17 @@
 ghost use Rattle.std.specs.Prelude.{◌≡◌};
 ghost use Rattle.std.specs.Option.{option_copied};
 ghost use Rattle.std.specs.Ordering.{is_lt};
-ghost use Rattle.cache_meaning.specs.Held.{key_cmp};
+ghost use Rattle.record_store.specs.Ranks.{set_cmp};
+ghost use Rattle.record_store.specs.Marks.{set_number};
 ghost use Rattle.cache_meaning.specs.Zones.{as_set_at};
 ghost use Rattle.zone_chains.specs.Zone.{IsChosen};
 ghost use Rattle.record_store.specs.LookUp.{set_like};
 
 use crate::holding::Sets;
+use crate::marks::set_number;
 use denial_records::{Record, SetRec};
 use dname::Name;
+use std::cmp::Ordering;
 
 /// The set of the zone at the owner name and type.
 pub(crate) fn set_in<'s>(
@@ -20,7 +23,8 @@ pub(crate) fn set_in<'s>(
 ) -> Option<&'s SetRec>
     ensures { IsChosen (as_set_at zone.now owner.now rtype) sets.now (option_copied result) }
 {
-    let place = sets.find(|item| is_before(item, zone, owner, rtype));
+    let number = set_number(zone, owner, rtype);
+    let place = sets.find_at(number, |item| is_before(item, zone, owner, rtype, number));
     if place < sets.len() {
         as_set_at(sets.get(place), zone, owner, rtype)
     } else {
@@ -28,17 +32,32 @@ pub(crate) fn set_in<'s>(
     }
 }
 
-// Whether the record comes before such a set.
-fn is_before(item: &Record, zone: &Name, owner: &Name, rtype: u16) -> bool
-    ensures { result ≡ is_lt (key_cmp item.now (set_like zone.now owner.now rtype)) }
+// Whether the record comes before such a set, whose number it is.
+fn is_before(item: &Record, zone: &Name, owner: &Name, rtype: u16, number: u64) -> bool
+    requires { number ≡ set_number zone.now owner.now rtype }
+    ensures { result ≡ is_lt (set_cmp item.now (set_like zone.now owner.now rtype)) }
 {
     match item {
-        Record::Set(set) => set
-            .zone
-            .cmp(zone)
-            .then_with(|| set.owner.cmp(owner).then(set.rtype.cmp(&rtype)))
+        Record::Set(set) => set_is_before(set, zone, owner, rtype, number),
+        _ => 0 < number,
+    }
+}
+
+fn set_is_before(set: &SetRec, zone: &Name, owner: &Name, rtype: u16, number: u64) -> bool
+    requires { number ≡ set_number zone.now owner.now rtype }
+    ensures { result ≡ is_lt (set_cmp (Record.Set set.now) (set_like zone.now owner.now rtype)) }
+{
+    let by_key = set
+        .zone
+        .cmp(zone)
+        .then_with(|| set.owner.cmp(owner).then(set.rtype.cmp(&rtype)));
+    match by_key {
+        // sets of one key have one number
+        Ordering::Equal => false,
+        _ => set_number(&set.zone, &set.owner, set.rtype)
+            .cmp(&number)
+            .then(by_key)
             .is_lt(),
-        _ => false,
     }
 }
 

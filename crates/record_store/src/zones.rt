@@ -9,8 +9,10 @@ ghost use Rattle.zone_chains.specs.Zone.{OneZone};
 ghost use Rattle.record_store.specs.Ranks.{apex_cmp};
 
 use crate::holding::{Sets, Zones};
-use crate::ranks::zone_of;
+use crate::marks::first_of_zone;
+use crate::ranks::{BySet, zone_of};
 use dname::{Name, OutOfMemory};
+use ordered_list::Marking;
 use std::alloc::Global;
 use std::sync::Arc;
 use zone_chains::ZoneRecords;
@@ -58,12 +60,22 @@ pub(crate) fn without_zone(
     Ok(Arc::new(alloc, zones.without(alloc, zone)?)?)
 }
 
-/// Whether a set of the zone is held: the sets of a zone stand together.
+/// Whether a set of the zone is held. Sets of the zone's number stand together, so hardly any other is read.
 pub(crate) fn has_set(sets: &Sets, apex: &Name) -> bool
     requires sets { (item : Record) → Contains sets.now item → chain_of item ≡ None }
     ensures yes { IsTrue result → (item : Record) × Contains sets.now item × (zone_of item ≡ apex.now) }
     ensures no { (item : Record) → Contains sets.now item → zone_of item ≡ apex.now → IsTrue result }
 {
-    let place = sets.find(|item| zone_of(item) < apex);
-    place < sets.len() && zone_of(sets.get(place)) == apex
+    let first = first_of_zone(apex);
+    let from = sets.find_at(first, |item| BySet::mark(item) < first);
+    for place in from..sets.len() {
+        let zone = zone_of(sets.get(place));
+        if zone == apex {
+            return true;
+        }
+        if first_of_zone(zone) != first {
+            return false;
+        }
+    }
+    false
 }

@@ -1,2 +1,4 @@
 pub mod OutcomeLemmas
 pub mod ReplyLemmas
+pub mod LatestLemmas
+pub mod MarkLemmas

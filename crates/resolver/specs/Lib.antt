@@ -1,3 +1,5 @@
 pub mod Caches
 pub mod Replies
 pub mod SoundVerdict
+pub mod Pending
+pub mod Latest

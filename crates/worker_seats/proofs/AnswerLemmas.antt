@@ -1,10 +1,16 @@
--- An answer over batches that were seen is one over all that were placed.
+-- An answer over batches that were seen is one over all that were placed; and what a frame has placed.
 use Rattle.std.proofs.Common.{◌≡◌, ℕ, ◌<◌, ◌≤◌, ◌⊎◌, inl, inr, true, false, List, length, take, Option, None, Some, refl, sym, ◌∙◌, ap, arith}
 use Rattle.std.proofs.lemmas.Bool.{false≢true}
 use Rattle.std.proofs.lemmas.List.{take-append-le}
 use mathlib.Core.List.{IsPrefix}
 use Rattle.denial_records.specs.declared.batch.Batch.{Batch}
-use Rattle.cache_meaning.specs.Held.{held_of}
+use Rattle.intake.specs.Batch.{IsTaken}
+use Rattle.intake.specs.declared.taken.Taken.{Taken}
+use Rattle.cache_meaning.specs.Held.{Held, held_of}
+use Rattle.cache_versions.specs.declared.state.State.{Ghosts}
+use Rattle.cache_versions.specs.declared.seat.Seat.{Seat}
+use Rattle.cache_versions.specs.declared.place.Placed.{Placed}
+use Rattle.cache_versions.specs.Inserts.{Inserted}
 use Rattle.cache_versions.proofs.Fronts.{prefix_get, prefix_length}
 use Rattle.replay_meaning.specs.Frame.{Input}
 use Rattle.replay_meaning.specs.OutFrame.{Output}
@@ -12,7 +18,9 @@ use Rattle.reply_core.specs.Answered.{reply_in}
 use Rattle.replay_meaning.specs.Step.{Step, Query, Insert, Tell, Does}
 use Rattle.replay_meaning.specs.Fits.{IsOutputOf, IsFor, is_placed, query_output}
 use Rattle.replay_meaning.proofs.StepLemmas.{TellsNoCall, tells_no_call}
+use Rattle.replay_meaning.specs.declared.frame.FrameKind.TheVariants.{Upstream}
 use Rattle.worker_seats.specs.Answer.{LAST, IsSpent, IsAnswered, spent_output}
+use Rattle.worker_seats.specs.OneFrame.{HasPlacedAtMost}
 
 -- ---- more batches
 
@@ -73,3 +81,18 @@ for_either workers journal input step output below does free (inr spent) = absur
 
 pub answered_for : (workers : ℕ) (journal : List Batch) (input : Input) (output : Output) → input.worker < workers → (LAST ≤ length journal → is_placed output.kind ≡ true) → IsAnswered journal input output → IsFor workers journal input output
 answered_for workers journal input output below free answered = for_either workers journal input answered.step output below answered.does free answered.says
+
+-- ---- what a frame has placed
+
+module _ {g : Ghosts Held Batch (Unit {0})} where
+  pub inserted_at_most : (before after : Seat Held Batch (Unit {0}) g) (input : Input) (taken : Taken) (p : Placed Held Batch (Unit {0}) g)
+      → input.kind ≡ Upstream → IsTaken input.message input.now taken → Inserted before after taken.batch p → HasPlacedAtMost before after input
+  inserted_at_most before after input taken p kind takes inserted = inr (record {
+    taken = taken;
+    upstream = kind;
+    takes = takes;
+    former = inserted.former;
+    begins = inserted.begins;
+    seen = inserted.seen;
+    places = inserted.places;
+  })

@@ -3,5 +3,7 @@ pub mod AnswerLemmas
 pub mod LawLemmas
 pub mod TurnLemmas
 pub mod ShiftLemmas
+pub mod GatherLemmas
 pub mod MergeLemmas
+pub mod MergeableLemmas
 pub mod WorkersLemmas

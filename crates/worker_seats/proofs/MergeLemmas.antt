@@ -1,37 +1,38 @@
--- The outputs of all workers, merged frame by frame.
-use Rattle.std.proofs.Common.{◌≡◌, ℕ, zero, suc, ◌+◌, ◌<◌, ◌≤◌, Bool, true, false, ◌&&◌, ◌==◌, List, [], ◌∷◌, ◌++◌, length, map, take, drop, get_or, set, refl, sym, ◌∙◌, ap, subst, arith, append_assoc, length-append}
+-- The outputs of all workers, written in the order of the inputs.
+use Rattle.std.proofs.Common.{◌≡◌, ℕ, zero, suc, ◌+◌, ◌<◌, ◌≤◌, Bool, true, false, ◌&&◌, ◌==◌, List, [], ◌∷◌, ◌++◌, length, map, drop, get_or, set, Option, refl, sym, ◌∙◌, ap, subst, arith, append_assoc, length-append}
 use Rattle.std.specs.List.{All, AllZip, list_all}
 use Rattle.std.proofs.lemmas.Bool.{false≢true}
 use Rattle.std.proofs.lemmas.Bool.Decides.{Decides-eqb}
-use Rattle.std.proofs.lemmas.List.{append-nil, drop_at, map-append, take_all, take-append-drop, get_or-set_same, get_or-set_other}
-use Rattle.std.proofs.lemmas.List.Elements.{All-nil, All-push, All-head, All-tail}
+use Rattle.std.proofs.lemmas.List.{append-nil, drop_at, drop_more, drop_all, get_or-set_same, get_or-set_other}
+use Rattle.std.proofs.lemmas.List.Concat.{flat_map-append}
+use Rattle.std.proofs.lemmas.List.Elements.{All-nil, All-cons, All-head, All-tail, filter-append}
+use Rattle.outside_core.specs.Told.{append_told}
+use Rattle.outside_core.proofs.ToldLemmas.{append_told-append_told}
 use Rattle.replay_meaning.specs.Frame.{Input, input_of}
 use Rattle.replay_meaning.specs.OutFrame.{Output, IsOutput, output_spelling, outputs_spelling}
 use Rattle.replay_meaning.specs.declared.frame.Frame.{Frame}
 use Rattle.replay_meaning.proofs.FrameLemmas.{spelling-push}
-use Rattle.worker_seats.specs.Merge.{BeginsWithFrame, AreOutputsOf, AreMerged}
+use Rattle.worker_seats.specs.Gather.{Gathers, IsPartWritten}
+use Rattle.worker_seats.specs.Merge.{AreMerged, AreWritten, AreWrittenInPart, BeginsWithFrame, CanBeMerged}
 use Rattle.worker_seats.specs.Workers.{HasSameWorker, inputs_of, outputs_of}
-use Rattle.worker_seats.proofs.OwnLemmas.{own_push, own_push_other, own_more}
-use Rattle.worker_seats.proofs.LawLemmas.{worker_in, worker_out, get_or_same}
-use Rattle.worker_seats.proofs.ShiftLemmas.{zip_push, inputs_more}
+use Rattle.worker_seats.proofs.GatherLemmas.{part_within, told_none}
+use Rattle.worker_seats.proofs.OwnLemmas.{own_here, own_push, own_push_other}
 
--- Some of the inputs are done, with these outputs. The octets of the worker are its outputs so far and those that are left,
--- which begin at the place.
-pub record IsLeft (worker : ℕ) (all done : List Input) (outputs : List Output) (octets : List ℕ) (place : ℕ) : Type 0 where
-  pub left : List Output
-  pub valid : All IsOutput left
-  pub own : All (λ output. output.worker ≡ worker) left
-  pub many : length left + length (inputs_of worker done) ≡ length (inputs_of worker all)
-  pub spelled : octets ≡ outputs_spelling (outputs_of worker outputs) ++ outputs_spelling left
-  pub from : place ≡ length (outputs_spelling (outputs_of worker outputs))
+abbrev worker_of : Output → ℕ
+worker_of output = output.worker
 
--- the octets so far are outputs of the inputs that are done, and the rest of each worker's octets is left
-pub record MergesTo {X : Type 0} (octets_of : X → List ℕ) (parts : List X) (all done : List Input) (places octets : List ℕ) : Type 0 where
-  pub outputs : List Output
-  pub written : octets ≡ outputs_spelling outputs
-  pub valid : All IsOutput outputs
-  pub same : AllZip HasSameWorker done outputs
-  pub each : (worker : ℕ) (d : X) → worker < length parts → IsLeft worker all done outputs (octets_of (get_or parts worker d)) (get_or places worker 0)
+-- Some of the outputs are done, and the others are those of the inputs that are left. Each worker's next one lies at its place.
+pub record Merging (parts : List (List ℕ)) (all left : List Input) (places gathered : List ℕ) (before now : Option (List ℕ)) : Type 0 where
+  pub octets : List ℕ
+  pub merged : AreMerged parts all octets
+  pub done : List Output
+  pub rest : List Output
+  pub split : merged.outputs ≡ done ++ rest
+  pub same : AllZip HasSameWorker left rest
+  pub from : (worker : ℕ) → worker < length parts → get_or places worker 0 ≡ length (outputs_spelling (outputs_of worker done))
+  pub gone : List ℕ
+  pub so_far : gone ++ gathered ≡ outputs_spelling done
+  pub told : now ≡ append_told before gone
 
 -- ---- places at first
 
@@ -45,185 +46,219 @@ zeros_at [] zeros place = refl
 zeros_at (x ∷ xs) zeros zero = (Decides-eqb x 0).0 (both_true (x == 0) (list_all (λ y. y == 0) xs) zeros).0
 zeros_at (x ∷ xs) zeros (suc place) = zeros_at xs (both_true (x == 0) (list_all (λ y. y == 0) xs) zeros).1 place
 
--- ---- one worker
+-- ---- lists
 
-left_at : (worker : ℕ) (all done : List Input) (outputs : List Output) (octets : List ℕ) (place : ℕ) → (l : IsLeft worker all done outputs octets place) → drop place octets ≡ outputs_spelling l.left
-left_at worker all done outputs octets place l =
-    ap (drop place) l.spelled ∙ drop_at (outputs_spelling (outputs_of worker outputs)) (outputs_spelling l.left) place (sym l.from)
+pub next_of : (input : Input) (left : List Input) (rest : List Output) → AllZip HasSameWorker (input ∷ left) rest → (output : Output) × (after : List Output) × (rest ≡ output ∷ after) × (output.worker ≡ input.worker) × AllZip HasSameWorker left after
+next_of input left [] same = absurd same
+next_of input left (output ∷ after) same = (output, after, refl, same.0, same.1)
 
-left_within : (worker : ℕ) (all done : List Input) (outputs : List Output) (octets : List ℕ) (place : ℕ) → IsLeft worker all done outputs octets place → place ≤ length octets
-left_within worker all done outputs octets place l =
-    omega (arith, l.from, ap length l.spelled, length-append (outputs_spelling (outputs_of worker outputs)) (outputs_spelling l.left))
+none_left : (rest : List Output) → AllZip HasSameWorker [] rest → rest ≡ []
+none_left [] same = refl
+none_left (output ∷ rest) same = absurd same
 
-begins_by : (worker : ℕ) (octets : List ℕ) (place n m : ℕ) (left : List Output) → All IsOutput left → length left + n ≡ m → n + 1 ≤ m → drop place octets ≡ outputs_spelling left → BeginsWithFrame (drop place octets)
-begins_by worker octets place n m [] valid many some is = absurd (omega (arith, many, some))
-begins_by worker octets place n m (output ∷ left) valid many some is = record { output = output; rest = outputs_spelling left; valid = All-head IsOutput output left valid; is = is }
+first_after : {X : Type 0} (P : X → Type 0) (front : List X) (x : X) (back : List X) → All P (front ++ x ∷ back) → P x
+first_after P [] x back all = All-head P x back all
+first_after P (y ∷ front) x back all = first_after P front x back (All-tail P y (front ++ x ∷ back) all)
 
--- an output of the worker is done
-own_done : (worker : ℕ) (all done : List Input) (input : Input) (outputs : List Output) (octets : List ℕ) (place : ℕ) (output : Output) (left : List Output)
-    → input.worker ≡ worker → All IsOutput (output ∷ left) → All (λ o. o.worker ≡ worker) (output ∷ left)
-    → length (output ∷ left) + length (inputs_of worker done) ≡ length (inputs_of worker all)
-    → octets ≡ outputs_spelling (outputs_of worker outputs) ++ outputs_spelling (output ∷ left)
-    → place ≡ length (outputs_spelling (outputs_of worker outputs))
-    → IsLeft worker all (done ++ input ∷ []) (outputs ++ output ∷ []) octets (place + length (output_spelling output))
-own_done worker all done input outputs octets place output left same valid own many spelled from =
-    let mine = own_push worker_out worker outputs output (All-head (λ o. o.worker ≡ worker) output left own) in
-    let grown = ap outputs_spelling mine ∙ spelling-push output_spelling (outputs_of worker outputs) output in
-    record {
-      left = left;
-      valid = All-tail IsOutput output left valid;
-      own = All-tail (λ o. o.worker ≡ worker) output left own;
-      many = (let counted = ap length (own_push worker_in worker done input same) in omega (arith, many, counted, length-append (inputs_of worker done) (input ∷ [])));
-      spelled = spelled ∙ sym (append_assoc (outputs_spelling (outputs_of worker outputs)) (output_spelling output) (outputs_spelling left)) ∙ ap (λ l. l ++ outputs_spelling left) (sym grown);
-      from = omega (arith, from, ap length grown, length-append (outputs_spelling (outputs_of worker outputs)) (output_spelling output));
-    }
+pub below_inputs : (n : ℕ) (frames : List Frame) → All (λ frame. frame.worker < n) frames → All (λ input. input.worker < n) (map input_of frames)
+below_inputs n [] all = All-nil (λ (input : Input). input.worker < n)
+below_inputs n (frame ∷ frames) all =
+    All-cons (λ (input : Input). input.worker < n) (input_of frame) (map input_of frames)
+    (All-head (λ (f : Frame). f.worker < n) frame frames all)
+    (below_inputs n frames (All-tail (λ (f : Frame). f.worker < n) frame frames all))
 
--- an output of another worker is done
-other_done : (worker : ℕ) (all done : List Input) (input : Input) (outputs : List Output) (octets : List ℕ) (place : ℕ) (output : Output)
-    → (input.worker ≡ worker → ⊥) → output.worker ≡ input.worker → IsLeft worker all done outputs octets place → IsLeft worker all (done ++ input ∷ []) (outputs ++ output ∷ []) octets place
-other_done worker all done input outputs octets place output other same l =
-    let mine = own_push_other worker_out worker outputs output (λ e. other (sym same ∙ e)) in
-    record {
-      left = l.left;
-      valid = l.valid;
-      own = l.own;
-      many = ap (λ xs. length l.left + length xs) (own_push_other worker_in worker done input other) ∙ l.many;
-      spelled = l.spelled ∙ ap (λ xs. outputs_spelling xs ++ outputs_spelling l.left) (sym mine);
-      from = l.from ∙ ap (λ xs. length (outputs_spelling xs)) (sym mine);
-    }
+-- ---- the next output
 
--- ---- all workers
+module _ (parts : List (List ℕ)) (all left : List Input) (input : Input) (places gathered : List ℕ) (before now : Option (List ℕ)) (m : Merging parts all (input ∷ left) places gathered before now) (below : input.worker < length parts) where
+  abbrev pub output : Output
+  output = (next_of input left m.rest m.same).0
 
--- the frame is one of its worker's
-some_left : (frames : List Frame) (i : ℕ) (d : Frame) → i < length frames → length (inputs_of (get_or frames i d).worker (map input_of (take i frames))) + 1 ≤ length (inputs_of (get_or frames i d).worker (map input_of frames))
-some_left frames i d within =
-    let worker = (get_or frames i d).worker in
-    let done = map input_of (take i frames) in
-    let counted = ap length (own_push worker_in worker done (input_of (get_or frames i d)) refl) in
-    let here : length (inputs_of worker (map input_of (take (i + 1) frames))) ≡ length (inputs_of worker done) + 1 =
-    ap (λ l. length (inputs_of worker l)) (inputs_more frames i d within) ∙ counted ∙ length-append (inputs_of worker done) (input_of (get_or frames i d) ∷ []) in
-    let whole : map input_of (take (i + 1) frames) ++ map input_of (drop (i + 1) frames) ≡ map input_of frames =
-    sym (map-append input_of (take (i + 1) frames) (drop (i + 1) frames)) ∙ ap (map input_of) (take-append-drop (i + 1) frames) in
-    let more = own_more worker_in worker (map input_of (take (i + 1) frames)) (map input_of (drop (i + 1) frames)) in
-    omega (arith, here, more, ap (λ l. length (inputs_of worker l)) whole)
+  abbrev after : List Output
+  after = (next_of input left m.rest m.same).1
 
-module _ {X : Type 0} (octets_of : X → List ℕ) (parts : List X) (frames : List Frame) where
-  abbrev all_inputs : List Input
-  all_inputs = map input_of frames
+  same : output.worker ≡ input.worker
+  same = (next_of input left m.rest m.same).3
 
-  abbrev done_inputs : ℕ → List Input
-  done_inputs i = map input_of (take i frames)
+  whole : m.merged.outputs ≡ m.done ++ output ∷ after
+  whole = m.split ∙ ap (λ l. m.done ++ l) (next_of input left m.rest m.same).2
 
-  abbrev pub Merges : ℕ → List ℕ → List ℕ → Type 0
-  Merges i places octets = MergesTo octets_of parts all_inputs (done_inputs i) places octets
+  pub valid : IsOutput output
+  valid = first_after IsOutput m.done output after (subst (All IsOutput) whole m.merged.valid)
 
-  pub merges_none : (places octets : List ℕ) → octets ≡ [] → ((worker : ℕ) → get_or places worker 0 ≡ 0)
-      → ((worker : ℕ) (d : X) → worker < length parts → AreOutputsOf worker all_inputs (octets_of (get_or parts worker d))) → Merges 0 places octets
-  merges_none places octets none start each = record {
-    outputs = [];
-    written = none;
-    valid = All-nil IsOutput;
-    same = tt;
-    each = λ worker d lt. let one = each worker d lt in record {
-      left = one.outputs;
-      valid = one.valid;
-      own = one.own;
-      many = omega (arith, one.many);
-      spelled = one.written;
-      from = start worker;
-    };
+  abbrev pub later : List ℕ
+  later = outputs_spelling (outputs_of input.worker (next_of input left m.rest m.same).1)
+
+  part_is : (d : List ℕ) → get_or parts input.worker d ≡ outputs_spelling (outputs_of input.worker m.done) ++ (output_spelling output ++ later)
+  part_is d =
+      m.merged.each input.worker d below
+      ∙ ap (λ l. outputs_spelling (outputs_of input.worker l)) whole
+      ∙ ap outputs_spelling (filter-append (λ o. o.worker == input.worker) m.done (output ∷ after) ∙ ap (λ l. outputs_of input.worker m.done ++ l) (own_here worker_of input.worker output after same))
+      ∙ flat_map-append output_spelling (outputs_of input.worker m.done) (output ∷ outputs_of input.worker after)
+
+  pub within : (d : List ℕ) → get_or places input.worker 0 ≤ length (get_or parts input.worker d)
+  within d =
+      omega (arith, m.from input.worker below, ap length (part_is d), length-append (outputs_spelling (outputs_of input.worker m.done)) (output_spelling output ++ later))
+
+  pub front : (d : List ℕ) → drop (get_or places input.worker 0) (get_or parts input.worker d) ≡ output_spelling output ++ later
+  front d =
+      ap (drop (get_or places input.worker 0)) (part_is d)
+      ∙ drop_at (outputs_spelling (outputs_of input.worker m.done)) (output_spelling output ++ later) (get_or places input.worker 0) (sym (m.from input.worker below))
+
+  pub begins : (d : List ℕ) → BeginsWithFrame (drop (get_or places input.worker 0) (get_or parts input.worker d))
+  begins d = record { output = output; rest = later; valid = valid; is = front d }
+
+  -- the places after it
+  place_here : (next' : ℕ) → input.worker < length places → next' ≡ get_or places input.worker 0 + length (output_spelling output)
+      → get_or (set places input.worker next') input.worker 0 ≡ length (outputs_spelling (outputs_of input.worker (m.done ++ output ∷ [])))
+  place_here next' room is =
+      let mine = ap outputs_spelling (own_push worker_of input.worker m.done output same) ∙ spelling-push output_spelling (outputs_of input.worker m.done) output in
+      omega (arith, get_or-set_same places input.worker next' 0 room, is, m.from input.worker below, ap length mine, length-append (outputs_spelling (outputs_of input.worker m.done)) (output_spelling output))
+
+  place_at : (next' : ℕ) → input.worker < length places → next' ≡ get_or places input.worker 0 + length (output_spelling output)
+      → (w : ℕ) → w < length parts → (b : Bool) → (input.worker == w) ≡ b → get_or (set places input.worker next') w 0 ≡ length (outputs_spelling (outputs_of w (m.done ++ output ∷ [])))
+  place_at next' room is w lt true mine =
+      subst (λ v. get_or (set places input.worker next') v 0 ≡ length (outputs_spelling (outputs_of v (m.done ++ output ∷ [])))) ((Decides-eqb input.worker w).0 mine) (place_here next' room is)
+  place_at next' room is w lt false mine =
+      let other : input.worker ≡ w → ⊥ = λ own. false≢true (sym mine ∙ (Decides-eqb input.worker w).1 own) in
+      get_or-set_other places input.worker w next' 0 (λ own. other (sym own)) ∙ m.from w lt
+      ∙ ap (λ l. length (outputs_spelling l)) (sym (own_push_other worker_of w m.done output (λ own. other (sym same ∙ own))))
+
+  pub merging_more : (next' : ℕ) (gathered' : List ℕ) (now' : Option (List ℕ)) → input.worker < length places → next' ≡ get_or places input.worker 0 + length (output_spelling output)
+      → Gathers gathered (output_spelling output) gathered' now now' → Merging parts all left (set places input.worker next') gathered' before now'
+  merging_more next' gathered' now' room is g = record {
+    octets = m.octets;
+    merged = m.merged;
+    done = m.done ++ output ∷ [];
+    rest = after;
+    split = whole ∙ sym (append_assoc m.done (output ∷ []) after);
+    same = (next_of input left m.rest m.same).4;
+    from = λ w lt. place_at next' room is w lt (input.worker == w) refl;
+    gone = m.gone ++ g.gone;
+    so_far = append_assoc m.gone g.gone gathered' ∙ ap (λ l. m.gone ++ l) g.all ∙ sym (append_assoc m.gone gathered (output_spelling output))
+        ∙ ap (λ l. l ++ output_spelling output) m.so_far ∙ sym (spelling-push output_spelling m.done output);
+    told = g.written ∙ ap (λ o. append_told o g.gone) m.told ∙ append_told-append_told before m.gone g.gone;
   }
 
-  pub place_within : (i : ℕ) (d : Frame) (e : X) (places octets : List ℕ) → i < length frames → (get_or frames i d).worker < length parts → Merges i places octets
-      → get_or places (get_or frames i d).worker 0 ≤ length (octets_of (get_or parts (get_or frames i d).worker e))
-  place_within i d e places octets within below m =
-      let worker = (get_or frames i d).worker in
-      left_within worker all_inputs (done_inputs i) m.outputs (octets_of (get_or parts worker e)) (get_or places worker 0) (m.each worker e below)
+  octets_are : m.octets ≡ m.gone ++ ((gathered ++ output_spelling output) ++ outputs_spelling after)
+  octets_are =
+      m.merged.written ∙ ap outputs_spelling whole ∙ flat_map-append output_spelling m.done (output ∷ after)
+      ∙ ap (λ l. l ++ (output_spelling output ++ outputs_spelling after)) (sym m.so_far)
+      ∙ append_assoc m.gone gathered (output_spelling output ++ outputs_spelling after)
+      ∙ ap (λ l. m.gone ++ l) (sym (append_assoc gathered (output_spelling output) (outputs_spelling after)))
 
-  pub place_begins : (i : ℕ) (d : Frame) (e : X) (places octets : List ℕ) → i < length frames → (get_or frames i d).worker < length parts → Merges i places octets
-      → BeginsWithFrame (drop (get_or places (get_or frames i d).worker 0) (octets_of (get_or parts (get_or frames i d).worker e)))
-  place_begins i d e places octets within below m =
-      let worker = (get_or frames i d).worker in
-      let one = m.each worker e below in
-      begins_by worker (octets_of (get_or parts worker e)) (get_or places worker 0) (length (inputs_of worker (done_inputs i))) (length (inputs_of worker all_inputs)) one.left one.valid one.many
-      (some_left frames i d within) (left_at worker all_inputs (done_inputs i) m.outputs (octets_of (get_or parts worker e)) (get_or places worker 0) one)
+  pub merging_cut : (now' : Option (List ℕ)) → IsPartWritten (gathered ++ output_spelling output) now now' → AreWrittenInPart parts all before now'
+  merging_cut now' part =
+      record { octets = m.octets; merged = m.merged; part = part_within m.octets m.gone (gathered ++ output_spelling output) (outputs_spelling after) before now now' octets_are m.told part }
 
-  abbrev pub Takes : ℕ → ℕ → X → List ℕ → List ℕ → ℕ → List ℕ → Type 0
-  Takes i worker e places octets next octets' =
-      (output : Output) (rest : List ℕ) → IsOutput output → drop (get_or places worker 0) (octets_of (get_or parts worker e)) ≡ output_spelling output ++ rest
-      → (next ≡ get_or places worker 0 + length (output_spelling output)) × (octets' ≡ octets ++ output_spelling output)
+-- ---- all of them
 
-  step_at : (i : ℕ) (d : Frame) (places octets octets' : List ℕ) (next : ℕ) (output : Output) → i < length frames → (get_or frames i d).worker < length places
-      → (m : Merges i places octets) → output.worker ≡ (get_or frames i d).worker
-      → ((e : X) → IsLeft (get_or frames i d).worker all_inputs (done_inputs i ++ input_of (get_or frames i d) ∷ []) (m.outputs ++ output ∷ []) (octets_of (get_or parts (get_or frames i d).worker e)) next)
-      → (worker : ℕ) (e : X) → worker < length parts → (b : Bool) → ((get_or frames i d).worker == worker) ≡ b
-      → IsLeft worker all_inputs (done_inputs i ++ input_of (get_or frames i d) ∷ []) (m.outputs ++ output ∷ []) (octets_of (get_or parts worker e)) (get_or (set places (get_or frames i d).worker next) worker 0)
-  step_at i d places octets octets' next output within room m same here worker e below true is =
-      let own = (Decides-eqb (get_or frames i d).worker worker).0 is in
-      subst (λ w. IsLeft w all_inputs (done_inputs i ++ input_of (get_or frames i d) ∷ []) (m.outputs ++ output ∷ []) (octets_of (get_or parts w e)) (get_or (set places (get_or frames i d).worker next) w 0)) own
-      (subst (λ p. IsLeft (get_or frames i d).worker all_inputs (done_inputs i ++ input_of (get_or frames i d) ∷ []) (m.outputs ++ output ∷ []) (octets_of (get_or parts (get_or frames i d).worker e)) p)
-      (sym (get_or-set_same places (get_or frames i d).worker next 0 room)) (here e))
-  step_at i d places octets octets' next output within room m same here worker e below false is =
-      let other : (get_or frames i d).worker ≡ worker → ⊥ = λ own. false≢true (sym is ∙ (Decides-eqb (get_or frames i d).worker worker).1 own) in
-      subst (λ p. IsLeft worker all_inputs (done_inputs i ++ input_of (get_or frames i d) ∷ []) (m.outputs ++ output ∷ []) (octets_of (get_or parts worker e)) p)
-      (sym (get_or-set_other places (get_or frames i d).worker worker next 0 (λ same'. other (sym same'))))
-      (other_done worker all_inputs (done_inputs i) (input_of (get_or frames i d)) m.outputs (octets_of (get_or parts worker e)) (get_or places worker 0) output other same (m.each worker e below))
+pub merging_none : (parts : List (List ℕ)) (inputs : List Input) (places gathered : List ℕ) (told : Option (List ℕ)) → CanBeMerged parts inputs → ((worker : ℕ) → get_or places worker 0 ≡ 0) → gathered ≡ [] → Merging parts inputs inputs places gathered told told
+merging_none parts inputs places gathered told (octets, merged) zeros none = record {
+  octets = octets;
+  merged = merged;
+  done = [];
+  rest = merged.outputs;
+  split = refl;
+  same = merged.same;
+  from = λ worker lt. zeros worker;
+  gone = [];
+  so_far = none;
+  told = told_none told;
+}
 
-  merge_by : (i : ℕ) (d : Frame) (e : X) (places octets octets' : List ℕ) (next : ℕ) → i < length frames → (get_or frames i d).worker < length parts → (get_or frames i d).worker < length places
-      → (m : Merges i places octets) → Takes i (get_or frames i d).worker e places octets next octets'
-      → (left : List Output) → All IsOutput left → All (λ o. o.worker ≡ (get_or frames i d).worker) left
-      → length left + length (inputs_of (get_or frames i d).worker (done_inputs i)) ≡ length (inputs_of (get_or frames i d).worker all_inputs)
-      → octets_of (get_or parts (get_or frames i d).worker e) ≡ outputs_spelling (outputs_of (get_or frames i d).worker m.outputs) ++ outputs_spelling left
-      → get_or places (get_or frames i d).worker 0 ≡ length (outputs_spelling (outputs_of (get_or frames i d).worker m.outputs))
-      → Merges (i + 1) (set places (get_or frames i d).worker next) octets'
-  merge_by i d e places octets octets' next within below room m takes [] valid own many spelled from = absurd (omega (arith, many, some_left frames i d within))
-  merge_by i d e places octets octets' next within below room m takes (output ∷ left) valid own many spelled from =
-      let worker = (get_or frames i d).worker in
-      let input = input_of (get_or frames i d) in
-      let mine = octets_of (get_or parts worker e) in
-      let at : drop (get_or places worker 0) mine ≡ output_spelling output ++ outputs_spelling left =
-      ap (drop (get_or places worker 0)) spelled ∙ drop_at (outputs_spelling (outputs_of worker m.outputs)) (outputs_spelling (output ∷ left)) (get_or places worker 0) (sym from) in
-      let took = takes output (outputs_spelling left) (All-head IsOutput output left valid) at in
-      let same : output.worker ≡ worker = All-head (λ o. o.worker ≡ worker) output left own in
-      let here = own_done worker all_inputs (done_inputs i) input m.outputs mine (get_or places worker 0) output left refl valid own many spelled from in
-      subst (λ l. MergesTo octets_of parts all_inputs l (set places worker next) octets') (sym (inputs_more frames i d within))
-      (record {
-        outputs = m.outputs ++ output ∷ [];
-        written = took.1 ∙ ap (λ l. l ++ output_spelling output) m.written ∙ sym (spelling-push output_spelling m.outputs output);
-        valid = All-push IsOutput m.outputs output m.valid (All-head IsOutput output left valid);
-        same = zip_push HasSameWorker (done_inputs i) m.outputs input output m.same same;
-        each = λ w e' lt.
-            step_at i d places octets octets' next output within room m same
-            (λ f. subst (λ o. IsLeft worker all_inputs (done_inputs i ++ input ∷ []) (m.outputs ++ output ∷ []) (octets_of o) next) (get_or_same parts worker e f below) (subst (λ p. IsLeft worker all_inputs (done_inputs i ++ input ∷ []) (m.outputs ++ output ∷ []) mine p) (sym took.0) here))
-            w e' lt (worker == w) refl;
-      })
+module _ (parts : List (List ℕ)) (all : List Input) (places gathered : List ℕ) (before now : Option (List ℕ)) (m : Merging parts all [] places gathered before now) where
+  done_all : m.gone ++ gathered ≡ m.octets
+  done_all =
+      m.so_far ∙ ap outputs_spelling (sym (m.split ∙ ap (λ l. m.done ++ l) (none_left m.rest m.same) ∙ append-nil m.done)) ∙ sym m.merged.written
 
-  pub merges_more : (i : ℕ) (d : Frame) (e : X) (places octets octets' : List ℕ) (next : ℕ) → i < length frames → (get_or frames i d).worker < length parts → (get_or frames i d).worker < length places
-      → Merges i places octets → Takes i (get_or frames i d).worker e places octets next octets' → Merges (i + 1) (set places (get_or frames i d).worker next) octets'
-  merges_more i d e places octets octets' next within below room m takes =
-      let one = m.each (get_or frames i d).worker e below in
-      merge_by i d e places octets octets' next within below room m takes one.left one.valid one.own one.many one.spelled one.from
+  pub merging_all : (now' : Option (List ℕ)) → now' ≡ append_told now gathered → AreWritten parts all before now'
+  merging_all now' is = record {
+    octets = m.octets;
+    merged = m.merged;
+    written = is ∙ ap (λ o. append_told o gathered) m.told ∙ append_told-append_told before m.gone gathered ∙ ap (append_told before) done_all;
+  }
 
-  pub merges_more_at : (i : ℕ) (d : Frame) (e : X) (places octets octets' : List ℕ) (next worker : ℕ) → worker ≡ (get_or frames i d).worker → i < length frames → (get_or frames i d).worker < length parts → worker < length places
-      → Merges i places octets → Takes i worker e places octets next octets' → Merges (i + 1) (set places worker next) octets'
-  merges_more_at i d e places octets octets' next worker is within below room m takes =
-      let own = (get_or frames i d).worker in
-      subst (λ w. Merges (i + 1) (set places w next) octets') (sym is)
-      (merges_more i d e places octets octets' next within below (omega (arith, is, room)) m (subst (λ w. Takes i w e places octets next octets') is takes))
+  pub merging_end_cut : (now' : Option (List ℕ)) → IsPartWritten gathered now now' → AreWrittenInPart parts all before now'
+  merging_end_cut now' part = record {
+    octets = m.octets;
+    merged = m.merged;
+    part = part_within m.octets m.gone gathered [] before now now' (sym done_all ∙ ap (λ l. m.gone ++ l) (sym (append-nil gathered))) m.told part;
+  }
 
-  end_by : (worker : ℕ) (outputs : List Output) (octets : List ℕ) (n : ℕ) (left : List Output) → length left + n ≡ n → octets ≡ outputs_spelling (outputs_of worker outputs) ++ outputs_spelling left → octets ≡ outputs_spelling (outputs_of worker outputs)
-  end_by worker outputs octets n [] many spelled = spelled ∙ append-nil (outputs_spelling (outputs_of worker outputs))
-  end_by worker outputs octets n (output ∷ left) many spelled = absurd (omega (arith, many))
+-- ---- over frames
 
-  pub merges_all : (i : ℕ) (places octets : List ℕ) → length frames ≤ i → Merges i places octets → AreMerged octets_of parts all_inputs octets
-  merges_all i places octets all m =
-      let whole = ap (map input_of) (take_all i frames all) in
-      record {
-        outputs = m.outputs;
-        written = m.written;
-        valid = m.valid;
-        same = subst (λ l. AllZip HasSameWorker l m.outputs) whole m.same;
-        each = λ worker d lt.
-            let one = m.each worker d lt in
-            end_by worker m.outputs (octets_of (get_or parts worker d)) (length (inputs_of worker all_inputs)) one.left (subst (λ l. length one.left + length (inputs_of worker l) ≡ length (inputs_of worker all_inputs)) whole one.many) one.spelled;
-      }
+module _ (parts : List (List ℕ)) (frames : List Frame) (places gathered : List ℕ) (before now : Option (List ℕ)) where
+  abbrev pub MergingFrom : ℕ → Type 0
+  MergingFrom i = Merging parts (map input_of frames) (map input_of (drop i frames)) places gathered before now
+
+  pub at_frame : (i : ℕ) (d : Frame) → i < length frames → MergingFrom i → Merging parts (map input_of frames) (input_of (get_or frames i d) ∷ map input_of (drop (i + 1) frames)) places gathered before now
+  at_frame i d lt m = subst (λ l. Merging parts (map input_of frames) (map input_of l) places gathered before now) (drop_more frames i d lt) m
+
+  pub at_end : (i : ℕ) → length frames ≤ i → MergingFrom i → Merging parts (map input_of frames) [] places gathered before now
+  at_end i all m = subst (λ l. Merging parts (map input_of frames) (map input_of l) places gathered before now) (drop_all i frames all) m
+
+module _ (parts : List (List ℕ)) (frames : List Frame) (places gathered : List ℕ) (before now : Option (List ℕ)) (i : ℕ) (d : Frame) (lt : i < length frames) (m : MergingFrom parts frames places gathered before now i) (below : (get_or frames i d).worker < length parts) (w : ℕ) (is : w ≡ (get_or frames i d).worker) (octets : List ℕ) (part : (e : List ℕ) → octets ≡ get_or parts w e) where
+  place_is : get_or places w 0 ≡ get_or places (get_or frames i d).worker 0
+  place_is = ap (λ v. get_or places v 0) is
+
+  octets_is : (e : List ℕ) → octets ≡ get_or parts (get_or frames i d).worker e
+  octets_is e = part e ∙ ap (λ v. get_or parts v e) is
+
+  abbrev its_output : Output
+  its_output = output parts (map input_of frames) (map input_of (drop (i + 1) frames)) (input_of (get_or frames i d)) places gathered before now (at_frame parts frames places gathered before now i d lt m) below
+
+  abbrev its_later : List ℕ
+  its_later = later parts (map input_of frames) (map input_of (drop (i + 1) frames)) (input_of (get_or frames i d)) places gathered before now (at_frame parts frames places gathered before now i d lt m) below
+
+  its_valid : IsOutput its_output
+  its_valid = valid parts (map input_of frames) (map input_of (drop (i + 1) frames)) (input_of (get_or frames i d)) places gathered before now (at_frame parts frames places gathered before now i d lt m) below
+
+  its_front : drop (get_or places w 0) octets ≡ output_spelling its_output ++ its_later
+  its_front =
+      ap (λ p. drop p octets) place_is ∙ ap (drop (get_or places (get_or frames i d).worker 0)) (octets_is [])
+      ∙ front parts (map input_of frames) (map input_of (drop (i + 1) frames)) (input_of (get_or frames i d)) places gathered before now (at_frame parts frames places gathered before now i d lt m) below []
+
+  pub frame_within : get_or places w 0 ≤ length octets
+  frame_within =
+      omega (
+        arith,
+        place_is,
+        ap length (octets_is []),
+        within parts (map input_of frames) (map input_of (drop (i + 1) frames)) (input_of (get_or frames i d)) places gathered before now (at_frame parts frames places gathered before now i d lt m) below [],
+      )
+
+  pub frame_begins : BeginsWithFrame (drop (get_or places w 0) octets)
+  frame_begins = record { output = its_output; rest = its_later; valid = its_valid; is = its_front }
+
+  pub frame_more : (next : ℕ) (gathered' : List ℕ) (now' : Option (List ℕ)) → w < length places
+      → ((o : Output) (rest : List ℕ) → IsOutput o → drop (get_or places w 0) octets ≡ output_spelling o ++ rest → (next ≡ get_or places w 0 + length (output_spelling o)) × Gathers gathered (output_spelling o) gathered' now now')
+      → MergingFrom parts frames (set places w next) gathered' before now' (i + 1)
+  frame_more next gathered' now' room put =
+      let took = put its_output its_later its_valid its_front in
+      subst (λ v. Merging parts (map input_of frames) (map input_of (drop (i + 1) frames)) (set places v next) gathered' before now') (sym is)
+      (merging_more parts (map input_of frames) (map input_of (drop (i + 1) frames)) (input_of (get_or frames i d)) places gathered before now (at_frame parts frames places gathered before now i d lt m) below
+      next gathered' now' (omega (arith, is, room)) (omega (arith, took.0, place_is)) took.1)
+
+  pub frame_cut : (now' : Option (List ℕ)) → ((o : Output) (rest : List ℕ) → IsOutput o → drop (get_or places w 0) octets ≡ output_spelling o ++ rest → IsPartWritten (gathered ++ output_spelling o) now now') → AreWrittenInPart parts (map input_of frames) before now'
+  frame_cut now' cut =
+      merging_cut parts (map input_of frames) (map input_of (drop (i + 1) frames)) (input_of (get_or frames i d)) places gathered before now (at_frame parts frames places gathered before now i d lt m) below
+      now' (cut its_output its_later its_valid its_front)
+
+-- ---- one worker
+
+all_own : (inputs : List Input) (outputs : List Output) → AllZip HasSameWorker inputs outputs → All (λ input. input.worker < 1) inputs → outputs_of 0 outputs ≡ outputs
+all_own [] [] same below = refl
+all_own [] (output ∷ outputs) same below = absurd same
+all_own (input ∷ inputs) [] same below = absurd same
+all_own (input ∷ inputs) (output ∷ outputs) same below =
+    let own : output.worker ≡ 0 = omega (arith, same.0, All-head (λ (i : Input). i.worker < 1) input inputs below) in
+    own_here worker_of 0 output outputs own ∙ ap (λ l. output ∷ l) (all_own inputs outputs same.1 (All-tail (λ (i : Input). i.worker < 1) input inputs below))
+
+pub merged_by_one : (parts : List (List ℕ)) (inputs : List Input) (d octets : List ℕ) → length parts ≡ 1 → All (λ input. input.worker < length parts) inputs → AreMerged parts inputs octets → octets ≡ get_or parts 0 d
+merged_by_one parts inputs d octets one below m =
+    m.written ∙ ap outputs_spelling (sym (all_own inputs m.outputs m.same (subst (λ (n : ℕ). All (λ (i : Input). i.worker < n) inputs) one below))) ∙ sym (m.each 0 d (omega (arith, one)))
+
+pub one_can : (parts : List (List ℕ)) (frames : List Frame) (octets : List ℕ) → length parts ≡ 1 → All (λ frame. frame.worker < length parts) frames → CanBeMerged parts (map input_of frames)
+    → ((d : List ℕ) → octets ≡ get_or parts 0 d) → AreMerged parts (map input_of frames) octets
+one_can parts frames octets one below (whole, m) is =
+    subst (AreMerged parts (map input_of frames)) (merged_by_one parts (map input_of frames) [] whole one (below_inputs (length parts) frames below) m ∙ sym (is [])) m

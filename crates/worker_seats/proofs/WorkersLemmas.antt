@@ -1,5 +1,5 @@
 -- The work of all workers, put together.
-use Rattle.std.proofs.Common.{◌≡◌, ℕ, ◌<◌, ◌==◌, List, length, map, get_or, sym, ◌∙◌, ap, subst, arith}
+use Rattle.std.proofs.Common.{◌≡◌, ℕ, ◌<◌, ◌==◌, List, [], length, map, get_or, sym, ◌∙◌, ap, subst, arith}
 use Rattle.std.specs.Prelude.{Result, Ok, Err, IfOk}
 use denote.Param.Members.{Shared}
 use Rattle.std.specs.Fork.{GivesJobs}
@@ -27,6 +27,15 @@ use Rattle.worker_seats.proofs.LawLemmas.{map_at, some_of}
 pub if_ok_weaker : {T E : Type 0} (P Q : T → Type 0) (r : Result T E) → IfOk r P → ((x : T) → P x → Q x) → IfOk r Q
 if_ok_weaker P Q (Ok x) p f = f x p
 if_ok_weaker P Q (Err e) p f = tt
+
+-- the same, of what two clauses say
+pub if_ok_from : {T E : Type 0} (r : Result T E) (P Q : T → Type 0) → IfOk r P → ((x : T) → P x → Q x) → IfOk r Q
+if_ok_from (Ok x) P Q p f = f x p
+if_ok_from (Err e) P Q p f = tt
+
+pub if_ok_both : {T E : Type 0} (r : Result T E) (P Q R : T → Type 0) → IfOk r P → IfOk r Q → ((x : T) → P x → Q x → R x) → IfOk r R
+if_ok_both (Ok x) P Q R p q f = f x p q
+if_ok_both (Err e) P Q R p q f = tt
 
 pub all_map : {X Y : Type 0} (P : Y → Type 0) (f : X → Y) (xs : List X) → ((k : ℕ) (e : X) → k < length xs → P (f (get_or xs k e))) → All P (map f xs)
 all_map P f xs each = λ k d lt.
@@ -78,7 +87,7 @@ module _ {g : Ghosts Held Batch (Unit {0})} {X : Type 0} (seat_of : X → Seat H
     many = AllZip-long (IsAnswered (seen_by (seat_of part))) (inputs_of worker inputs) work.outputs work.worked.shift.each;
   }
 
-  pub worked_all : (before : List (Seat Held Batch (Unit {0}) g)) (parts : List X) (inputs : List Input) (octets : List ℕ) → length parts ≡ length before → EachWorked before parts inputs → AreMerged octets_of parts inputs octets → HaveWorked before (map seat_of parts) inputs octets
+  pub worked_all : (before : List (Seat Held Batch (Unit {0}) g)) (parts : List X) (inputs : List Input) (octets : List ℕ) → length parts ≡ length before → EachWorked before parts inputs → AreMerged (map octets_of parts) inputs octets → HaveWorked before (map seat_of parts) inputs octets
   worked_all before parts inputs octets all each merged = record {
     outputs = merged.outputs;
     written = merged.written;
@@ -89,7 +98,7 @@ module _ {g : Ghosts Held Batch (Unit {0})} {X : Type 0} (seat_of : X → Seat H
         let e = some_of parts worker lt' in
         let work = each worker d e lt' in
         let mine : work.outputs ≡ outputs_of worker merged.outputs =
-        outputs_have_one.whole work.outputs (outputs_of worker merged.outputs) work.valid (All-filter (λ (o : Output). o.worker == worker) IsOutput merged.outputs merged.valid) (sym work.written ∙ merged.each worker e lt') in
+        outputs_have_one.whole work.outputs (outputs_of worker merged.outputs) work.valid (All-filter (λ (o : Output). o.worker == worker) IsOutput merged.outputs merged.valid) (sym work.written ∙ sym (map_at octets_of parts worker [] e lt') ∙ merged.each worker [] (omega (arith, lt', length-map parts octets_of))) in
         subst (λ s. HasWorked (get_or before worker d) s (inputs_of worker inputs) (outputs_of worker merged.outputs)) (sym (map_at seat_of parts worker d e lt'))
         (subst (λ l. HasWorked (get_or before worker d) (seat_of (get_or parts worker e)) (inputs_of worker inputs) l) mine work.worked);
   }

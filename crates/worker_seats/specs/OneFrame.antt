@@ -1,6 +1,9 @@
 -- What one frame does over its worker's seat, and writes at the end of the output.
-use Rattle.std.specs.Prelude.{◌≡◌, ℕ, ◌-◌, ◌<◌, ◌≤◌, true, cond, List, [], ◌∷◌, ◌++◌, length}
+use Rattle.std.specs.Prelude.{◌≡◌, ℕ, ◌-◌, ◌<◌, ◌≤◌, ◌⊎◌, true, cond, List, [], ◌∷◌, ◌++◌, length}
+use mathlib.Core.List.{IsPrefix}
 use Rattle.denial_records.specs.declared.batch.Batch.{Batch}
+use Rattle.intake.specs.Batch.{IsTaken}
+use Rattle.intake.specs.declared.taken.Taken.{Taken}
 use Rattle.cache_meaning.specs.Held.{Held}
 use Rattle.cache_versions.specs.declared.state.State.{Ghosts}
 use Rattle.cache_versions.specs.declared.seat.Seat.{Seat}
@@ -11,6 +14,7 @@ use Rattle.replay_meaning.specs.Step.{Step, Query, Insert, Tell}
 use Rattle.replay_meaning.specs.Fits.{is_placed}
 use Rattle.replay_meaning.specs.Sound.{IsSoundReply}
 use Rattle.replay_meaning.specs.declared.frame.Frame.{Frame}
+use Rattle.replay_meaning.specs.declared.frame.FrameKind.TheVariants.{Upstream}
 use Rattle.replay_meaning.specs.declared.out_frame.OutKind.{OutKind}
 use Rattle.worker_seats.specs.Answer.{IsAnswered}
 
@@ -55,6 +59,21 @@ module _ {g : Ghosts Held Batch (Unit {0})} where
     pub output : Output
     pub done : IsDone before after input output
     pub writes : Writes output octets octets'
+
+  -- The frame is an upstream answer, and what intake takes of it is the last batch seen, behind a journal that begins with what
+  -- the seat had seen. Its place is the seat's last one.
+  pub record HasPlaced (before after : Seat Held Batch (Unit {0}) g) (input : Input) : Type 0 where
+    pub taken : Taken
+    pub upstream : input.kind ≡ Upstream
+    pub takes : IsTaken input.message input.now taken
+    pub former : List Batch
+    pub begins : IsPrefix (seen_by before) former
+    pub seen : seen_by after ≡ former ++ taken.batch ∷ []
+    pub places : places_by after ≡ places_by before ++ length former ∷ []
+
+  -- the seat has placed nothing, or the frame's own batch
+  abbrev pub HasPlacedAtMost : Seat Held Batch (Unit {0}) g → Seat Held Batch (Unit {0}) g → Input → Type 0
+  HasPlacedAtMost before after input = (places_by after ≡ places_by before) ⊎ HasPlaced before after input
 
 -- one place more at most
 pub record HasAtMostOneMore (before after : List ℕ) : Type 0 where

@@ -11,7 +11,7 @@ ghost use Rattle.replay_meaning.specs.Outcome.{stored_octets, refusal_code};
 ghost use Rattle.replay_meaning.specs.declared.frame.FrameKind.{FrameKind};
 ghost use Rattle.replay_meaning.specs.declared.out_frame.OutKind.{OutKind};
 ghost use Rattle.dnswire.specs.declared.query_read.QueryRead.{QueryRead};
-ghost use Rattle.worker_seats.specs.OneFrame.{DoesOneFrame, HasAtMostOneMore, Writes, output_for};
+ghost use Rattle.worker_seats.specs.OneFrame.{DoesOneFrame, HasPlacedAtMost, Writes, output_for};
 
 use dname::OutOfMemory;
 use dnswire::{Head, QueryRead, Question, read_query};
@@ -27,7 +27,7 @@ use std::sync::Wait;
 const NUMBERS_SPENT: u8 = 8;
 
 /// Does what the frame asks of the cache, and writes the frame of the output at the end of `out`. The buffer serves replies.
-/// After want of memory the call of the cache may have been made, and `out` may have a part of the frame.
+/// After want of memory the call of the cache may have been made, and `out` is as it was.
 pub fn one_frame<R: Wait>(
     rt: &R,
     alloc: Global,
@@ -43,7 +43,9 @@ pub fn one_frame<R: Wait>(
     ensures begins { IsPrefix (seen_by seat.old) (seen_by seat.new) }
     ensures done { OnOk result (DoesOneFrame
         seat.old seat.new (input_of frame.entry.now) out.old.items out.new.items) }
-    ensures lost { OnErr result (HasAtMostOneMore (places_by seat.old) (places_by seat.new)) }
+    ensures kept { OnErr result (out.new.items ≡ out.old.items) }
+    ensures placed { OnErr result (HasPlacedAtMost
+        seat.old seat.new (input_of frame.entry.now)) }
 {
     match frame.kind {
         FrameKind::Query => query_frame(cache, seat, frame, reply, out),
@@ -66,6 +68,7 @@ fn query_frame(
     ensures places { places_by seat.new ≡ places_by seat.old }
     ensures done { OnOk result (DoesOneFrame
         seat.old seat.new (input_of frame.entry.now) out.old.items out.new.items) }
+    ensures kept { OnErr result (out.new.items ≡ out.old.items) }
 {
     match read_query(frame.message) {
         QueryRead::Dropped => write_output(frame, OutKind::Dropped, 0, &[], out),
@@ -94,6 +97,7 @@ fn ask(
     ensures places { places_by seat.new ≡ places_by seat.old }
     ensures done { OnOk result (DoesOneFrame
         seat.old seat.new (input_of frame.entry.now) out.old.items out.new.items) }
+    ensures kept { OnErr result (out.new.items ≡ out.old.items) }
 {
     match cache.query(seat, question, frame.now, reply) {
         Outcome::Answered { version } => {
@@ -118,7 +122,9 @@ fn upstream_frame<R: Wait>(
     ensures begins { IsPrefix (seen_by seat.old) (seen_by seat.new) }
     ensures done { OnOk result (DoesOneFrame
         seat.old seat.new (input_of frame.entry.now) out.old.items out.new.items) }
-    ensures lost { OnErr result (HasAtMostOneMore (places_by seat.old) (places_by seat.new)) }
+    ensures kept { OnErr result (out.new.items ≡ out.old.items) }
+    ensures placed { OnErr result (HasPlacedAtMost
+        seat.old seat.new (input_of frame.entry.now)) }
 {
     match batch_of(alloc, frame.message, frame.now) {
         Ok(taken) => insert(rt, alloc, cache, seat, frame, taken, out),
@@ -144,7 +150,9 @@ fn insert<R: Wait>(
     ensures begins { IsPrefix (seen_by seat.old) (seen_by seat.new) }
     ensures done { OnOk result (DoesOneFrame
         seat.old seat.new (input_of frame.entry.now) out.old.items out.new.items) }
-    ensures lost { OnErr result (HasAtMostOneMore (places_by seat.old) (places_by seat.new)) }
+    ensures kept { OnErr result (out.new.items ≡ out.old.items) }
+    ensures placed { OnErr result (HasPlacedAtMost
+        seat.old seat.new (input_of frame.entry.now)) }
 {
     let body = stored_body(&taken);
     match cache.insert(rt, alloc, seat, taken.batch) {
@@ -165,8 +173,9 @@ fn write_output(
     out: &mut Vec<u8>,
 ) -> Result<(), OutOfMemory>
     requires { length body.now < 2 ^ 16 }
-    ensures { OnOk result
+    ensures written { OnOk result
         (Writes (output_for frame.entry.now kind version body.now) out.old.items out.new.items) }
+    ensures kept { OnErr result (out.new.items ≡ out.old.items) }
 {
     let output = OutFrame {
         kind,
@@ -187,9 +196,10 @@ fn write_error_output(
 ) -> Result<(), OutOfMemory>
     requires opcode { head.now.opcode ≤ 15 }
     requires rcode { rcode ≤ 15 }
-    ensures { OnOk result
+    ensures written { OnOk result
         (Writes (output_for frame.entry.now OutKind.Error 0 (error_octets head.now rcode))
         out.old.items out.new.items) }
+    ensures kept { OnErr result (out.new.items ≡ out.old.items) }
 {
     write_error(head, rcode, reply);
     write_output(frame, OutKind::Error, 0, reply.as_slice(), out)
@@ -203,9 +213,10 @@ fn write_bad_version_output(
     out: &mut Vec<u8>,
 ) -> Result<(), OutOfMemory>
     requires { IsSome question.now.edns }
-    ensures { OnOk result
+    ensures written { OnOk result
         (Writes (output_for frame.entry.now OutKind.Error 0 (plain_octets question.now BAD_VERSION))
         out.old.items out.new.items) }
+    ensures kept { OnErr result (out.new.items ≡ out.old.items) }
 {
     write_plain(question, BAD_VERSION, reply);
     write_output(frame, OutKind::Error, 0, reply.as_slice(), out)
@@ -217,9 +228,10 @@ fn write_refused_output(
     fault: IntakeFault,
     out: &mut Vec<u8>,
 ) -> Result<(), OutOfMemory>
-    ensures told { OnOk result
+    ensures written { OnOk result
         (Writes (output_for frame.entry.now OutKind.Refused 0 (refusal_code fault ∷ []))
         out.old.items out.new.items) }
+    ensures kept { OnErr result (out.new.items ≡ out.old.items) }
     ensures fault { OnOk result (fault ≡ IntakeFault.OutOfMemory → ⊥) }
 {
     let code = match fault {

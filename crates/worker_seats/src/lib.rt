@@ -1,18 +1,24 @@
 //! Workers on threads: each answers its own frames over its own seat of one cache, and the outputs stand in the order of the
 //! inputs.
 //!
-//! Of this crate's specs read `specs/Answer.antt`, `OneFrame`, `Shift`, `Workers` and `Laws`, in this order.
+//! Of this crate's specs read `specs/Answer.antt`, `OneFrame`, `Shift`, `Workers`, `Merge` and `Laws`, in this order.
 #![tactic(auto)]
 
 mod answering;
+mod gather;
 mod laws;
 mod merge;
+mod outputs;
 mod shift;
 mod workers;
+mod writing;
 
 pub use answering::one_frame;
 pub use laws::shifts_fit;
+pub use merge::write_outputs;
+pub use outputs::Outputs;
 pub use workers::run_workers;
+pub use writing::write_whole;
 
 #[cfg(test)]
 mod tests;

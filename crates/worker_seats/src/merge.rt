@@ -1,11 +1,15 @@
-ghost use Rattle.std.specs.Prelude.{◌≡◌, ℕ, ◌+◌, ◌<◌, ◌≤◌, List, ◌++◌, All, IfOk, length, drop, map, slice_index_or};
+ghost use Rattle.std.specs.Prelude.{◌≡◌, ℕ, ◌+◌, ◌<◌, ◌≤◌, List, ◌++◌, All, IfOk, OnOk, OnErr, length, drop, map};
+ghost use Rattle.outside_core.specs.Fault.{Rose};
 ghost use Rattle.replay_meaning.specs.Frame.{input_of};
 ghost use Rattle.replay_meaning.specs.OutFrame.{Output, IsOutput, output_spelling};
-ghost use Rattle.worker_seats.specs.declared.shift.Shift.{Shift};
-ghost use Rattle.worker_seats.specs.Merge.{AreMerged, AreOutputsOf, BeginsWithFrame};
+ghost use Rattle.worker_seats.specs.Gather.{Gathers, IsPartWritten};
+ghost use Rattle.worker_seats.specs.Merge.{AreWritten, AreWrittenInPart, BeginsWithFrame, CanBeMerged};
 
-use crate::shift::Shift;
-use dname::{OutOfMemory, octets_from, u16_at};
+use crate::gather::{flush, put};
+use crate::outputs::Outputs;
+use crate::writing::write_whole;
+use dname::{octets_from, u16_at};
+use outside_core::{Failed, Sink};
 use replay_meaning::Frame;
 use std::alloc::Global;
 
@@ -15,61 +19,94 @@ const HEAD: usize = 8;
 /// As many workers as a frame can name.
 const WORKERS: usize = 256;
 
+/// Writes the output frames of all workers, in the order of the frames that they are for. After a failure a strict prefix of
+/// them was written.
+pub fn write_outputs<K: Sink>(
+    alloc: Global,
+    sink: &mut K,
+    frames: &[Frame<'_>],
+    outputs: &Outputs,
+) -> Result<(), Failed>
+    requires workers { All (λ frame. frame.worker < length outputs.now) frames.now }
+    requires merge { CanBeMerged outputs.now (map input_of frames.now) }
+    ensures written { OnOk result (AreWritten outputs.now (map input_of frames.now)
+        (K.written sink.old) (K.written sink.new)) }
+    ensures faults { OnOk result (K.faults sink.new ≡ K.faults sink.old) }
+    ensures part { OnErr result (AreWrittenInPart outputs.now (map input_of frames.now)
+        (K.written sink.old) (K.written sink.new)) }
+    ensures failed { OnErr result (Rose (K.faults sink.old) (K.faults sink.new)) }
+{
+    if outputs.workers() == 1 {
+        return write_whole(sink, outputs.of_worker(0));
+    }
+    write_in_turn(alloc, sink, frames, outputs)
+}
+
+// Frame by frame, each from where it lies.
+fn write_in_turn<K: Sink>(
+    alloc: Global,
+    sink: &mut K,
+    frames: &[Frame<'_>],
+    outputs: &Outputs,
+) -> Result<(), Failed>
+    requires workers { All (λ frame. frame.worker < length outputs.now) frames.now }
+    requires merge { CanBeMerged outputs.now (map input_of frames.now) }
+    ensures written { OnOk result (AreWritten outputs.now (map input_of frames.now)
+        (K.written sink.old) (K.written sink.new)) }
+    ensures faults { OnOk result (K.faults sink.new ≡ K.faults sink.old) }
+    ensures part { OnErr result (AreWrittenInPart outputs.now (map input_of frames.now)
+        (K.written sink.old) (K.written sink.new)) }
+    ensures failed { OnErr result (Rose (K.faults sink.old) (K.faults sink.new)) }
+{
+    let mut gathered = Vec::new(alloc);
+    let mut places = [0usize; WORKERS];
+    for frame in frames {
+        let worker = usize::from(frame.worker);
+        let octets = outputs.of_worker(worker);
+        match put_frame(sink, &mut gathered, octets, places[worker]) {
+            Ok(next) => places[worker] = next,
+            Err(failed) => return Err(failed),
+        }
+    }
+    flush(sink, &mut gathered)
+}
+
+// Puts the output frame at this place behind what was gathered, and gives the place after it.
+fn put_frame<K: Sink>(
+    sink: &mut K,
+    gathered: &mut Vec<u8>,
+    octets: &[u8],
+    at: usize,
+) -> Result<usize, Failed>
+    requires within { at ≤ length octets.now }
+    requires frame { BeginsWithFrame (drop at octets.now) }
+    ensures put { IfOk result (λ next. (output : Output) (rest : List ℕ) → IsOutput output
+        → drop at octets.now ≡ output_spelling output ++ rest
+        → (next ≡ at + length (output_spelling output))
+        × Gathers gathered.old.items (output_spelling output) gathered.new.items
+        (K.written sink.old) (K.written sink.new)) }
+    ensures part { OnErr result ((output : Output) (rest : List ℕ) → IsOutput output
+        → drop at octets.now ≡ output_spelling output ++ rest
+        → IsPartWritten (gathered.old.items ++ output_spelling output)
+        (K.written sink.old) (K.written sink.new)) }
+    ensures faults { OnOk result (K.faults sink.new ≡ K.faults sink.old) }
+    ensures failed { OnErr result (Rose (K.faults sink.old) (K.faults sink.new)) }
+{
+    let frame = front_frame(octets_from(octets, at));
+    match put(sink, gathered, frame) {
+        Ok(()) => Ok(at + frame.len()),
+        Err(failed) => Err(failed),
+    }
+}
+
 // The output frame at the front.
 fn front_frame(octets: &[u8]) -> &[u8]
     requires { BeginsWithFrame octets.now }
-    ensures { (output : Output) (rest : List ℕ) → IsOutput output
+    ensures within { length result.now ≤ length octets.now }
+    ensures front { (output : Output) (rest : List ℕ) → IsOutput output
         → octets.now ≡ output_spelling output ++ rest → result.now ≡ output_spelling output }
 {
     let size = HEAD + usize::from(u16_at(octets, 6));
     let (frame, _) = octets.split_at(size);
     frame
-}
-
-// Puts the output frame at this place at the end of `out`, and gives the place after it.
-fn take_frame(octets: &[u8], at: usize, out: &mut Vec<u8>) -> Result<usize, OutOfMemory>
-    requires within { at ≤ length octets.now }
-    requires frame { BeginsWithFrame (drop at octets.now) }
-    ensures { IfOk result (λ next. (output : Output) (rest : List ℕ) → IsOutput output
-        → drop at octets.now ≡ output_spelling output ++ rest
-        → (next ≡ at + length (output_spelling output))
-        × (out.new.items ≡ out.old.items ++ output_spelling output)) }
-{
-    let frame = front_frame(octets_from(octets, at));
-    let size = frame.len();
-    out.extend_from_slice(frame)?;
-    Ok(at + size)
-}
-
-// As many octets as all workers have written, so that the output takes no more memory than it needs.
-fn room_of(shifts: &[Shift]) -> usize {
-    let mut room: usize = 0;
-    for shift in shifts {
-        room = room.saturating_add(shift.octets.len());
-    }
-    room
-}
-
-/// The output frames of all workers, in the order of the frames that they are for.
-pub(crate) fn merged(
-    alloc: Global,
-    frames: &[Frame<'_>],
-    shifts: &[Shift],
-) -> Result<Vec<u8>, OutOfMemory>
-    requires workers { All (λ frame. frame.worker < length shifts.now) frames.now }
-    requires outputs { (worker : ℕ) (d : Shift) → worker < length shifts.now
-        → AreOutputsOf worker (map input_of frames.now)
-        (slice_index_or shifts.now worker d).octets.items }
-    ensures { IfOk result (λ octets. AreMerged (λ shift. shift.octets.items) shifts.now
-        (map input_of frames.now) octets.items) }
-{
-    let mut output = Vec::new(alloc);
-    output.reserve_exact(room_of(shifts))?;
-    let mut places = [0usize; WORKERS];
-    for frame in frames {
-        let worker = usize::from(frame.worker);
-        let octets = shifts[worker].octets.as_slice();
-        places[worker] = take_frame(octets, places[worker], &mut output)?;
-    }
-    Ok(output)
 }

@@ -13,6 +13,9 @@ use resolver::{CacheSeat, SharedCache};
 use std::alloc::Global;
 use std::sync::Wait;
 
+/// Room for one output frame: most replies are no longer.
+const ROOM: usize = 512;
+
 /// A worker's number, and the seat that it works over.
 #[derive(Drop)]
 pub(crate) struct Job {
@@ -46,6 +49,8 @@ pub(crate) fn work_shift<R: Wait, G: Gate>(
     let Job { worker, seat } = job;
     let mut seat = seat;
     let mut octets = Vec::new(alloc);
+    // So that it is seldom moved; without that room it grows.
+    let _ = octets.reserve_exact(room_for(frames, worker));
     let mut reply = ReplyBuffer::new();
     let mut call: u32 = 0;
     for frame in frames {
@@ -57,4 +62,15 @@ pub(crate) fn work_shift<R: Wait, G: Gate>(
         }
     }
     Ok(Shift { seat, octets })
+}
+
+// Room for the outputs of the worker's frames.
+fn room_for(frames: &[Frame<'_>], worker: usize) -> usize {
+    let mut room: usize = 0;
+    for frame in frames {
+        if worker == usize::from(frame.worker) {
+            room = room.saturating_add(ROOM);
+        }
+    }
+    room
 }

@@ -1,12 +1,13 @@
-ghost use Rattle.std.specs.Prelude.{◌≡◌, ℕ, ◌<◌, ◌^◌, All, IfOk, Ok, length, map, slice_index_or};
+ghost use Rattle.std.specs.Prelude.{◌≡◌, ℕ, List, ◌<◌, ◌^◌, All, IfOk, Ok, length, map, slice_index_or};
 ghost use Rattle.cache_versions.specs.Rows.{AreNumbered};
 ghost use Rattle.resolver.specs.Caches.{IsSeatOf};
 ghost use Rattle.replay_meaning.specs.Frame.{input_of};
 ghost use Rattle.worker_seats.specs.declared.shift.Job.{Job};
+ghost use Rattle.worker_seats.specs.Merge.{AreMerged, CanBeMerged};
 ghost use Rattle.worker_seats.specs.Work.{ArePlaced, IsShiftOf};
 ghost use Rattle.worker_seats.specs.Workers.{HaveWorked};
 
-use crate::merge::merged;
+use crate::outputs::Outputs;
 use crate::shift::{Job, Shift, work_shift};
 use dname::OutOfMemory;
 use outside_core::Gate;
@@ -18,8 +19,8 @@ use std::thread;
 use std::thread::Threads;
 
 /// Each worker does its frames in their order, over the seat at its number, on a thread of its own. It passes the gate before
-/// and after each. Where a thread can't be started, its work is done by the caller. The octets are the output frames, in the
-/// order of the frames. After want of memory the seats are given up.
+/// and after each. Where a thread can't be started, its work is done by the caller. What each has written stays where it is,
+/// to be written in the order of the frames. After want of memory the seats are given up.
 pub fn run_workers<R: Threads + Wait + Sync, G: Gate>(
     rt: &R,
     alloc: Global,
@@ -27,7 +28,7 @@ pub fn run_workers<R: Threads + Wait + Sync, G: Gate>(
     seats: Vec<CacheSeat>,
     frames: &[Frame<'_>],
     gate: &G,
-) -> Result<(Vec<CacheSeat>, Vec<u8>), OutOfMemory>
+) -> Result<(Vec<CacheSeat>, Outputs), OutOfMemory>
     requires object { All (IsSeatOf cache.now) seats.items }
     requires numbers { AreNumbered seats.items }
     requires workers { All (λ frame. frame.worker < length seats.items) frames.now }
@@ -35,14 +36,15 @@ pub fn run_workers<R: Threads + Wait + Sync, G: Gate>(
     ensures all { IfOk result (λ done. length done.0.items ≡ length seats.items) }
     ensures object { IfOk result (λ done. All (IsSeatOf cache.now) done.0.items) }
     ensures numbers { IfOk result (λ done. AreNumbered done.0.items) }
-    ensures worked { IfOk result (λ done.
-        HaveWorked seats.items done.0.items (map input_of frames.now) done.1.items) }
+    ensures each { IfOk result (λ done. length done.1 ≡ length seats.items) }
+    ensures merge { IfOk result (λ done. CanBeMerged done.1 (map input_of frames.now)) }
+    ensures worked { IfOk result (λ done. (octets : List ℕ)
+        → AreMerged done.1 (map input_of frames.now) octets
+        → HaveWorked seats.items done.0.items (map input_of frames.now) octets) }
 {
     let results = work_all(rt, alloc, cache, seats, frames, gate)?;
     let shifts = all_shifts(alloc, results)?;
-    let octets = merged(alloc, frames, &shifts)?;
-    let seats = seats_of(alloc, shifts)?;
-    Ok((seats, octets))
+    split(alloc, shifts)
 }
 
 // The work of all workers, each on a thread of its own where one can be started.
@@ -119,12 +121,17 @@ fn all_shifts(
     Ok(shifts)
 }
 
-fn seats_of(alloc: Global, shifts: Vec<Shift>) -> Result<Vec<CacheSeat>, OutOfMemory>
-    ensures { IfOk result (λ seats. seats.items ≡ map (λ shift. shift.seat) shifts.items) }
+// The seats, and what was written over each.
+fn split(alloc: Global, shifts: Vec<Shift>) -> Result<(Vec<CacheSeat>, Outputs), OutOfMemory>
+    ensures seats { IfOk result (λ done. done.0.items ≡ map (λ shift. shift.seat) shifts.items) }
+    ensures parts { IfOk result (λ done. done.1 ≡ map (λ shift. shift.octets.items) shifts.items) }
 {
     let mut seats = Vec::new(alloc);
+    let mut parts = Vec::new(alloc);
     for shift in shifts {
-        seats.push(shift.seat)?;
+        let Shift { seat, octets } = shift;
+        seats.push(seat)?;
+        parts.push(octets)?;
     }
-    Ok(seats)
+    Ok((seats, Outputs::of(parts)))
 }

@@ -11,9 +11,11 @@ use Rattle.denial_records.specs.declared.nsec_rec.NsecRec.{NsecRec}
 use Rattle.denial_records.specs.declared.nsec3_rec.Nsec3Rec.{Nsec3Rec}
 use Rattle.denial_records.specs.declared.record.Record.{Record}
 use Rattle.denial_records.specs.declared.record.Record.TheVariants.{Set, Nsec, Nsec3}
-use Rattle.cache_meaning.specs.Held.{ZoneChain, Chain, NsecChain, Nsec3Chain, HashParameters, parameters_of, same_parameters, same_chain, same_zone_chain, chain_of, is_of_chain, displaces}
+use Rattle.cache_meaning.specs.Held.{ZoneChain, Chain, NsecChain, Nsec3Chain, HashParameters, parameters_of, same_parameters, same_chain, same_zone_chain, chain_of, zone_of, is_of_chain, displaces}
 use Rattle.zone_chains.specs.Zone.{OneChain}
-use Rattle.zone_chains.specs.Views.{apart_in, AreArcs, IsChain}
+use Rattle.range_index.specs.Arcs.{AreOfFrame}
+use Rattle.range_index.specs.Marks.{name_mark}
+use Rattle.zone_chains.specs.Views.{AreOf, AreNsec3s, IsNsec3, apart_in, AreArcs, IsChain}
 
 -- ---- chains that are the same are equal
 
@@ -168,3 +170,19 @@ none_displaces each it i j d below within =
     by : (kind : Chain) → apart_in kind (get_or each.records i d) (get_or each.records j d) ≡ not (displaces (get_or each.records i d) (get_or each.records j d)) → AreArcs kind each.records → displaces (get_or each.records i d) (get_or each.records j d) ≡ false
     by NsecChain is arcs = not_true _ _ is (arcs.apart i j d below within)
     by (Nsec3Chain parameters) is arcs = not_true _ _ is (arcs.apart i j d below within)
+
+-- ---- the zone of a chain's records
+
+of_zone : (chain : ZoneChain) (item : Record) → chain_of item ≡ Some chain → zone_of item ≡ chain.zone
+of_zone chain (Set set) is = absurd (none_some is)
+of_zone chain (Nsec nsec) is = ap (λ (c : ZoneChain). c.zone) (some_same is)
+of_zone chain (Nsec3 nsec3) is = ap (λ (c : ZoneChain). c.zone) (some_same is)
+
+pub in_zone : (chain : ZoneChain) (records : List Record) → AreOf chain records → AreOfFrame zone_of name_mark chain.zone records
+in_zone chain records all = λ k d within key. ap (λ zone. name_mark zone key) (of_zone chain (get_or records k d) (all k d within))
+
+pub in_frame : (each : OneChain) → IsChain each → (item : Record) → chain_of item ≡ Some each.chain → AreOfFrame zone_of name_mark (zone_of item) each.records
+in_frame each it item is = λ k d within key. ap (λ zone. name_mark zone key) (of_zone each.chain (get_or each.records k d) (it.of_chain k d within) ∙ sym (of_zone each.chain item is))
+
+pub are_nsec3s : (zone : List Label) (parameters : HashParameters) (records : List Record) → AreOf (record { zone = zone; chain = Nsec3Chain parameters }) records → AreNsec3s records
+are_nsec3s zone parameters records all = λ k d within. (let its = nsec3_kind zone parameters (get_or records k d) (all k d within) in subst IsNsec3 (sym its.1) tt)

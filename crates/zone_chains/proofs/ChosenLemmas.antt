@@ -28,7 +28,7 @@ use Rattle.range_index.specs.Place.{place_of}
 use Rattle.range_index.specs.Arcs.{span_has}
 use Rattle.range_index.proofs.MemberLemmas.{stays, stayed}
 use Rattle.zone_chains.specs.Zone.{OneChain, IsChosen}
-use Rattle.zone_chains.specs.Views.{nsec_start, nsec_end, nsec3_start, nsec3_end, placed, AreChains}
+use Rattle.zone_chains.specs.Views.{AreOf, AreNsec3s, IsNsec, IsNsec3, nsec_start, nsec_end, nsec3_start, nsec3_end, placed, AreChains}
 use Rattle.zone_chains.proofs.ListLemmas.{here, nothing_in}
 use Rattle.zone_chains.proofs.ChainLemmas.{name_itself, parameters_itself, nsec_kind, nsec3_kind}
 
@@ -130,3 +130,16 @@ nsec3_placed place ring item nsec3 hash is at same =
     ∙ placed_by (slice_cmp nat_cmp nsec3.hash hash) (bytes_eq nsec3.hash hash)
     (λ h. subst (λ z. slice_cmp nat_cmp nsec3.hash z ≡ Equal) ((bytes_decides nsec3.hash hash).0 h) (tied_itself nat_list_cmp_total nsec3.hash))
     (λ h. (bytes_decides nsec3.hash hash).1 (slice_cmp-IsAntisymmetric nat_cmp-IsAntisymmetric nsec3.hash hash h))
+
+-- ---- that it is of its kind
+
+found_in : (test : Record → Bool) (records : List Record) (item : Record) → filter test records ≡ item ∷ [] → Contains records item
+found_in test records item is = (stayed test records item (subst (λ xs. Contains xs item) (sym is) (here item []))).0
+
+pub found_nsec : (zone : List Label) (records : List Record) → AreOf (record { zone = zone; chain = NsecChain }) records → (test : Record → Bool) (item : Record) → filter test records ≡ item ∷ [] → IsNsec item
+found_nsec zone records all test item is =
+    let its = nsec_kind zone item (All-contains (λ item. chain_of item ≡ Some (record { zone = zone; chain = NsecChain })) records item all (found_in test records item is)) in
+    subst IsNsec (sym its.1) tt
+
+pub found_nsec3 : (records : List Record) → AreNsec3s records → (test : Record → Bool) (item : Record) → filter test records ≡ item ∷ [] → IsNsec3 item
+found_nsec3 records all test item is = All-contains IsNsec3 records item all (found_in test records item is)

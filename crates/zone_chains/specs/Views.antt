@@ -1,11 +1,12 @@
 -- No public clause cites this module: what the code's values are, in the words of the definitions.
-use Rattle.std.specs.Prelude.{◌≡◌, ℕ, Bool, false, List, [], ◌∷◌}
+use Rattle.std.specs.Prelude.{◌≡◌, ℕ, Bool, false, List, [], ◌∷◌, replicate, Some}
+use Rattle.std.specs.List.{All}
 use Rattle.std.specs.Ordering.{nat_cmp}
 use Rattle.std.specs.Cmp.Lexicographic.{slice_cmp}
 use Rattle.dname.specs.Name.{Label, canonical_cmp}
 use Rattle.denial_records.specs.declared.record.Record.{Record}
 use Rattle.denial_records.specs.declared.record.Record.TheVariants.{Set, Nsec, Nsec3}
-use Rattle.cache_meaning.specs.Held.{Chain, NsecChain, Nsec3Chain, same_zone_chain}
+use Rattle.cache_meaning.specs.Held.{Chain, NsecChain, Nsec3Chain, ZoneChain, chain_of, same_zone_chain}
 use Rattle.range_index.specs.Arcs.{is_apart, IsArcs}
 use Rattle.cache_meaning.specs.declared.place.Place.{Place}
 use Rattle.cache_meaning.specs.declared.place.Place.TheVariants.{Start, Inside}
@@ -30,27 +31,38 @@ IsDenial (Set set) = ⊥
 IsDenial (Nsec nsec) = Unit {0}
 IsDenial (Nsec3 nsec3) = Unit {0}
 
--- where an NSEC record's arc starts and ends
+-- where an NSEC record's arc starts and ends; another record has its owner or zone there
 abbrev pub nsec_start : Record → List Label
-nsec_start (Set set) = []
+nsec_start (Set set) = set.owner
 nsec_start (Nsec nsec) = nsec.owner
-nsec_start (Nsec3 nsec3) = []
+nsec_start (Nsec3 nsec3) = nsec3.zone
 
 abbrev pub nsec_end : Record → List Label
-nsec_end (Set set) = []
+nsec_end (Set set) = set.owner
 nsec_end (Nsec nsec) = nsec.next
-nsec_end (Nsec3 nsec3) = []
+nsec_end (Nsec3 nsec3) = nsec3.zone
+
+-- what stands for the hash of a record that has none
+abbrev pub no_hash : List ℕ
+no_hash = replicate 20 0
 
 -- where an NSEC3 record's arc starts and ends
 abbrev pub nsec3_start : Record → List ℕ
-nsec3_start (Set set) = []
-nsec3_start (Nsec nsec) = []
+nsec3_start (Set set) = no_hash
+nsec3_start (Nsec nsec) = no_hash
 nsec3_start (Nsec3 nsec3) = nsec3.hash
 
 abbrev pub nsec3_end : Record → List ℕ
-nsec3_end (Set set) = []
-nsec3_end (Nsec nsec) = []
+nsec3_end (Set set) = no_hash
+nsec3_end (Nsec nsec) = no_hash
 nsec3_end (Nsec3 nsec3) = nsec3.next
+
+-- the records are of the chain
+abbrev pub AreOf : ZoneChain → List Record → Type 0
+AreOf chain records = All (λ item. chain_of item ≡ Some chain) records
+
+abbrev pub AreNsec3s : List Record → Type 0
+AreNsec3s records = All IsNsec3 records
 
 -- where in an arc a key lies
 abbrev pub placed : RingPlace → Place

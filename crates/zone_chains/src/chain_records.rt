@@ -4,6 +4,8 @@ ghost use Rattle.std.specs.Arc.{arc_value};
 ghost use Rattle.std.specs.Option.{option_map};
 ghost use Rattle.std.specs.Str.{bytes_eq};
 ghost use Rattle.cache_meaning.specs.Held.{chain_of, is_of_chain, same_parameters, zone_of};
+ghost use Rattle.range_index.specs.Arcs.{AreOfFrame};
+ghost use Rattle.range_index.specs.Marks.{name_mark};
 ghost use Rattle.cache_meaning.specs.Zones.{as_nsec_at, as_nsec3_at};
 ghost use Rattle.cache_meaning.specs.Evidence.{nsec_matches};
 ghost use Rattle.cache_meaning.specs.Lent.{lent_chain, parameters_by, place_by};
@@ -13,8 +15,9 @@ ghost use Rattle.zone_chains.specs.Spans.{kind_by, records_by};
 ghost use Rattle.zone_chains.specs.Changes.{joined, parted, records_with, records_without};
 ghost use Rattle.zone_chains.specs.Met.{IsMet};
 
-use crate::nsec_span::{NsecSpan, nsec_in, nsec_met, nsecs_with};
-use crate::nsec3_span::{Nsec3Span, nsec3_in, nsec3_met, nsec3s_with};
+use crate::met::one_met;
+use crate::nsec_span::{ByOwner, nsec_in};
+use crate::nsec3_span::{ByHash, NO_HASH, nsec3_in};
 use cache_meaning::{Chain, Place};
 use denial_records::{HASH_OCTETS, Nsec3Rec, NsecRec, Record};
 use dname::{Name, Octets, OutOfMemory};
@@ -32,11 +35,11 @@ pub struct ChainRecords {
 
 #[derive(Drop)]
 pub(crate) enum ChainSpans {
-    Nsec(Arcs<NsecSpan>),
+    Nsec(Arcs<Record, ByOwner>),
     Nsec3 {
         salt: Octets,
         iterations: u16,
-        arcs: Arcs<Nsec3Span>,
+        arcs: Arcs<Record, ByHash>,
     },
 }
 
@@ -69,14 +72,8 @@ impl ChainRecords {
         ensures { arc_value result.now ≡ slice_index_or self.now.records i (arc_value result.now) }
     {
         match &self.spans {
-            ChainSpans::Nsec(arcs) => {
-                let span: &NsecSpan = arcs.get(i);
-                span.record()
-            }
-            ChainSpans::Nsec3 { arcs, .. } => {
-                let span: &Nsec3Span = arcs.get(i);
-                span.record()
-            }
+            ChainSpans::Nsec(arcs) => arcs.get(i),
+            ChainSpans::Nsec3 { arcs, .. } => arcs.get(i),
         }
     }
 
@@ -126,7 +123,7 @@ impl ChainRecords {
             found.1 ≡ place_by (nsec_matches found.0.now name.now)) }
     {
         match &self.spans {
-            ChainSpans::Nsec(arcs) => nsec_in(arcs, name),
+            ChainSpans::Nsec(arcs) => nsec_in(arcs, &self.zone, name),
             ChainSpans::Nsec3 { .. } => None,
         }
     }
@@ -192,17 +189,14 @@ impl ChainRecords {
     }
 
     /// A record that a new one of the chain displaces.
-    pub(crate) fn displaced_by(
-        &self,
-        new: &Arc<Record>,
-    ) -> Result<Option<&Arc<Record>>, OutOfMemory>
-        requires { chain_of (arc_value new.now) ≡ Some self.now.chain }
-        ensures { IfOk result (λ met. IsMet (apart_in self.now.chain.chain (arc_value new.now))
-            self.now.records (option_map (λ old. arc_value old.now) met)) }
+    pub(crate) fn displaced_by(&self, new: &Record) -> Option<&Arc<Record>>
+        requires { chain_of new.now ≡ Some self.now.chain }
+        ensures { IsMet (apart_in self.now.chain.chain new.now)
+            self.now.records (option_map (λ old. arc_value old.now) result) }
     {
         match &self.spans {
-            ChainSpans::Nsec(arcs) => nsec_met(arcs, new),
-            ChainSpans::Nsec3 { arcs, .. } => nsec3_met(arcs, new),
+            ChainSpans::Nsec(arcs) => one_met(arcs, new),
+            ChainSpans::Nsec3 { arcs, .. } => one_met(arcs, new),
         }
     }
 }
@@ -241,10 +235,10 @@ fn spans_of(alloc: Global, item: Arc<Record>) -> Result<ChainSpans, OutOfMemory>
             Ok(ChainSpans::Nsec3 {
                 salt,
                 iterations,
-                arcs: nsec3s_with(alloc, &Arcs::empty(alloc), item)?,
+                arcs: Arcs::empty(alloc).with(alloc, item)?,
             })
         }
-        _ => Ok(ChainSpans::Nsec(nsecs_with(alloc, &Arcs::empty(alloc), item)?)),
+        _ => Ok(ChainSpans::Nsec(Arcs::empty(alloc).with(alloc, item)?)),
     }
 }
 
@@ -253,13 +247,14 @@ fn spans_with(
     spans: &ChainSpans,
     item: Arc<Record>,
 ) -> Result<ChainSpans, OutOfMemory>
-    requires { IsOfKind (kind_by spans.now) (arc_value item) }
+    requires kind { IsOfKind (kind_by spans.now) (arc_value item) }
+    requires zone { AreOfFrame zone_of name_mark (zone_of (arc_value item)) (records_by spans.now) }
     ensures kind { IfOk result (λ made. kind_by made ≡ kind_by spans.now) }
     ensures records { IfOk result (λ made. records_by made
         ≡ records_with (kind_by spans.now) (arc_value item) (records_by spans.now)) }
 {
     match spans {
-        ChainSpans::Nsec(arcs) => Ok(ChainSpans::Nsec(nsecs_with(alloc, arcs, item)?)),
+        ChainSpans::Nsec(arcs) => Ok(ChainSpans::Nsec(arcs.with(alloc, item)?)),
         ChainSpans::Nsec3 {
             salt,
             iterations,
@@ -267,7 +262,7 @@ fn spans_with(
         } => Ok(ChainSpans::Nsec3 {
             salt: salt.copy(alloc)?,
             iterations: *iterations,
-            arcs: nsec3s_with(alloc, arcs, item)?,
+            arcs: arcs.with(alloc, item)?,
         }),
     }
 }
@@ -277,14 +272,15 @@ fn spans_without(
     spans: &ChainSpans,
     item: &Record,
 ) -> Result<ChainSpans, OutOfMemory>
-    requires { IsOfKind (kind_by spans.now) item.now }
+    requires kind { IsOfKind (kind_by spans.now) item.now }
+    requires zone { AreOfFrame zone_of name_mark (zone_of item.now) (records_by spans.now) }
     ensures kind { IfOk result (λ made. kind_by made ≡ kind_by spans.now) }
     ensures records { IfOk result (λ made. records_by made
         ≡ records_without (kind_by spans.now) item.now (records_by spans.now)) }
 {
     match (spans, item) {
         (ChainSpans::Nsec(arcs), Record::Nsec(nsec)) => {
-            Ok(ChainSpans::Nsec(arcs.without(alloc, &nsec.owner)?))
+            Ok(ChainSpans::Nsec(arcs.without(alloc, &nsec.zone, &nsec.owner)?))
         }
         (
             ChainSpans::Nsec3 {
@@ -296,7 +292,7 @@ fn spans_without(
         ) => Ok(ChainSpans::Nsec3 {
             salt: salt.copy(alloc)?,
             iterations: *iterations,
-            arcs: arcs.without(alloc, &nsec3.hash)?,
+            arcs: arcs.without(alloc, NO_HASH, &nsec3.hash)?,
         }),
         _ => unreachable!(),
     }

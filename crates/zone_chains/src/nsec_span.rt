@@ -1,128 +1,94 @@
-//! An NSEC record as a span of names.
-ghost use Rattle.std.specs.Prelude.{◌≡◌, [], ◌∷◌, filter, MatchOption, IfSome, IfOk};
-ghost use Rattle.std.specs.Arc.{arc_value};
-ghost use Rattle.std.specs.Option.{option_map};
-ghost use Rattle.zone_chains.specs.Met.{IsMet};
-ghost use Rattle.zone_chains.specs.Views.{IsNsec, nsec_start, nsec_end};
+//! NSEC records as spans of names.
+ghost use Rattle.std.specs.Prelude.{◌≡◌, [], ◌∷◌, filter, MatchOption, IfSome};
+ghost use Rattle.zone_chains.specs.Views.{AreOf, IsNsec, nsec_start, nsec_end};
+ghost use Rattle.cache_meaning.specs.Held.{NsecChain};
 ghost use Rattle.cache_meaning.specs.Lent.{place_by};
-ghost use Rattle.range_index.specs.Arcs.{span_has, is_apart, arcs_with};
+ghost use Rattle.range_index.specs.Arcs.{span_has};
 ghost use Rattle.dname.specs.Name.{canonical_cmp};
 ghost use Rattle.cache_meaning.specs.Evidence.{nsec_matches};
 
-use crate::met::one_met;
 use crate::placed::placed;
 use cache_meaning::Place;
 use denial_records::{NsecRec, Record};
-use dname::{Name, OutOfMemory};
-use range_index::{Arcs, RingSpan};
-use std::alloc::Global;
-use std::marker::Model;
-use std::sync::Arc;
+use dname::Name;
+use range_index::{Arcs, RingSpan, name_mark};
 
-/// An NSEC record, seen as the record: a span from its owner name to the next (RFC 4034, section 4.1.1).
-#[derive(Drop)]
-pub(crate) struct NsecSpan {
-    record: Arc<Record>,
-}
+/// NSEC records as spans from their owner names to the next (RFC 4034, section 4.1.1), sought by the label in front of their
+/// zone's apex.
+pub(crate) struct ByOwner;
 
-impl Model for NsecSpan {
-    ghost use Rattle.std.specs.Arc.{arc_value};
-    ghost use Rattle.denial_records.specs.declared.record.Record.{Record};
-    ghost use Rattle.zone_chains.specs.Views.{IsNsec};
-
-    ghost Value = { Record };
-
-    ghost view = { λ s. arc_value s.record };
-
-    ghost invariant = { λ s. IsNsec (arc_value s.record) };
-}
-
-impl RingSpan for NsecSpan {
+impl RingSpan<Record> for ByOwner {
     type Key = Name;
 
+    ghost use Rattle.cache_meaning.specs.Held.{zone_of};
     ghost use Rattle.zone_chains.specs.Views.{nsec_start, nsec_end};
+    ghost use Rattle.range_index.specs.Marks.{name_mark};
+    ghost use Rattle.range_index.proofs.KeyMarkLemmas.{names_rise};
 
     ghost start = { nsec_start };
 
     ghost end = { nsec_end };
 
-    fn start_key(&self) -> &Name {
-        &self.nsec().owner
-    }
+    ghost frame = { zone_of };
 
-    fn end_key(&self) -> &Name {
-        &self.nsec().next
-    }
-}
+    ghost mark = { name_mark };
 
-impl NsecSpan {
-    /// The span of the record.
-    pub(crate) fn of(item: Arc<Record>) -> NsecSpan
-        requires { IsNsec (arc_value item) }
-        ensures { result ≡ arc_value item }
-    {
-        NsecSpan { record: item }
-    }
-
-    pub(crate) fn record(&self) -> &Arc<Record>
-        ensures { arc_value result.now ≡ self.now }
-    {
-        &self.record
-    }
-
-    pub(crate) fn nsec(&self) -> &NsecRec
-        ensures { Record.Nsec result.now ≡ self.now }
-    {
-        let record: &Record = &self.record;
-        match record {
-            Record::Nsec(nsec) => nsec,
-            _ => unreachable!(),
+    fn start_key(item: &Record) -> &Name {
+        match item {
+            Record::Set(set) => &set.owner,
+            Record::Nsec(nsec) => &nsec.owner,
+            Record::Nsec3(nsec3) => &nsec3.zone,
         }
     }
+
+    fn end_key(item: &Record) -> &Name {
+        match item {
+            Record::Set(set) => &set.owner,
+            Record::Nsec(nsec) => &nsec.next,
+            Record::Nsec3(nsec3) => &nsec3.zone,
+        }
+    }
+
+    fn frame(item: &Record) -> &Name {
+        match item {
+            Record::Set(set) => &set.zone,
+            Record::Nsec(nsec) => &nsec.zone,
+            Record::Nsec3(nsec3) => &nsec3.zone,
+        }
+    }
+
+    fn mark(within: &Name, key: &Name) -> u64 {
+        name_mark(within, key)
+    }
+
+    ghost marks_rise = { names_rise };
 }
 
-/// The record of the span that has the name, and where in it.
-pub(crate) fn nsec_in<'a>(arcs: &'a Arcs<NsecSpan>, name: &Name) -> Option<(&'a NsecRec, Place)>
+/// The NSEC record of the zone whose span has the name, and where in it.
+pub(crate) fn nsec_in<'a>(
+    arcs: &'a Arcs<Record, ByOwner>,
+    zone: &Name,
+    name: &Name,
+) -> Option<(&'a NsecRec, Place)>
+    requires { AreOf (record { zone = zone.now; chain = NsecChain }) arcs.now }
     ensures record { MatchOption result
         (filter (span_has canonical_cmp nsec_start nsec_end name.now) arcs.now ≡ [])
         (λ found. filter (span_has canonical_cmp nsec_start nsec_end name.now) arcs.now
         ≡ Record.Nsec found.0.now ∷ []) }
     ensures place { IfSome result (λ found. found.1 ≡ place_by (nsec_matches found.0.now name.now)) }
 {
-    match arcs.at(name) {
-        Some((span, place)) => Some((span.nsec(), placed(place))),
+    match arcs.at(zone, name) {
+        Some((item, place)) => Some((nsec_of(item), placed(place))),
         None => None,
     }
 }
 
-/// The records of the spans with one more, in the place of those that it meets.
-pub(crate) fn nsecs_with(
-    alloc: Global,
-    arcs: &Arcs<NsecSpan>,
-    item: Arc<Record>,
-) -> Result<Arcs<NsecSpan>, OutOfMemory>
-    requires { IsNsec (arc_value item) }
-    ensures { IfOk result (λ made.
-        made ≡ arcs_with canonical_cmp nsec_start nsec_end (arc_value item) arcs.now) }
+fn nsec_of(item: &Record) -> &NsecRec
+    requires { IsNsec item.now }
+    ensures { Record.Nsec result.now ≡ item.now }
 {
-    arcs.with(alloc, Arc::new(alloc, NsecSpan::of(item))?)
-}
-
-/// A record of the spans that the new one meets.
-pub(crate) fn nsec_met<'a>(
-    arcs: &'a Arcs<NsecSpan>,
-    new: &Arc<Record>,
-) -> Result<Option<&'a Arc<Record>>, OutOfMemory>
-    requires { IsNsec (arc_value new.now) }
-    ensures { IfOk result (λ met. IsMet (is_apart canonical_cmp nsec_start nsec_end (arc_value new.now))
-        arcs.now (option_map (λ old. arc_value old.now) met)) }
-{
-    let span = NsecSpan::of(Arc::try_clone(new)?);
-    match one_met(arcs, &span) {
-        Some(old) => {
-            let old: &NsecSpan = old;
-            Ok(Some(old.record()))
-        }
-        None => Ok(None),
+    match item {
+        Record::Nsec(nsec) => nsec,
+        _ => unreachable!(),
     }
 }

@@ -129,18 +129,17 @@ impl ZoneRecords {
         }
     }
 
-    /// A record that the new one displaces. Want of memory where the new record can have no further owner.
-    pub fn displaced_by(&self, new: &Arc<Record>) -> Result<Option<&Arc<Record>>, OutOfMemory>
-        requires { IsDenialOf self.now.apex (arc_value new.now) }
-        ensures { IfOk result (λ displaced. MatchOption displaced
-            ((old : Record) → Contains (records_in self.now) old
-            → displaces (arc_value new.now) old ≡ false)
+    /// A record that the new one displaces.
+    pub fn displaced_by(&self, new: &Record) -> Option<&Arc<Record>>
+        requires { IsDenialOf self.now.apex new.now }
+        ensures { MatchOption result
+            ((old : Record) → Contains (records_in self.now) old → displaces new.now old ≡ false)
             (λ old. Contains (records_in self.now) (arc_value old.now)
-            × (displaces (arc_value new.now) (arc_value old.now) ≡ true))) }
+            × (displaces new.now (arc_value old.now) ≡ true)) }
     {
         match self.chain_for(new) {
             Some(chain) => chain.displaced_by(new),
-            None => Ok(None),
+            None => None,
         }
     }
 

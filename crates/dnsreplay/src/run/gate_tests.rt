@@ -1,4 +1,4 @@
-use super::tests::{joined, source_of, words_of};
+use super::tests::{joined, run_words, source_of, words_of};
 use super::*;
 use outside_core::{MemorySink, Side};
 use std::alloc::Global;
@@ -88,7 +88,7 @@ fn written_of<R: Threads + Wait + Sync, G: Gate>(
     let words = words_of(alloc, "replay --workers 2")?;
     let mut source = source_of(alloc, input)?;
     let mut sink = MemorySink::with_room(alloc, 4096, Vec::new(alloc))?;
-    let _ = run(rt, alloc, &words, &mut source, &mut sink, gate);
+    let _ = run_words(rt, alloc, &words, &mut source, &mut sink, gate)?;
     Ok(Vec::from_slice(alloc, sink.written())?)
 }
 

@@ -1,6 +1,6 @@
 ghost use Rattle.std.specs.Prelude.{Some};
 
-use super::tests::words_of;
+use super::tests::{run_words, words_of};
 use super::*;
 use outside_core::{Failed, MemorySink, MemorySource, OpenGate};
 use std::alloc::Global;
@@ -56,7 +56,7 @@ fn summed<R: Threads + Wait + Sync>(
     let mut sink = Narrow {
         sink: MemorySink::with_room(alloc, 4096, Vec::from_slice(alloc, failing_writes)?)?,
     };
-    let status = run(rt, alloc, &words, &mut source, &mut sink, &OpenGate);
+    let status = run_words(rt, alloc, &words, &mut source, &mut sink, &OpenGate)?;
     Ok((status, Vec::from_slice(alloc, sink.sink.written())?))
 }
 
@@ -74,12 +74,14 @@ fn a_made_zone_has_its_summary(rt: HostRuntime) -> Result<(), Fail> {
 #[test]
 fn a_sink_that_fails_holds_the_front_of_the_summary(rt: HostRuntime) -> Result<(), Fail> {
     let alloc = rt.alloc();
-    let text = "selfrun --seed 4294967295 --names 4 --queries 8";
-    for call in 1..=5_u32 {
-        let (status, written) = summed(&rt, alloc, text, &[call])?;
-        assert_eq!(rt; status, Status::WriteFault, "{call}");
-        assert_eq!(rt; written.len(), (call as usize - 1) * 16, "{call}");
-        assert!(rt; EIGHT.starts_with(&written), "{call}");
+    for (text, lines) in SUMMARIES {
+        // Each call of the run, of 16 octets and at last of what is left.
+        for call in 1..=(lines.len().div_ceil(16) % 100) as u32 {
+            let (status, written) = summed(&rt, alloc, text, &[call])?;
+            assert_eq!(rt; status, Status::WriteFault, "{text} {call}");
+            assert_eq!(rt; written.len(), (call as usize - 1) * 16, "{text} {call}");
+            assert!(rt; lines.starts_with(&written), "{text} {call}");
+        }
     }
     Ok(())
 }

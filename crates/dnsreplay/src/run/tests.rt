@@ -1,7 +1,7 @@
 ghost use Rattle.std.specs.Prelude.{Some, None};
 
 use super::*;
-use outside_core::{Failed, MemorySink, MemorySource, OpenGate};
+use outside_core::{Failed, FixedClock, MemoryHarbor, MemorySink, MemorySource, OpenGate};
 use std::alloc::Global;
 use std::process::ExitCode;
 use std::test::Fail;
@@ -83,7 +83,7 @@ const RUNS: [(&str, &[u8], &[u32], &[u32], Status, &[u8]); 9] = [
     ),
 ];
 
-const LINES: [(Status, u8, Option<&str>); 7] = [
+const LINES: [(Status, u8, Option<&str>); 8] = [
     (Status::Good, 0, None),
     (
         Status::Usage,
@@ -97,6 +97,7 @@ const LINES: [(Status, u8, Option<&str>); 7] = [
     (Status::WriteFault, 5, Some("write fault")),
     (Status::OutOfMemory, 6, Some("out of memory")),
     (Status::InputTooLong, 7, Some("input too long")),
+    (Status::HarborFault, 8, Some("link fault")),
 ];
 
 pub(super) fn words_of(alloc: Global, text: &str) -> Result<Vec<String>, Fail> {
@@ -105,6 +106,20 @@ pub(super) fn words_of(alloc: Global, text: &str) -> Result<Vec<String>, Fail> {
         words.push(String::from_str(alloc, word)?)?;
     }
     Ok(words)
+}
+
+// Runs the words over a harbor that has no links.
+pub(super) fn run_words<R: Threads + Wait + Sync, S: Source, K: Sink, G: Gate>(
+    rt: &R,
+    alloc: Global,
+    words: &[String],
+    source: &mut S,
+    sink: &mut K,
+    gate: &G,
+) -> Result<Status, Fail> {
+    let mut harbor = MemoryHarbor::with_links(alloc, Vec::new(alloc), Vec::new(alloc))?;
+    let clock = FixedClock { now: 0 };
+    Ok(run(rt, alloc, words, source, sink, gate, &mut harbor, &clock))
 }
 
 pub(super) fn source_of(alloc: Global, input: &[u8]) -> Result<MemorySource, Fail> {
@@ -125,7 +140,7 @@ pub(super) fn replayed<R: Threads + Wait + Sync>(
         Vec::from_slice(alloc, failing_reads)?,
     );
     let mut sink = MemorySink::with_room(alloc, 4096, Vec::from_slice(alloc, failing_writes)?)?;
-    let status = run(rt, alloc, &words, &mut source, &mut sink, &OpenGate);
+    let status = run_words(rt, alloc, &words, &mut source, &mut sink, &OpenGate)?;
     Ok((status, Vec::from_slice(alloc, sink.written())?))
 }
 
@@ -171,7 +186,7 @@ fn other_words_are_refused(rt: HostRuntime) -> Result<(), Fail> {
         let words = words_of(alloc, text)?;
         let mut source = MemorySource::of(Vec::from_slice(alloc, QUERY)?, Vec::new(alloc));
         let mut sink = MemorySink::with_room(alloc, 8, Vec::new(alloc))?;
-        let status = run(&rt, alloc, &words, &mut source, &mut sink, &OpenGate);
+        let status = run_words(&rt, alloc, &words, &mut source, &mut sink, &OpenGate)?;
         assert_eq!(rt; status, Status::Usage, "{text}");
         assert!(rt; sink.written().is_empty());
     }
@@ -209,7 +224,7 @@ fn an_input_may_be_too_long(rt: HostRuntime) -> Result<(), Fail> {
     ] {
         let mut source = Zeros { left };
         let mut sink = MemorySink::with_room(alloc, 8, Vec::new(alloc))?;
-        let ended = run(&rt, alloc, &words, &mut source, &mut sink, &OpenGate);
+        let ended = run_words(&rt, alloc, &words, &mut source, &mut sink, &OpenGate)?;
         assert_eq!(rt; ended, status, "{left}");
         assert!(rt; sink.written().is_empty());
     }
@@ -245,7 +260,7 @@ fn pieces_of_one_octet_are_one_input(rt: HostRuntime) -> Result<(), Fail> {
         source: MemorySource::of(Vec::from_slice(alloc, QUERY)?, Vec::new(alloc)),
     };
     let mut sink = MemorySink::with_room(alloc, 8, Vec::new(alloc))?;
-    let ended = run(&rt, alloc, &words, &mut source, &mut sink, &OpenGate);
+    let ended = run_words(&rt, alloc, &words, &mut source, &mut sink, &OpenGate)?;
     assert_eq!(rt; ended, Status::Good);
     assert_eq!(rt; sink.written(), FORWARD);
     Ok(())

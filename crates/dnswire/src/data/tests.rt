@@ -119,7 +119,8 @@ fn read_before(
     if end < BEFORE.len() {
         return Err(WireFault::Short);
     }
-    read_data(alloc, message, rtype, BEFORE.len(), end)
+    let mut table = NameTable::empty(alloc);
+    read_data(alloc, message, rtype, BEFORE.len(), end, &mut table)
 }
 
 fn joined(alloc: Global, pieces: &[&[u8]]) -> Result<Vec<u8>, OutOfMemory> {

@@ -333,3 +333,67 @@ fn an_owner_of_255_octets_by_a_pointer_is_read(rt: HostRuntime) -> Result<(), Fa
     }
     Ok(())
 }
+
+// A question of the root; then a record whose data, from offset 28 on, is a chain of 20 pointers, the first to the root, the
+// last at 66; at 68 an NS record of the root, whose server's name, at 80, ends in the chain.
+const CHAIN: &[u8] =
+    b"\x12\x34\x81\xa0\x00\x01\x00\x01\x00\x02\x00\x01\x00\x00\x01\x00\x01\x00\x00\x0a\x00\x01\x00\x00\x00\x00\x00\x28\xc0\x0c\xc0\x1c\xc0\x1e\xc0\x20\xc0\x22\xc0\x24\xc0\x26\xc0\x28\xc0\x2a\xc0\x2c\xc0\x2e\xc0\x30\xc0\x32\xc0\x34\xc0\x36\xc0\x38\xc0\x3a\xc0\x3c\xc0\x3e\xc0\x40\xc0\x42\x00\x02\x00\x01\x00\x00\x00\x00\x00\x04\x01B\xc0\x42";
+
+// At 84, an A record without data; then an MX record whose owner is given and whose exchange is that server.
+const OWNERS: [(&[u8], &[u8], &[u8], &[u8]); 3] = [
+    // The middle of the chain behind a label, and that name again.
+    (b"\x01A\xc0\x30", b"\xc0\x54", b"\x01a\x00", b"\x01a\x00"),
+    // The chain alone, and the server's name.
+    (b"\xc0\x42", b"\xc0\x50", b"\x00", b"\x01b\x00"),
+    // One label more in front of it.
+    (
+        b"\x01C\xc0\x50",
+        b"\x01d\xc0\x54",
+        b"\x01c\x01b\x00",
+        b"\x01d\x01c\x01b\x00",
+    ),
+];
+
+#[test]
+fn names_that_end_in_a_long_chain_are_read(rt: HostRuntime) -> Result<(), Fail> {
+    let alloc = rt.alloc();
+    for (i, (first_owner, second_owner, first_wire, second_wire)) in OWNERS.iter().enumerate() {
+        let mut octets = joined(alloc, &[CHAIN, first_owner])?;
+        octets.extend_from_slice(b"\x00\x01\x00\x01\x00\x00\x00\x00\x00\x00")?;
+        octets.extend_from_slice(second_owner)?;
+        octets.extend_from_slice(b"\x00\x0f\x00\x01\x00\x00\x00\x00\x00\x04\x00\x01\xc0\x50")?;
+        let message = read_message(alloc, &octets)?;
+        for rr in message.authority.as_slice() {
+            if rr.rtype == 2 {
+                assert_eq!(rt; rr.owner.wire(), b"\x00".as_slice(), "{i}");
+                assert_eq!(rt; rr.octets.as_slice(), b"\x01B\x00".as_slice(), "{i}");
+            } else {
+                assert_eq!(rt; rr.owner.wire(), *first_wire, "{i}");
+            }
+        }
+        for rr in message.additional.as_slice() {
+            assert_eq!(rt; rr.owner.wire(), *second_wire, "{i}");
+            assert_eq!(rt;
+                rr.octets.as_slice(),
+                b"\x00\x01\x01B\x00".as_slice(),
+                "{i}"
+            );
+        }
+        assert_eq!(rt; message.authority.as_slice().len(), 2);
+        assert_eq!(rt; message.additional.as_slice().len(), 1);
+    }
+    Ok(())
+}
+
+// At 84, a pointer to itself, one that goes on, and one to its own run.
+#[test]
+fn behind_a_long_chain_a_fault_is_told(rt: HostRuntime) -> Result<(), Fail> {
+    let alloc = rt.alloc();
+    for owner in [b"\xc0\x54".as_slice(), b"\xc0\x60", b"\x01a\xc0\x54"] {
+        let mut octets = joined(alloc, &[CHAIN, owner])?;
+        octets.extend_from_slice(b"\x00\x01\x00\x01\x00\x00\x00\x00\x00\x00")?;
+        let fault = read_message(alloc, &octets).err();
+        assert_eq!(rt; fault, Some(WireFault::BadName { at: 84 }));
+    }
+    Ok(())
+}

@@ -7,6 +7,11 @@ fn skipped(message: &[u8], at: usize) -> Option<usize> {
     skip_name(message, at, &mut []).ok()
 }
 
+fn name_at(alloc: Global, message: &[u8], at: usize) -> Result<(Name, usize), WireFault> {
+    let mut table = NameTable::empty(alloc);
+    name_or_fault(alloc, message, at, &mut table)
+}
+
 // The name of RFC 1035, section 4.1.4, at its offset 20, with zeros before it.
 const AT_20: &[u8] =
     b"\x00\x00\x00\x00\x00\x00\x00\x00\x00\x00\x00\x00\x00\x00\x00\x00\x00\x00\x00\x00\x01F\x03ISI\x04ARPA\x00";
@@ -39,12 +44,12 @@ fn the_names_of_the_rfc_are_read(rt: HostRuntime) -> Result<(), Fail> {
             is_root_at(message.as_slice(), at),
             wire == b"\x00".as_slice()
         );
-        match read_name(message.as_slice(), at) {
-            Some((name, after)) => {
+        match name_at(rt.alloc(), message.as_slice(), at) {
+            Ok((name, after)) => {
                 assert_eq!(rt; name.wire(), wire, "{at}");
                 assert_eq!(rt; after, end, "{at}");
             }
-            None => assert_eq!(rt; at, 0),
+            Err(_) => assert_eq!(rt; at, 0),
         }
     }
     Ok(())
@@ -68,7 +73,8 @@ const NO_NAME: [(&[u8], usize); 11] = [
 #[test]
 fn where_no_name_stands_none_is_read(rt: HostRuntime) -> Result<(), Fail> {
     for (i, (message, at)) in NO_NAME.iter().enumerate() {
-        assert!(rt; read_name(message, *at).is_none(), "{i}");
+        let fault = name_at(rt.alloc(), message, *at).err();
+        assert_eq!(rt; fault, Some(WireFault::BadName { at: *at }), "{i}");
         assert_eq!(rt; skipped(message, *at), None, "{i}");
     }
     Ok(())
@@ -90,11 +96,8 @@ fn a_name_has_at_most_255_octets(rt: HostRuntime) -> Result<(), Fail> {
             message.push(b'a')?;
         }
         message.extend_from_slice(b"\xc0\x00")?;
-        assert_eq!(rt;
-            read_name(message.as_slice(), 193).is_some(),
-            is_read,
-            "{size}"
-        );
+        let read = name_at(rt.alloc(), message.as_slice(), 193).is_ok();
+        assert_eq!(rt; read, is_read, "{size}");
         assert_eq!(rt;
             skipped(message.as_slice(), 193).is_some(),
             is_read,

@@ -2,14 +2,26 @@ ghost use Rattle.std.specs.Prelude.{◌≡◌, ◌/◌, nat_lt};
 ghost use Rattle.std.specs.List.{prefix_len};
 ghost use Rattle.std.specs.Ordering.{nat_cmp};
 ghost use Rattle.std.proofs.lemmas.Cmp.{nat_cmp_total, on_total};
+ghost use Rattle.std.specs.Cmp.{nat_cmp_is};
+ghost use Rattle.std.specs.declared.cmp.Ordering.TheVariants.{Less, Equal, Greater};
+ghost use Rattle.std.proofs.Common.{sym, ap};
 
 use super::*;
+use page_list::Marking;
 use std::cell::Cell;
 use std::cmp::Ordering;
 use std::test::Fail;
 
-// Numbers by their tens, so that those of one ten rank equal.
+// Numbers by their tens, so that those of one ten rank equal; their tens are their marks.
 struct ByTens;
+
+impl Marking<u64> for ByTens {
+    ghost mark = { λ x. x / 10 };
+
+    fn mark(entry: &u64) -> u64 {
+        *entry / 10
+    }
+}
 
 impl Ranking<u64> for ByTens {
     ghost cmp = { λ x y. nat_cmp (x / 10) (y / 10) };
@@ -19,6 +31,8 @@ impl Ranking<u64> for ByTens {
     }
 
     ghost total = { on_total (λ x. x / 10) nat_cmp_total };
+
+    ghost marks_rise = { λ one other less. sym (nat_cmp_is (one / 10) (other / 10) Less less) };
 }
 
 type Tens = OrderedList<u64, ByTens>;
@@ -175,6 +189,14 @@ struct Counted<'a> {
 
 struct ByNumber;
 
+impl<'a> Marking<Counted<'a>> for ByNumber {
+    ghost mark = { λ _. 0 };
+
+    fn mark(_entry: &Counted<'a>) -> u64 {
+        0
+    }
+}
+
 impl<'a> Ranking<Counted<'a>> for ByNumber {
     ghost cmp = { λ x y. nat_cmp x.number y.number };
 
@@ -184,6 +206,10 @@ impl<'a> Ranking<Counted<'a>> for ByNumber {
     }
 
     ghost total = { on_total (λ x. x.number) nat_cmp_total };
+
+    ghost marks_rise = { λ one other less.
+        sym (ap (elim [ Less ↦ Less | Equal ↦ nat_cmp one.number other.number | Greater ↦ Less ])
+        (nat_cmp_is 0 0 Less less)) };
 }
 
 // The most comparisons of a search, in a list that was made one number after another; none where one misses.

@@ -1,8 +1,8 @@
 //! A run of workers over a new cache.
 ghost use Rattle.std.specs.Prelude.{◌≡◌, ◌<◌, ◌≤◌, ◌^◌, All, IsTrue, length};
 
-use crate::run_workers;
-use outside_core::Gate;
+use crate::{run_workers, write_outputs};
+use outside_core::{Gate, StreamSink};
 use replay_meaning::Frame;
 use resolver::SharedCache;
 use std::alloc::Global;
@@ -38,8 +38,12 @@ pub fn written<R: Threads + Wait + Sync, G: Gate>(
         return Err("a frame of another worker")?;
     }
     match run_workers(rt, alloc, &cache, seats, frames, gate) {
-        Ok((seats, octets)) => {
+        Ok((seats, outputs)) => {
             let closed = cache.close(rt, seats);
+            let mut octets = Vec::new(alloc);
+            if write_outputs(alloc, &mut StreamSink::over(&mut octets), frames, &outputs).is_err() {
+                return Err("a failed write")?;
+            }
             Ok((octets, closed.journal().len()))
         }
         Err(fault) => {

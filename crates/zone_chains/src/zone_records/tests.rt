@@ -67,7 +67,7 @@ fn put(alloc: Global, zone: ZoneRecords, item: Arc<Record>) -> Result<(ZoneRecor
         if !is_denial_of(zone.apex(), &item) {
             return Err(Fail::from("a record of another zone"));
         }
-        let next = match zone.displaced_by(&item)? {
+        let next = match zone.displaced_by(&item) {
             Some(old) => zone.without(alloc, old)?,
             None => return Ok((zone.with(alloc, item)?, gone)),
         };
@@ -160,7 +160,7 @@ fn a_chain_goes_when_it_is_asked_to(rt: HostRuntime) -> Result<(), Fail> {
     if !is_denial_of(zone.apex(), &new) {
         return Err(Fail::from("a record of another zone"));
     }
-    let without = match zone.displaced_by(&new)? {
+    let without = match zone.displaced_by(&new) {
         Some(old) => zone.without(alloc, old)?,
         None => return Err(Fail::from("they meet")),
     };

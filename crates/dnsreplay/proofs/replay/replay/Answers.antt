@@ -6,16 +6,16 @@ use Rattle.replay_meaning.specs.Replay.{SpellsFrames, IsReplay}
 use Rattle.worker_seats.proofs.LawLemmas.{replay_of}
 use Rattle.dnsreplay.proofs.replay.replay.Goals as goal
 
-pub returns-in-Ok : goal.returns-in-Ok
-returns-in-Ok g c octets are =
+pub returns-in-Ok-clause-replay : goal.returns-in-Ok-clause-replay
+returns-in-Ok-clause-replay g c octets output are merged =
     let frames = c.args.frames.now in
     let all = c.in_ok-cache.ensures.all.1 in
-    subst (λ n. IsReplay n octets c.in-Ok.output.items) all
-    (replay_of c.in_ok-cache.seats.items c.in-Ok.seats.items (journal_at c.close.result) octets c.in-Ok.output.items (map input_of frames)
+    subst (λ n. IsReplay n octets output) all
+    (replay_of c.in_ok-cache.seats.items c.in-Ok.seats.items (journal_at c.close.result) octets output (map input_of frames)
     (subst (λ n. SpellsFrames n octets (map input_of frames)) (sym all) are)
     (omega (arith, c.requires.few, length-map frames input_of))
     c.in-Ok.ensures.all
     (λ k d within. (c.in_ok-cache.ensures.fresh k d within).2)
     c.close.ensures.seen
     c.close.ensures.places
-    c.in-Ok.ensures.worked)
+    (c.in-Ok.ensures.worked output merged))

@@ -1,4 +1,4 @@
-use Rattle.std.proofs.Common.{◌≡◌, subst}
+use Rattle.std.proofs.Common.{subst}
 use Rattle.std.proofs.lemmas.Result.{err_from_is_err_and}
 use Rattle.dnswire.specs.RrHead.{AreRrFields}
 use Rattle.dnswire.proofs.MessageNameLemmas.{one_name_at}

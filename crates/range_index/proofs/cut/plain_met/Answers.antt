@@ -8,8 +8,8 @@ returns g c =
     c.start_key-start.result.now c.end_key.result.now _ _ _ _ _ c.start_key-start.ensures c.end_key.ensures
     c.starts_before.ensures.value c.starts_before-to.ensures.value c.trimmed-from.ensures c.len.ensures c.trimmed-last.ensures c.requires.plain
 
-pub starts_before-requires : goal.starts_before-requires
-starts_before-requires g c = before_parted _ g.met.R.Key.Ord.total _ g.R.RingSpan.end c.args.list.now c.requires.arcs _
+pub starts_before-requires-clause-parted : goal.starts_before-requires-clause-parted
+starts_before-requires-clause-parted g c = before_parted _ g.met.R.Key.Ord.total _ g.R.RingSpan.end c.args.list.now c.requires.arcs _
 
-pub starts_before-to-requires : goal.starts_before-to-requires
-starts_before-to-requires g c = before_parted _ g.met.R.Key.Ord.total _ g.R.RingSpan.end c.args.list.now c.requires.arcs _
+pub starts_before-to-requires-clause-parted : goal.starts_before-to-requires-clause-parted
+starts_before-to-requires-clause-parted g c = before_parted _ g.met.R.Key.Ord.total _ g.R.RingSpan.end c.args.list.now c.requires.arcs _

@@ -10,5 +10,5 @@ pub returns-else-upto-gt0 : goal.returns-else-upto-gt0
 returns-else-upto-gt0 g c =
     candidate_last _ g.met.R.Key.Ord.total _ _ c.args.list.now c.requires.arcs c.args.key.now _ _ c.starts_upto-upto.ensures.value (omega arith) c.len.ensures c.requires.some
 
-pub starts_upto-upto-requires : goal.starts_upto-upto-requires
-starts_upto-upto-requires g c = upto_parted _ g.met.R.Key.Ord.total _ g.R.RingSpan.end c.args.list.now c.requires.arcs _
+pub starts_upto-upto-requires-clause-parted : goal.starts_upto-upto-requires-clause-parted
+starts_upto-upto-requires-clause-parted g c = upto_parted _ g.met.R.Key.Ord.total _ g.R.RingSpan.end c.args.list.now c.requires.arcs _

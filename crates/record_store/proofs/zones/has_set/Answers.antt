@@ -1,39 +1,48 @@
-use Rattle.std.proofs.Common.{◌≡◌, sym, ◌∙◌, ap, arith, rules}
+use Rattle.std.proofs.Common.{◌≡◌, ◌*◌, ◌^◌, List, Contains, ℕ, nat_lt, true, false, refl, sym, ◌∙◌, ap, subst, arith, rules}
 use Rattle.std.specs.List.{prefix_len}
-use Rattle.std.specs.Ordering.{is_lt}
 use Rattle.std.specs.Arc.{arc_value}
-use Rattle.dname.specs.Name.{canonical_cmp}
 use Rattle.denial_records.specs.declared.record.Record.{Record}
 use Rattle.cache_meaning.specs.Held.{zone_of}
 use Rattle.held_laws.proofs.ListedLemmas.{name_equal}
-use Rattle.record_store.proofs.SearchLemmas.{same_names, names_below_first, none_past, first_has, sets_rise}
+use Rattle.record_store.specs.Marks.{set_mark, zone_part}
+use Rattle.record_store.proofs.MarkLemmas.{none_before_parts, none_in_front, one_more, none_behind}
+use Rattle.record_store.proofs.SearchLemmas.{names_differ}
 use Rattle.record_store.proofs.zones.has_set.Goals as goal
 
-pub returns-then-place-len-clause-yes : goal.returns-then-place-len-clause-yes
-returns-then-place-len-clause-yes c is =
-    let its = name_equal c.zone_of.result.now c.args.apex.now (sym c.eq.ensures ∙ is) in (
-      arc_value c.get.result.now,
-      (c.find-place.result, omega arith, sym c.get.ensures),
-      ap zone_of (sym c.deref.ensures) ∙ (sym c.zone_of.ensures ∙ its),
-    )
-
-pub returns-then-place-len-clause-no : goal.returns-then-place-len-clause-no
-returns-then-place-len-clause-no c item has same =
+pub loop-place-init : goal.loop-place-init
+loop-place-init c =
     let sets = c.args.sets.now in
-    let apex = c.args.apex.now in
-    let place = c.find-place.result in
-    let rises = sets_rise sets c.len.ensures.in_order c.requires.sets in
-    let found : place ≡ prefix_len (λ (each : Record). is_lt (canonical_cmp (zone_of each) apex)) sets =
-    c.find-place.ensures.exact (λ (each : Record). is_lt (canonical_cmp (zone_of each) apex)) (λ x r says. search rules) (names_below_first zone_of apex sets rises) in
-    let its = first_has zone_of apex sets place found rises (omega arith) (arc_value c.get.result.now) c.get.ensures item has same in
-    c.eq.ensures ∙ same_names c.zone_of.result.now apex (c.zone_of.ensures ∙ (ap zone_of c.deref.ensures ∙ its))
+    let order = c.find_at-from.ensures.in_order in
+    let first = c.first_of_zone-first.result in
+    let place : c.find_at-from.result ≡ prefix_len (λ (item : Record). nat_lt (set_mark item) first) sets =
+    c.find_at-from.ensures.exact (λ (item : Record). nat_lt (set_mark item) first) (λ x r says. search rules) (none_before_parts first sets order) in
+    let found = subst (λ (n : ℕ). c.find_at-from.result ≡ prefix_len (λ (item : Record). nat_lt (set_mark item) n) sets) c.first_of_zone-first.ensures.value place in
+    none_in_front sets order c.requires.sets c.args.apex.now c.find_at-from.result found
 
-pub returns-else-place-len-clause-no : goal.returns-else-place-len-clause-no
-returns-else-place-len-clause-no c item has same =
+pub loop-place-preserved : goal.loop-place-preserved
+loop-place-preserved c =
+    one_more c.args.sets.now c.find_at-from.ensures.in_order c.requires.sets c.args.apex.now c.loop-place.place (arc_value c.get.result.now) (omega arith) c.get.ensures
+    (λ same. names_differ c.zone_of-zone.result.now c.args.apex.now (sym c.if-eq.false ∙ c.eq.ensures) (c.zone_of-zone.ensures ∙ (ap zone_of c.deref.ensures ∙ same)))
+    c.loop-place.invariant
+
+pub returns-clause-no : goal.returns-clause-no
+returns-clause-no c item has same = absurd (omega (arith, has.1, c.loop-place.invariant item has same))
+
+pub returns-then-eq-clause-yes : goal.returns-then-eq-clause-yes
+returns-then-eq-clause-yes c is = (
+  arc_value c.get.result.now,
+  (c.loop-place.place, omega arith, sym c.get.ensures),
+  ap zone_of (sym c.deref.ensures) ∙ (sym c.zone_of-zone.ensures ∙ name_equal c.zone_of-zone.result.now c.args.apex.now (sym c.eq.ensures ∙ c.if-eq.true)),
+)
+
+pub returns-then-first_of_zone-first-clause-no : goal.returns-then-first_of_zone-first-clause-no
+returns-then-first_of_zone-first-clause-no c item has same =
     let sets = c.args.sets.now in
-    let apex = c.args.apex.now in
-    let place = c.find-place.result in
-    let rises = sets_rise sets c.len.ensures.in_order c.requires.sets in
-    let found : place ≡ prefix_len (λ (each : Record). is_lt (canonical_cmp (zone_of each) apex)) sets =
-    c.find-place.ensures.exact (λ (each : Record). is_lt (canonical_cmp (zone_of each) apex)) (λ x r says. search rules) (names_below_first zone_of apex sets rises) in
-    absurd (none_past zone_of apex sets place found (omega arith) item has same)
+    let order = c.find_at-from.ensures.in_order in
+    let first = c.first_of_zone-first.result in
+    let place : c.find_at-from.result ≡ prefix_len (λ (item : Record). nat_lt (set_mark item) first) sets =
+    c.find_at-from.ensures.exact (λ (item : Record). nat_lt (set_mark item) first) (λ x r says. search rules) (none_before_parts first sets order) in
+    let found = subst (λ (n : ℕ). c.find_at-from.result ≡ prefix_len (λ (item : Record). nat_lt (set_mark item) n) sets) c.first_of_zone-first.ensures.value place in
+    absurd (none_behind sets order c.requires.sets c.args.apex.now c.find_at-from.result found c.loop-place.place (arc_value c.get.result.now) (omega arith) c.get.ensures (omega arith)
+    (λ e. c.if-first_of_zone-first.true (c.first_of_zone.ensures.value ∙ (ap (λ z. zone_part z * 2 ^ 32) (c.zone_of-zone.ensures ∙ ap zone_of c.deref.ensures) ∙ (e ∙ sym c.first_of_zone-first.ensures.value))))
+    c.loop-place.invariant item has same)

@@ -13,7 +13,7 @@ loop-frame-init g c = record {
   object = c.requires.object;
   number = refl;
   calls = omega arith;
-  work = work_none c.args.job.worker c.args.job.seat c.new-octets.result.items c.new-octets.ensures.items;
+  work = work_none c.args.job.worker c.args.job.seat c.reserve_exact.new.self.items (c.reserve_exact.ensures.items ∙ c.new-octets.ensures.items);
 }
 
 pub loop-frame-preserved : goal.loop-frame-preserved

@@ -1,4 +1,4 @@
-use Rattle.std.proofs.Common.{arith}
+use Rattle.std.proofs.Common.{◌∙◌, arith}
 use Rattle.page_list.proofs.Rows.{first_at, length_along}
 use Rattle.page_list.proofs.Search.{answered, HasNarrowed-up, HasNarrowed-down}
 use Rattle.page_list.proofs.row.Row.block_to_search.Goals as goal
@@ -11,7 +11,7 @@ loop-high-preserved-then-before g c =
       in_range = c.loop-high.invariant.in_range;
       narrowed =
           HasNarrowed-up _ _ _ _ _ _ c.loop-high.invariant.narrowed (length_along g.B.Block.entries c.args.self.now _ _ (omega arith)) (omega arith) at.0
-          (answered g.F.Fn c.args.before.now _ _ c.deref.result _ _ at.0 (rw c.deref.ensures at.1) c.before-in-loop-high.ensures c.if-before.true);
+          (answered g.F.Fn c.args.before.now _ _ c.first.result.now c.deref.result _ _ at.0 at.1 (c.deref.ensures ∙ c.share.ensures) c.before-in-loop-high.ensures c.if-before.true);
     }
 
 pub loop-high-preserved : goal.loop-high-preserved
@@ -22,5 +22,5 @@ loop-high-preserved g c =
       in_range = omega arith;
       narrowed =
           HasNarrowed-down _ _ _ _ _ c.loop-high.invariant.narrowed (length_along g.B.Block.entries c.args.self.now _ _ (omega arith)) at.0
-          (answered g.F.Fn c.args.before.now _ _ c.deref.result _ _ at.0 (rw c.deref.ensures at.1) c.before-in-loop-high.ensures c.if-before.false);
+          (answered g.F.Fn c.args.before.now _ _ c.first.result.now c.deref.result _ _ at.0 at.1 (c.deref.ensures ∙ c.share.ensures) c.before-in-loop-high.ensures c.if-before.false);
     }

@@ -2,7 +2,8 @@ use Rattle.std.proofs.Common.{◌≡◌, List, Contains, sym, ◌∙◌, ap, sub
 use Rattle.std.specs.Arc.{arc_value}
 use Rattle.std.proofs.lemmas.Result.{IfOk-weaker}
 use Rattle.denial_records.specs.declared.record.Record.{Record}
-use Rattle.cache_meaning.specs.Held.{Held, key_cmp}
+use Rattle.cache_meaning.specs.Held.{Held}
+use Rattle.record_store.specs.Ranks.{set_cmp}
 use Rattle.ordered_list.specs.Order.{without_entry}
 use Rattle.record_store.specs.Dropping.{AreSets}
 use Rattle.record_store.specs.Holding.{AreBut}
@@ -16,7 +17,7 @@ returns-in_ok-new-in-Set c =
     let there = subst (λ (l : List Record). Contains l gone) whole c.requires.there in
     let but = subst (λ (l : List Record). AreBut gone l c.args.goings.now) whole c.requires.left in
     sets_but gone (arc_value c.self.inside.goings) (arc_value c.self.inside.sets) (arc_value c.self.inside.zones) c.self.invariant c.args.goings.now but there (arc_value c.in_ok-new-in-Set.field-0)
-    (c.in_ok-new-in-Set.ensures.ok ∙ (c.in_ok-without-in-Set.ensures.made ∙ ap (without_entry key_cmp gone) c.deref.ensures))
+    (c.in_ok-new-in-Set.ensures.ok ∙ (c.in_ok-without-in-Set.ensures.made ∙ ap (without_entry set_cmp gone) c.deref.ensures))
 
 pub returns-in_default : goal.returns-in_default
 returns-in_default c =

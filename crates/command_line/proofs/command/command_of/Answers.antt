@@ -1,0 +1,52 @@
+use Rattle.std.proofs.Common.{sym, ◌∙◌, refl}
+use Rattle.std.specs.Prelude.{string_bytes}
+use Rattle.std.proofs.lemmas.Bool.{false≢true}
+use Rattle.command_line.specs.Words.{texts}
+use Rattle.command_line.proofs.CommandLemmas.{is_none, neither, no_texts, no_words, not_empty, replay_every, replay_read, selfrun_every, selfrun_read, serve_every, serve_read, texts_first}
+use Rattle.command_line.proofs.command.command_of.Goals as goal
+
+pub returns-then-is_empty-clause-every : goal.returns-then-is_empty-clause-every
+returns-then-is_empty-clause-every c = λ command are.
+    absurd (no_words (texts c.args.words.now) (no_texts c.args.words.now (is_none c.args.words.now _ c.is_empty.ensures c.if-is_empty.true)) command are)
+
+pub returns-then-is_word-clause-read : goal.returns-then-is_word-clause-read
+returns-then-is_word-clause-read c =
+    replay_read (texts c.args.words.now) (texts c.after_first-options.result.now) _
+    (texts_first c.args.words.now c.after_first-options.result.now c.index-words-0.result _ (not_empty c.args.words.now _ c.is_empty.ensures c.if-is_empty.false) c.index-words-0.is (sym (c.is_word.ensures.0 c.if-is_word.true)) c.after_first-options.ensures)
+    c.replay_of.ensures.read
+
+pub returns-then-is_word-clause-every : goal.returns-then-is_word-clause-every
+returns-then-is_word-clause-every c =
+    replay_every (texts c.args.words.now) (texts c.after_first-options.result.now) _
+    (texts_first c.args.words.now c.after_first-options.result.now c.index-words-0.result _ (not_empty c.args.words.now _ c.is_empty.ensures c.if-is_empty.false) c.index-words-0.is (sym (c.is_word.ensures.0 c.if-is_word.true)) c.after_first-options.ensures)
+    c.replay_of.ensures.every
+
+pub returns-then-is_word-2-clause-read : goal.returns-then-is_word-2-clause-read
+returns-then-is_word-2-clause-read c =
+    selfrun_read (texts c.args.words.now) (texts c.after_first-options.result.now) _
+    (texts_first c.args.words.now c.after_first-options.result.now c.index-words-0.result _ (not_empty c.args.words.now _ c.is_empty.ensures c.if-is_empty.false) c.index-words-0.is (sym (c.is_word-2.ensures.0 c.if-is_word-2.true)) c.after_first-options.ensures)
+    c.selfrun_of.ensures.read
+
+pub returns-then-is_word-2-clause-every : goal.returns-then-is_word-2-clause-every
+returns-then-is_word-2-clause-every c =
+    selfrun_every (texts c.args.words.now) (texts c.after_first-options.result.now) _
+    (texts_first c.args.words.now c.after_first-options.result.now c.index-words-0.result _ (not_empty c.args.words.now _ c.is_empty.ensures c.if-is_empty.false) c.index-words-0.is (sym (c.is_word-2.ensures.0 c.if-is_word-2.true)) c.after_first-options.ensures)
+    c.selfrun_of.ensures.every
+
+pub returns-then-is_word-3-clause-read : goal.returns-then-is_word-3-clause-read
+returns-then-is_word-3-clause-read c =
+    serve_read (texts c.args.words.now) (texts c.after_first-options.result.now) _
+    (texts_first c.args.words.now c.after_first-options.result.now c.index-words-0.result _ (not_empty c.args.words.now _ c.is_empty.ensures c.if-is_empty.false) c.index-words-0.is (sym (c.is_word-3.ensures.0 c.if-is_word-3.true)) c.after_first-options.ensures)
+    c.serve_of.ensures.read
+
+pub returns-then-is_word-3-clause-every : goal.returns-then-is_word-3-clause-every
+returns-then-is_word-3-clause-every c =
+    serve_every (texts c.args.words.now) (texts c.after_first-options.result.now) _
+    (texts_first c.args.words.now c.after_first-options.result.now c.index-words-0.result _ (not_empty c.args.words.now _ c.is_empty.ensures c.if-is_empty.false) c.index-words-0.is (sym (c.is_word-3.ensures.0 c.if-is_word-3.true)) c.after_first-options.ensures)
+    c.serve_of.ensures.every
+
+pub returns-clause-every : goal.returns-clause-every
+returns-clause-every c = λ command are.
+    absurd (neither (texts c.args.words.now) (texts c.after_first-options.result.now) (string_bytes c.index-words-0.result)
+    (texts_first c.args.words.now c.after_first-options.result.now c.index-words-0.result _ (not_empty c.args.words.now _ c.is_empty.ensures c.if-is_empty.false) c.index-words-0.is refl c.after_first-options.ensures)
+    (λ e. false≢true (sym c.if-is_word.false ∙ c.is_word.ensures.1 e)) (λ e. false≢true (sym c.if-is_word-2.false ∙ c.is_word-2.ensures.1 e)) (λ e. false≢true (sym c.if-is_word-3.false ∙ c.is_word-3.ensures.1 e)) command are)

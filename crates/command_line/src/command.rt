@@ -1,0 +1,221 @@
+ghost use Rattle.std.specs.Prelude.{◌≡◌, ◌↔◌, ◌≤◌, ℕ, [], ◌∷◌, drop, length, IfOk, IfSome, IsTrue, Some};
+ghost use Rattle.std.specs.String.{string_bytes};
+ghost use Rattle.command_line.specs.Words.{AreWordsOf, Gives, texts, workers_setting, seed_setting, names_setting, queries_setting, listen_setting, upstream_setting, datagrams_setting, HasPorts};
+ghost use Rattle.command_line.specs.declared.command.Command.TheVariants.{Replay, Selfrun, Serve};
+
+use crate::matching::{matches_of, value_in};
+use crate::setting::Setting;
+use std::alloc::{AllocError, Global};
+
+/// Memory ran out.
+pub type OutOfMemory = AllocError;
+
+const MOST_WORKERS: u32 = 32;
+
+/// What the words ask for.
+#[derive(Clone, Copy, Debug, PartialEq, Eq)]
+pub enum Command {
+    /// Frames are replayed over this many workers, 1 to 32.
+    Replay {
+        workers: u8,
+    },
+    /// A zone of 1 to 10,000 names is made from the seed, and asked at most 100,000 queries.
+    Selfrun {
+        seed: u32,
+        names: u32,
+        queries: u32,
+    },
+    /// 1 to 32 workers each listen at a port of their own, from `listen` on, for 1 to 5,000
+    /// datagrams; what the cache can't answer is asked at the port `upstream`.
+    Serve {
+        listen: u16,
+        upstream: u16,
+        workers: u8,
+        datagrams: u32,
+    },
+}
+
+/// The command that the words after the program's name are, if they are one. Each of its options
+/// stands there once, in any order, as `--name value` or `--name=value`; a value is 1 to 10 ASCII
+/// digits. `OutOfMemory` comes only where memory runs out.
+pub fn command_of(alloc: Global, words: &[String]) -> Result<Option<Command>, OutOfMemory>
+    ensures read { IfOk result (λ found. IfSome found (AreWordsOf words.now)) }
+    ensures every { (command : _) → AreWordsOf words.now command
+        → IfOk result (λ found. found ≡ Some command) }
+{
+    if words.is_empty() {
+        return Ok(None);
+    }
+    let first = &words[0];
+    let options = after_first(words);
+    if is_word(first, "replay") {
+        return replay_of(alloc, options);
+    }
+    if is_word(first, "selfrun") {
+        return selfrun_of(alloc, options);
+    }
+    if is_word(first, "serve") {
+        return serve_of(alloc, options);
+    }
+    Ok(None)
+}
+
+fn replay_of(alloc: Global, options: &[String]) -> Result<Option<Command>, OutOfMemory>
+    ensures read { IfOk result (λ found. IfSome found (λ command. (workers : ℕ)
+        × (command ≡ Replay workers)
+        × Gives ((workers_setting, workers) ∷ []) (texts options.now))) }
+    ensures every { (workers : ℕ) → Gives ((workers_setting, workers) ∷ []) (texts options.now)
+        → IfOk result (λ found. found ≡ Some (Replay workers)) }
+{
+    let settings = [Setting {
+        name: "workers",
+        least: 1,
+        most: MOST_WORKERS,
+    }];
+    let Some(matches) = matches_of(alloc, &settings, options)? else {
+        return Ok(None);
+    };
+    let Some(workers) = value_in(&matches, &settings[0]) else {
+        return Ok(None);
+    };
+    Ok(Some(Command::Replay {
+        workers: workers as u8,
+    }))
+}
+
+fn selfrun_of(alloc: Global, options: &[String]) -> Result<Option<Command>, OutOfMemory>
+    ensures read { IfOk result (λ found. IfSome found (λ command. (seed names queries : ℕ)
+        × (command ≡ Selfrun seed names queries)
+        × Gives ((seed_setting, seed) ∷ (names_setting, names) ∷ (queries_setting, queries) ∷ [])
+        (texts options.now))) }
+    ensures every { (seed names queries : ℕ)
+        → Gives ((seed_setting, seed) ∷ (names_setting, names) ∷ (queries_setting, queries) ∷ [])
+        (texts options.now) → IfOk result (λ found. found ≡ Some (Selfrun seed names queries)) }
+{
+    let settings = [
+        Setting {
+            name: "seed",
+            least: 0,
+            most: u32::MAX,
+        },
+        Setting {
+            name: "names",
+            least: 1,
+            most: 10_000,
+        },
+        Setting {
+            name: "queries",
+            least: 0,
+            most: 100_000,
+        },
+    ];
+    let Some(matches) = matches_of(alloc, &settings, options)? else {
+        return Ok(None);
+    };
+    let Some(seed) = value_in(&matches, &settings[0]) else {
+        return Ok(None);
+    };
+    let Some(names) = value_in(&matches, &settings[1]) else {
+        return Ok(None);
+    };
+    let Some(queries) = value_in(&matches, &settings[2]) else {
+        return Ok(None);
+    };
+    Ok(Some(Command::Selfrun {
+        seed,
+        names,
+        queries,
+    }))
+}
+
+fn serve_of(alloc: Global, options: &[String]) -> Result<Option<Command>, OutOfMemory>
+    ensures read { IfOk result (λ found. IfSome found (λ command.
+        (listen upstream workers datagrams : ℕ)
+        × (command ≡ Serve listen upstream workers datagrams)
+        × Gives ((listen_setting, listen) ∷ (upstream_setting, upstream)
+        ∷ (workers_setting, workers) ∷ (datagrams_setting, datagrams) ∷ []) (texts options.now)
+        × HasPorts listen upstream workers)) }
+    ensures every { (listen upstream workers datagrams : ℕ)
+        → Gives ((listen_setting, listen) ∷ (upstream_setting, upstream)
+        ∷ (workers_setting, workers) ∷ (datagrams_setting, datagrams) ∷ []) (texts options.now)
+        → HasPorts listen upstream workers
+        → IfOk result (λ found. found ≡ Some (Serve listen upstream workers datagrams)) }
+{
+    let settings = [
+        Setting {
+            name: "listen",
+            least: 1,
+            most: 65_535,
+        },
+        Setting {
+            name: "upstream",
+            least: 1,
+            most: 65_535,
+        },
+        Setting {
+            name: "workers",
+            least: 1,
+            most: MOST_WORKERS,
+        },
+        Setting {
+            name: "datagrams",
+            least: 1,
+            most: 5_000,
+        },
+    ];
+    let Some(matches) = matches_of(alloc, &settings, options)? else {
+        return Ok(None);
+    };
+    let Some(listen) = value_in(&matches, &settings[0]) else {
+        return Ok(None);
+    };
+    let Some(upstream) = value_in(&matches, &settings[1]) else {
+        return Ok(None);
+    };
+    let Some(workers) = value_in(&matches, &settings[2]) else {
+        return Ok(None);
+    };
+    let Some(datagrams) = value_in(&matches, &settings[3]) else {
+        return Ok(None);
+    };
+    Ok(serve_at(listen, upstream, workers, datagrams))
+}
+
+// The command, if the workers' ports are ports, and upstream's is none of them.
+fn serve_at(listen: u32, upstream: u32, workers: u32, datagrams: u32) -> Option<Command>
+    requires listen { listen ≤ 65535 }
+    requires upstream { upstream ≤ 65535 }
+    requires workers { (1 ≤ workers) × (workers ≤ 32) }
+    ensures read { IfSome result (λ command.
+        (command ≡ Serve listen upstream workers datagrams)
+        × HasPorts listen upstream workers) }
+    ensures every { HasPorts listen upstream workers
+        → result ≡ Some (Serve listen upstream workers datagrams) }
+{
+    let end = listen + workers;
+    if 65_536 < end || (listen <= upstream && upstream < end) {
+        return None;
+    }
+    Some(Command::Serve {
+        listen: listen as u16,
+        upstream: upstream as u16,
+        workers: workers as u8,
+        datagrams,
+    })
+}
+
+fn after_first(words: &[String]) -> &[String]
+    requires { 1 ≤ length words.now }
+    ensures { result.now ≡ drop 1 words.now }
+{
+    &words[1..]
+}
+
+fn is_word(word: &String, text: &str) -> bool
+    ensures { IsTrue result ↔ (string_bytes word.now ≡ text.now) }
+{
+    word.as_str() == text
+}
+
+#[cfg(test)]
+mod tests;

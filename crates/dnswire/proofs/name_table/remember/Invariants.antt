@@ -1,0 +1,14 @@
+use Rattle.std.proofs.Common.{◌≡◌, ◌≤◌}
+use Rattle.dnswire.specs.Expansions.{IsKept, IsTableOf}
+use Rattle.dnswire.proofs.name_table.remember.Given as goal
+
+abbrev pub invariant-loop-start : goal.invariant-loop-start
+invariant-loop-start l = record {
+  kept : IsKept l.message l.table.octets l.start l.place;
+  small : l.place.size ≤ 255;
+  octets : l.table.octets ≡ l.fn.table.octets;
+  table : IsTableOf l.message l.table;
+}
+
+abbrev pub decreases-loop-start : goal.decreases-loop-start
+decreases-loop-start l = l.start

@@ -1,0 +1,202 @@
+ghost use Rattle.std.specs.Prelude.{◌≡◌, ◌≤◌, ◌+◌, ◌^◌, ◌<◌, ℕ, List, ◌++◌, length, set, get_or, IfOk, IfSome, IfNone, Err};
+ghost use Rattle.dnswire.specs.Expansions.{HasOctets, IsKept, IsTableOf, octets_in, nowhere};
+ghost use Rattle.dnswire.specs.Runs.{HasNoRoom};
+ghost use Rattle.dnswire.specs.declared.name_read.NotRead.{NotRead};
+
+use crate::label_run::run_at;
+use crate::name_read::{NotRead, append, append_from};
+use arrayvec::ArrayVec;
+use dname::{MAX_WIRE, Octets, octets_between};
+use std::alloc::{AllocError, Global};
+
+/// So many offsets can a pointer go to (RFC 1035, section 4.1.4).
+const POINTED_OFFSETS: usize = 0x4000;
+
+/// What stands in a message where pointers go, written out, so that no chain of pointers is followed twice.
+#[derive(Drop)]
+pub(crate) struct NameTable {
+    // All that is written out, and where it is by its offset in the message.
+    octets: Octets,
+    places: Vec<Place>,
+}
+
+/// Where octets are kept; a place without octets is none.
+#[derive(Clone, Copy, Debug)]
+pub(crate) struct Place {
+    start: usize,
+    size: usize,
+}
+
+const NOWHERE: Place = Place { start: 0, size: 0 };
+
+impl NameTable {
+    /// The table that keeps nothing. It takes no memory.
+    pub(crate) fn empty(alloc: Global) -> NameTable
+        ensures { (message : List ℕ) → IsTableOf message result }
+    {
+        NameTable {
+            octets: Octets::empty(alloc),
+            places: Vec::new(alloc),
+        }
+    }
+
+    pub(crate) fn is_open(&self) -> bool {
+        !self.places.is_empty()
+    }
+
+    /// Makes room for what stands in a message of so many octets.
+    pub(crate) fn open(&mut self, alloc: Global, size: usize) -> Result<(), AllocError>
+        ensures { (message : List ℕ) → IsTableOf message self.old
+            → IsTableOf message self.new }
+    {
+        if self.places.is_empty() {
+            self.places = vec![in alloc; NOWHERE; size.min(POINTED_OFFSETS)]?;
+        }
+        Ok(())
+    }
+
+    /// Where the octets of the offset are kept.
+    fn place_at(&self, at: usize) -> Place
+        ensures { result ≡ get_or self.now.places.items at nowhere }
+    {
+        match self.places.get(at) {
+            Some(place) => *place,
+            None => NOWHERE,
+        }
+    }
+
+    /// The octets at the place.
+    pub(crate) fn octets_of(&self, place: Place) -> &[u8]
+        requires { place.start + place.size ≤ length self.now.octets }
+        ensures { result.now ≡ octets_in self.now.octets place }
+    {
+        octets_between(
+            self.octets.as_slice(),
+            place.start,
+            place.start + place.size,
+        )
+    }
+
+    fn keep(&mut self, at: usize, place: Place)
+        requires { at < length self.old.places.items }
+        ensures octets { self.new.octets ≡ self.old.octets }
+        ensures places { self.new.places.items ≡ set self.old.places.items at place }
+    {
+        self.places[at] = place;
+    }
+
+    fn add(&mut self, piece: &[u8]) -> Result<Place, AllocError>
+        ensures octets { IfOk result (λ place. (place.start + place.size ≤ length self.new.octets)
+            × (octets_in self.new.octets place ≡ piece.now) × (place.size ≡ length piece.now)
+            × (place.start + place.size < 2 ^ 64)) }
+        ensures table { (message : List ℕ) → IsTableOf message self.old
+            → IsTableOf message self.new }
+    {
+        let start = self.octets.as_slice().len();
+        self.octets.append(piece)?;
+        let end = self.octets.as_slice().len();
+        Ok(Place {
+            start,
+            size: end - start,
+        })
+    }
+}
+
+/// Where the octets are of what is read from the offset on, which are no more than these.
+pub(crate) fn place_of(
+    message: &[u8],
+    at: usize,
+    room: usize,
+    table: &mut NameTable,
+) -> Result<Place, NotRead>
+    requires room { room ≤ 255 }
+    requires table { IsTableOf message.now table.old }
+    ensures read { IfOk result (λ place. IsKept message.now table.new.octets at place
+        × (place.size ≤ room)) }
+    ensures faulty { result ≡ Err NotRead.Faulty → HasNoRoom message.now at room }
+    ensures table { IsTableOf message.now table.new }
+{
+    let known = table.place_at(at);
+    if known.size > room {
+        return Err(NotRead::Faulty);
+    }
+    if known.size > 0 {
+        return Ok(known);
+    }
+    let Some(rest) = rest_at(message, at, room, table) else {
+        return Err(NotRead::Faulty);
+    };
+    let Ok(place) = table.add(rest.octets.as_slice()) else {
+        return Err(NotRead::OutOfMemory);
+    };
+    remember(message, at, place, rest.last_run, table);
+    Ok(place)
+}
+
+// What is read from an offset on, and where the last run begins that wasn't kept.
+#[derive(Drop)]
+struct Rest {
+    octets: ArrayVec<u8, MAX_WIRE>,
+    last_run: usize,
+}
+
+fn rest_at(message: &[u8], at: usize, room: usize, table: &NameTable) -> Option<Rest>
+    requires room { room ≤ 255 }
+    requires table { IsTableOf message.now table.now }
+    ensures read { IfSome result (λ rest. HasOctets message.now at rest.octets.items
+        × (length rest.octets.items ≤ room)) }
+    ensures none { IfNone result (HasNoRoom message.now at room) }
+{
+    let mut octets = ArrayVec::new();
+    let mut start = at;
+    let mut last_run = at;
+    loop {
+        let known = table.place_at(start);
+        if known.size > room - octets.len() {
+            return None;
+        }
+        if known.size > 0 {
+            append(&mut octets, table.octets_of(known));
+            return Some(Rest { octets, last_run });
+        }
+        last_run = start;
+        let Some(run) = run_at(message, start, room - octets.len()) else {
+            return None;
+        };
+        append_from(&mut octets, message, start, run.size);
+        let Some(next) = run.next else {
+            append(&mut octets, &[0]);
+            return Some(Rest { octets, last_run });
+        };
+        start = next;
+    }
+}
+
+// Keeps what is read from the offset on, which is at the place, and what its pointers lead to.
+fn remember(message: &[u8], at: usize, whole: Place, last_run: usize, table: &mut NameTable)
+    requires kept { IsKept message.now table.old.octets at whole }
+    requires small { whole.size ≤ 255 }
+    requires table { IsTableOf message.now table.old }
+    ensures octets { table.new.octets ≡ table.old.octets }
+    ensures table { IsTableOf message.now table.new }
+{
+    let mut start = at;
+    let mut place = whole;
+    while start < table.places.len() {
+        table.keep(start, place);
+        if start == last_run {
+            return;
+        }
+        let Some(run) = run_at(message, start, place.size) else {
+            return;
+        };
+        let Some(next) = run.next else {
+            return;
+        };
+        start = next;
+        place = Place {
+            start: place.start + run.size,
+            size: place.size - run.size,
+        };
+    }
+}

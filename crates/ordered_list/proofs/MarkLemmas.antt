@@ -1,0 +1,23 @@
+-- Marks agree with the order.
+use Rattle.std.proofs.Common.{◌≡◌, ℕ, ◌<◌, Bool, true, false, List, Contains, sym, ◌∙◌, ap, subst, arith}
+use Rattle.std.specs.List.Sorted.{IsPartitionedBy}
+use Rattle.std.specs.Cmp.{IsTotalOrder}
+use Rattle.std.specs.Ordering.{is_lt}
+use Rattle.std.specs.declared.cmp.Ordering.{Ordering}
+use Rattle.std.specs.declared.cmp.Ordering.TheVariants.{Less}
+use Rattle.std.proofs.lemmas.Grind.{common_steps}
+use Rattle.page_list.specs.Marks.{PartsAtMark}
+use Rattle.ordered_list.specs.Order.{IsInOrder}
+use Rattle.ordered_list.proofs.PlaceLemmas.{below_first}
+
+module _ {X : Type 0} (cmp : X → X → Ordering) (total : IsTotalOrder cmp) (mark : X → ℕ) (rise : (one other : X) → mark one < mark other → cmp one other ≡ Less) where
+  not_back : (one other : X) → cmp one other ≡ Less → is_lt (cmp other one) ≡ false
+  not_back one other less = grind (arith, common_steps, total)
+
+  -- those that rank below an entry, by its mark
+  pub below_parts : (like : X) (xs : List X) → IsInOrder cmp xs → PartsAtMark mark (mark like) (λ x. is_lt (cmp x like)) xs
+  below_parts like xs order = record {
+    first = below_first cmp total like xs order;
+    lesser = λ x has less. ap is_lt (rise x like less);
+    greater = λ x has more. not_back like x (rise like x more);
+  }

@@ -1,0 +1,55 @@
+//! A shared value with its mark.
+ghost use Rattle.std.specs.Prelude.{◌≡◌, IfOk};
+ghost use Rattle.std.specs.Arc.{arc_value};
+
+use crate::OutOfMemory;
+use std::marker::Model;
+use std::sync::Arc;
+
+/// A shared value and its mark, which lie together.
+#[derive(Drop)]
+pub(crate) struct Entry<T> {
+    mark: u64,
+    share: Arc<T>,
+}
+
+impl<T> Model for Entry<T> {
+    ghost use Rattle.std.specs.Arc.{arc_value};
+    ghost use Rattle.page_list.specs.Marks.{Marked};
+
+    ghost Value = { Marked T };
+
+    ghost view = { λ e. record { mark = e.mark; value = arc_value e.share } };
+}
+
+impl<T> Entry<T> {
+    pub(crate) fn of(mark: u64, share: Arc<T>) -> Entry<T>
+        ensures { result ≡ record { mark = mark; value = arc_value share } }
+    {
+        Entry { mark, share }
+    }
+
+    pub(crate) fn mark(&self) -> u64
+        ensures { result ≡ self.now.mark }
+    {
+        self.mark
+    }
+
+    pub(crate) fn share(&self) -> &Arc<T>
+        ensures { arc_value result.now ≡ self.now.value }
+    {
+        &self.share
+    }
+}
+
+impl<T: Drop> Entry<T> {
+    /// Another owner of the value.
+    pub(crate) fn try_clone(&self) -> Result<Entry<T>, OutOfMemory>
+        ensures { IfOk result (λ entry. entry ≡ self.now) }
+    {
+        Ok(Entry {
+            mark: self.mark,
+            share: Arc::try_clone(&self.share)?,
+        })
+    }
+}

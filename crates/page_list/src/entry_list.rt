@@ -1,0 +1,112 @@
+//! The entries of a list, in shared pages.
+ghost use Rattle.std.specs.Prelude.{◌≡◌, ◌<◌, ◌≤◌, ◌++◌, [], Bool, length, take, drop, IfOk, slice_index_or};
+ghost use Rattle.std.specs.List.{prefix_len};
+ghost use Rattle.std.specs.List.Sorted.{IsPartitionedBy};
+ghost use Rattle.page_list.specs.Marks.{Marked, mark_of, PartsAtMark};
+ghost use Rattle.page_list.specs.Search.{IsTestOf};
+
+use crate::blocks::Blocks;
+use crate::page::Page;
+use crate::row::Row;
+use crate::splice::spliced_row;
+use crate::{Block, Entry, OutOfMemory};
+use std::alloc::Global;
+use std::marker::Model;
+
+type Shelf<T> = Blocks<T, Page<T>>;
+
+type Bookcase<T> = Blocks<T, Shelf<T>>;
+
+/// Entries in shared pages, seen as the list of them.
+#[derive(Drop)]
+pub(crate) struct EntryList<T: Drop> {
+    pub(crate) bookcases: Row<T, Bookcase<T>>,
+}
+
+impl<T: Drop> Model for EntryList<T> {
+    ghost use Rattle.std.specs.Prelude.{List};
+    ghost use Rattle.std.specs.List.{flat_map};
+    ghost use Rattle.page_list.specs.Marks.{Marked};
+
+    ghost Value = { List (Marked T) };
+
+    ghost view = { λ l. flat_map (λ bookcase. bookcase) l.bookcases };
+}
+
+impl<T: Drop> EntryList<T> {
+    pub(crate) fn empty(alloc: Global) -> EntryList<T>
+        ensures { result ≡ [] }
+    {
+        EntryList {
+            bookcases: Row::empty(alloc),
+        }
+    }
+
+    pub(crate) fn len(&self) -> usize
+        ensures { result ≡ length self.now }
+    {
+        self.bookcases.total()
+    }
+
+    pub(crate) fn get(&self, i: usize) -> &Entry<T>
+        requires { i < length self.now }
+        ensures { result.now ≡ slice_index_or self.now i result.now }
+    {
+        &self.page_from(i)[0]
+    }
+
+    /// The entries from the entry `i` on, as far as its page goes.
+    pub(crate) fn page_from(&self, i: usize) -> &[Entry<T>]
+        requires { i < length self.now }
+        ensures some { 0 < length result.now }
+        ensures entries { result.now ≡ take (length result.now) (drop i self.now) }
+    {
+        self.bookcases.page_from(i)
+    }
+
+    /// How many entries `before` holds of, which are the first ones.
+    pub(crate) fn find<F: Fn(&T) -> bool>(&self, before: &F) -> usize
+        requires { F.IsAlwaysCallable before.now }
+        ensures in_range { result ≤ length self.now }
+        ensures exact { (p : Marked T → Bool) → IsTestOf F.Fn before.now p
+            → IsPartitionedBy p self.now → result ≡ prefix_len p self.now }
+    {
+        self.bookcases.find(before)
+    }
+
+    /// The same, asked only of entries with the mark.
+    pub(crate) fn find_at<F: Fn(&T) -> bool>(&self, mark: u64, before: &F) -> usize
+        requires { F.IsAlwaysCallable before.now }
+        ensures in_range { result ≤ length self.now }
+        ensures exact { (p : Marked T → Bool) → IsTestOf F.Fn before.now p
+            → PartsAtMark mark_of mark p self.now → result ≡ prefix_len p self.now }
+    {
+        self.bookcases.find_at(mark, before)
+    }
+
+    /// The list with `items` in place of the entries `from..to`.
+    pub(crate) fn with_replaced(
+        &self,
+        alloc: Global,
+        from: usize,
+        to: usize,
+        items: Vec<Entry<T>>,
+    ) -> Result<EntryList<T>, OutOfMemory>
+        requires order { from ≤ to }
+        requires in_range { to ≤ length self.now }
+        ensures { IfOk result (λ made. made ≡ take from self.now ++ items.items ++ drop to self.now) }
+    {
+        let old = &self.bookcases;
+        if let Some(bookcases) = old.replaced(alloc, from, to, items.as_slice()) {
+            return Ok(EntryList { bookcases });
+        }
+        let made = if old.count() == 0 {
+            Bookcase::made(alloc, items)?
+        } else {
+            spliced_row(alloc, old, from, items, old, to)?
+        };
+        Ok(EntryList {
+            bookcases: Row::of(alloc, made)?,
+        })
+    }
+}

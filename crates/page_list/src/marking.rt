@@ -1,0 +1,23 @@
+//! Numbers that stand for entries in a search.
+ghost use Rattle.std.specs.Prelude.{◌≡◌, ℕ};
+
+/// A mark of each entry, which is kept beside it, so that a search for a mark need not read the entry. Two entries may
+/// have one mark. A type of its own, so that one type of entries may be marked in several ways.
+pub trait Marking<T> {
+    ghost mark: { T → ℕ };
+
+    fn mark(entry: &T) -> u64
+        ensures { result ≡ mark entry.now };
+}
+
+/// All entries have the mark 0.
+#[derive(Drop)]
+pub struct NoMarks;
+
+impl<T> Marking<T> for NoMarks {
+    ghost mark = { λ _. 0 };
+
+    fn mark(_entry: &T) -> u64 {
+        0
+    }
+}

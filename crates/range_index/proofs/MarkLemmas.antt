@@ -1,0 +1,46 @@
+-- Marks agree with the order of starts.
+use Rattle.std.proofs.Common.{◌≡◌, ℕ, ◌<◌, Bool, true, false, List, Contains, sym, ◌∙◌, ap, subst, arith}
+use Rattle.std.specs.List.Sorted.{IsPartitionedBy}
+use Rattle.std.specs.Cmp.{IsTotalOrder}
+use Rattle.std.specs.Ordering.{is_lt, is_le}
+use Rattle.std.specs.declared.cmp.Ordering.{Ordering}
+use Rattle.std.specs.declared.cmp.Ordering.TheVariants.{Less}
+use Rattle.std.proofs.lemmas.Grind.{common_steps}
+use Rattle.std.proofs.lemmas.List.Elements.{All-contains}
+use Rattle.page_list.specs.Marks.{PartsAtMark}
+use Rattle.range_index.specs.Arcs.{AreOfFrame}
+
+module _ {S F K : Type 0} (cmp : K → K → Ordering) (total : IsTotalOrder cmp) (start : S → K) (frame_of : S → F) (mark : F → K → ℕ)
+    (rise : (frame : F) (one other : K) → mark frame one < mark frame other → cmp one other ≡ Less) (frame : F) (key : K) where
+  abbrev mark_of : S → ℕ
+  mark_of span = mark (frame_of span) (start span)
+
+  after_is_not_upto : (one other : K) → cmp one other ≡ Less → is_le (cmp other one) ≡ false
+  after_is_not_upto one other less = grind (arith, common_steps, total)
+
+  after_is_not_before : (one other : K) → cmp one other ≡ Less → is_lt (cmp other one) ≡ false
+  after_is_not_before one other less = grind (arith, common_steps, total)
+
+  module _ (xs : List S) (all : AreOfFrame frame_of mark frame xs) where
+    in_frame : (x : S) → Contains xs x → mark_of x ≡ mark frame (start x)
+    in_frame x has = All-contains (λ span. (other : K) → mark (frame_of span) other ≡ mark frame other) xs x all has (start x)
+
+    lesser : (x : S) → Contains xs x → mark_of x < mark frame key → cmp (start x) key ≡ Less
+    lesser x has less = rise frame (start x) key (subst (λ n. n < mark frame key) (in_frame x has) less)
+
+    greater : (x : S) → Contains xs x → mark frame key < mark_of x → cmp key (start x) ≡ Less
+    greater x has less = rise frame key (start x) (subst (λ n. mark frame key < n) (in_frame x has) less)
+
+    pub upto_parts : IsPartitionedBy (λ x. is_le (cmp (start x) key)) xs → PartsAtMark mark_of (mark frame key) (λ x. is_le (cmp (start x) key)) xs
+    upto_parts first = record {
+      first = first;
+      lesser = λ x has less. ap is_le (lesser x has less);
+      greater = λ x has less. after_is_not_upto key (start x) (greater x has less);
+    }
+
+    pub before_parts : IsPartitionedBy (λ x. is_lt (cmp (start x) key)) xs → PartsAtMark mark_of (mark frame key) (λ x. is_lt (cmp (start x) key)) xs
+    before_parts first = record {
+      first = first;
+      lesser = λ x has less. ap is_lt (lesser x has less);
+      greater = λ x has less. after_is_not_before key (start x) (greater x has less);
+    }

@@ -1,0 +1,4 @@
+pub mod NewLemmas
+pub mod BackLemmas
+pub mod EndedLemmas
+pub mod ServedLemmas

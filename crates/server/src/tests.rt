@@ -1,0 +1,5 @@
+mod faults;
+mod meeting;
+mod messages;
+mod row;
+mod waiting;

@@ -1,0 +1,4 @@
+pub mod DoneLemmas
+pub mod TurnLemmas
+pub mod WorkerLemmas
+pub mod LinkLemmas

@@ -1,0 +1,2 @@
+mod messages;
+mod row;

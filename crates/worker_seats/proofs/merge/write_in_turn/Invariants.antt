@@ -1,0 +1,10 @@
+use Rattle.std.proofs.Common.{◌≡◌, length}
+use Rattle.worker_seats.proofs.MergeLemmas.{MergingFrom}
+use Rattle.worker_seats.proofs.merge.write_in_turn.Given as goal
+
+abbrev pub invariant-loop-frame : goal.invariant-loop-frame
+invariant-loop-frame g l = record {
+  room : length l.places ≡ 256;
+  merging : MergingFrom l.outputs l.frames l.places l.gathered.items (g.K.Sink.written l.initial.sink) (g.K.Sink.written l.sink) l.frame-index;
+  faults : g.K.Sink.faults l.sink ≡ g.K.Sink.faults l.initial.sink;
+}
