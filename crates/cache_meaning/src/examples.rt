@@ -23,7 +23,8 @@ pub fn name_errors()
         ≡ name_error (from_to b_example f_example ∷ apex_to a_example ∷ []) }
     ensures by_one { by_nsec (apex_to f_example ∷ []) d_example A_TYPE
         ≡ name_error (apex_to f_example ∷ []) }
-    ensures wildcard_unknown { by_nsec (from_to b_example f_example ∷ []) d_example A_TYPE ≡ None }
+    ensures wildcard_unknown { by_nsec (from_to b_example f_example ∷ []) d_example A_TYPE
+        ≡ None }
 {}
 
 /// The last NSEC record of a zone goes over the end of the order, back to the apex.

@@ -170,7 +170,8 @@ fn goes(records: &[Arc<Record, Global>], item: &Record) -> bool
 }
 
 fn count_before(records: &[Arc<Record, Global>], item: &Record) -> usize
-    ensures { result ≡ count_by (λ other. goes_before other item.now) (shared_records records.now) }
+    ensures { result ≡ count_by
+        (λ other. goes_before other item.now) (shared_records records.now) }
 {
     let mut before = 0;
     for other in records {

@@ -10,7 +10,47 @@ use std::alloc::{AllocError, Global};
 /// Memory ran out.
 pub type OutOfMemory = AllocError;
 
-const MOST_WORKERS: u32 = 32;
+const WORKERS: Setting<'static> = Setting {
+    name: "workers",
+    least: 1,
+    most: 32,
+};
+
+const SEED: Setting<'static> = Setting {
+    name: "seed",
+    least: 0,
+    most: u32::MAX,
+};
+
+const NAMES: Setting<'static> = Setting {
+    name: "names",
+    least: 1,
+    most: 10_000,
+};
+
+const QUERIES: Setting<'static> = Setting {
+    name: "queries",
+    least: 0,
+    most: 100_000,
+};
+
+const LISTEN: Setting<'static> = Setting {
+    name: "listen",
+    least: 1,
+    most: 65_535,
+};
+
+const UPSTREAM: Setting<'static> = Setting {
+    name: "upstream",
+    least: 1,
+    most: 65_535,
+};
+
+const DATAGRAMS: Setting<'static> = Setting {
+    name: "datagrams",
+    least: 1,
+    most: 5_000,
+};
 
 /// What the words ask for.
 #[derive(Clone, Copy, Debug, PartialEq, Eq)]
@@ -64,14 +104,11 @@ fn replay_of(alloc: Global, options: &[String]) -> Result<Option<Command>, OutOf
     ensures read { IfOk result (λ found. IfSome found (λ command. (workers : ℕ)
         × (command ≡ Replay workers)
         × Gives ((workers_setting, workers) ∷ []) (texts options.now))) }
-    ensures every { (workers : ℕ) → Gives ((workers_setting, workers) ∷ []) (texts options.now)
+    ensures every { (workers : ℕ)
+        → Gives ((workers_setting, workers) ∷ []) (texts options.now)
         → IfOk result (λ found. found ≡ Some (Replay workers)) }
 {
-    let settings = [Setting {
-        name: "workers",
-        least: 1,
-        most: MOST_WORKERS,
-    }];
+    let settings = [WORKERS];
     let Some(matches) = matches_of(alloc, &settings, options)? else {
         return Ok(None);
     };
@@ -86,29 +123,14 @@ fn replay_of(alloc: Global, options: &[String]) -> Result<Option<Command>, OutOf
 fn selfrun_of(alloc: Global, options: &[String]) -> Result<Option<Command>, OutOfMemory>
     ensures read { IfOk result (λ found. IfSome found (λ command. (seed names queries : ℕ)
         × (command ≡ Selfrun seed names queries)
-        × Gives ((seed_setting, seed) ∷ (names_setting, names) ∷ (queries_setting, queries) ∷ [])
-        (texts options.now))) }
+        × Gives ((seed_setting, seed) ∷ (names_setting, names)
+        ∷ (queries_setting, queries) ∷ []) (texts options.now))) }
     ensures every { (seed names queries : ℕ)
-        → Gives ((seed_setting, seed) ∷ (names_setting, names) ∷ (queries_setting, queries) ∷ [])
-        (texts options.now) → IfOk result (λ found. found ≡ Some (Selfrun seed names queries)) }
+        → Gives ((seed_setting, seed) ∷ (names_setting, names)
+        ∷ (queries_setting, queries) ∷ []) (texts options.now)
+        → IfOk result (λ found. found ≡ Some (Selfrun seed names queries)) }
 {
-    let settings = [
-        Setting {
-            name: "seed",
-            least: 0,
-            most: u32::MAX,
-        },
-        Setting {
-            name: "names",
-            least: 1,
-            most: 10_000,
-        },
-        Setting {
-            name: "queries",
-            least: 0,
-            most: 100_000,
-        },
-    ];
+    let settings = [SEED, NAMES, QUERIES];
     let Some(matches) = matches_of(alloc, &settings, options)? else {
         return Ok(None);
     };
@@ -133,36 +155,17 @@ fn serve_of(alloc: Global, options: &[String]) -> Result<Option<Command>, OutOfM
         (listen upstream workers datagrams : ℕ)
         × (command ≡ Serve listen upstream workers datagrams)
         × Gives ((listen_setting, listen) ∷ (upstream_setting, upstream)
-        ∷ (workers_setting, workers) ∷ (datagrams_setting, datagrams) ∷ []) (texts options.now)
+        ∷ (workers_setting, workers) ∷ (datagrams_setting, datagrams) ∷ [])
+        (texts options.now)
         × HasPorts listen upstream workers)) }
     ensures every { (listen upstream workers datagrams : ℕ)
         → Gives ((listen_setting, listen) ∷ (upstream_setting, upstream)
-        ∷ (workers_setting, workers) ∷ (datagrams_setting, datagrams) ∷ []) (texts options.now)
+        ∷ (workers_setting, workers) ∷ (datagrams_setting, datagrams) ∷ [])
+        (texts options.now)
         → HasPorts listen upstream workers
         → IfOk result (λ found. found ≡ Some (Serve listen upstream workers datagrams)) }
 {
-    let settings = [
-        Setting {
-            name: "listen",
-            least: 1,
-            most: 65_535,
-        },
-        Setting {
-            name: "upstream",
-            least: 1,
-            most: 65_535,
-        },
-        Setting {
-            name: "workers",
-            least: 1,
-            most: MOST_WORKERS,
-        },
-        Setting {
-            name: "datagrams",
-            least: 1,
-            most: 5_000,
-        },
-    ];
+    let settings = [LISTEN, UPSTREAM, WORKERS, DATAGRAMS];
     let Some(matches) = matches_of(alloc, &settings, options)? else {
         return Ok(None);
     };

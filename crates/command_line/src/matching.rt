@@ -22,7 +22,8 @@ pub(crate) fn matches_of<'a>(
         → map (λ g. g.0) given ≡ map setting_of settings.now → AreRead matches given
         → Gives given (texts words.entry.now))) }
     ensures every { (given : List (Asked × ℕ))
-        → map (λ g. g.0) given ≡ map setting_of settings.now → Gives given (texts words.entry.now)
+        → map (λ g. g.0) given ≡ map setting_of settings.now
+        → Gives given (texts words.entry.now)
         → IfOk result (λ found. IsSomeAnd found (λ matches. AreRead matches given)) }
 {
     // clap takes all that follows for values.

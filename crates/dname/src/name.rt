@@ -58,6 +58,16 @@ impl Name {
         Ok((Name::of_wire(&octets[..taken]), taken))
     }
 
+    /// The name of an uncompressed wire form, in whatever case its letters are.
+    pub fn of_wire(octets: &[u8]) -> Name
+        requires { IsWireForm octets.now }
+        ensures { IsReadFrom octets.now result }
+    {
+        let mut wire = Wire::empty();
+        wire.append_lowered(octets);
+        Name { wire }
+    }
+
     /// An equal name.
     pub fn copy(&self) -> Name
         ensures { result ≡ self.now }
@@ -188,16 +198,6 @@ impl Name {
             Some(label) => label == b"*".as_slice(),
             None => false,
         }
-    }
-
-    // The name of a wire form in whatever case.
-    fn of_wire(octets: &[u8]) -> Name
-        requires { IsWireForm octets.now }
-        ensures { IsReadFrom octets.now result }
-    {
-        let mut wire = Wire::empty();
-        wire.append_lowered(octets);
-        Name { wire }
     }
 
     fn of_labels(labels: &Labels<'_>) -> Name

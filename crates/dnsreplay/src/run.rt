@@ -42,13 +42,16 @@ pub fn run<R: Threads + Wait + Sync, S: Source, K: Sink, G: Gate, H: Harbor, C: 
 
     // What was written is the spelling of output frames that fit the frames that the source had
     // left, for the workers that the words ask for, and each reply among them is sound.
-    ensures good { (workers : ℕ) → AreWordsOf words.now (Replay workers) → result ≡ Status.Good
+    ensures good { (workers : ℕ) → AreWordsOf words.now (Replay workers)
+        → result ≡ Status.Good
         → IfSome (S.left source.old) (λ input.
         IsReplayed workers input (K.written sink.old) (K.written sink.new)) }
-    ensures end { (workers : ℕ) → AreWordsOf words.now (Replay workers) → result ≡ Status.Good
+    ensures end { (workers : ℕ) → AreWordsOf words.now (Replay workers)
+        → result ≡ Status.Good
         → IfSome (S.left source.old) (λ _. S.left source.new ≡ Some []) }
     ensures no_fault { result ≡ Status.Good
-        → (S.faults source.new ≡ S.faults source.old) × (K.faults sink.new ≡ K.faults sink.old) }
+        → (S.faults source.new ≡ S.faults source.old)
+        × (K.faults sink.new ≡ K.faults sink.old) }
 
     ensures read_fault { result ≡ Status.ReadFault
         → Rose (S.faults source.old) (S.faults source.new) }
@@ -246,7 +249,8 @@ fn run_replay<R: Threads + Wait + Sync, S: Source, K: Sink, G: Gate>(
     ensures end { result ≡ Status.Good
         → IfSome (S.left source.old) (λ _. S.left source.new ≡ Some []) }
     ensures no_fault { result ≡ Status.Good
-        → (S.faults source.new ≡ S.faults source.old) × (K.faults sink.new ≡ K.faults sink.old) }
+        → (S.faults source.new ≡ S.faults source.old)
+        × (K.faults sink.new ≡ K.faults sink.old) }
     ensures read_fault { result ≡ Status.ReadFault
         → Rose (S.faults source.old) (S.faults source.new) }
     ensures write_fault { result ≡ Status.WriteFault

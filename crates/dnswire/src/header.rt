@@ -28,7 +28,8 @@ impl Header {
     pub(crate) fn read(octets: &[u8]) -> Option<Header>
         ensures read { IfSome result (IsHeader octets.now) }
         ensures none { IsNone result → length octets.now < 12 }
-        ensures every { (header : Header) → IsHeader octets.now header → result ≡ Some header }
+        ensures every { (header : Header) → IsHeader octets.now header → result
+            ≡ Some header }
     {
         if octets.len() < HEADER_OCTETS {
             return None;

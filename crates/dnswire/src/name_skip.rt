@@ -26,7 +26,8 @@ const POINTER_STEPS: usize = 16;
 /// none is followed twice; with no room for any a name may be too dear.
 pub(crate) fn skip_name(message: &[u8], at: usize, sizes: &mut [u8]) -> Result<usize, NotPassed>
     requires { AreSizes message.now sizes.old }
-    ensures read { IfOk result (λ end. (name : List (List ℕ)) × NameAt message.now at name end) }
+    ensures read { IfOk result
+        (λ end. (name : List (List ℕ)) × NameAt message.now at name end) }
     ensures within { IfOk result (λ end. end ≤ length message.now) }
     ensures faulty { result ≡ Err NotPassed.Faulty → HasNoName message.now at }
     ensures dear { result ≡ Err NotPassed.Dear → length sizes.old ≡ 0 }
@@ -47,7 +48,8 @@ pub(crate) fn skip_name(message: &[u8], at: usize, sizes: &mut [u8]) -> Result<u
 fn pass_rest(message: &[u8], at: usize, room: usize, sizes: &mut [u8]) -> Result<(), NotPassed>
     requires room { room ≤ 255 }
     requires sizes { AreSizes message.now sizes.old }
-    ensures read { result ≡ Ok tt → (size : ℕ) × HasSize message.now at size × (size ≤ room) }
+    ensures read { result ≡ Ok tt → (size : ℕ) × HasSize message.now at size
+        × (size ≤ room) }
     ensures faulty { result ≡ Err NotPassed.Faulty → HasNoRoom message.now at room }
     ensures dear { result ≡ Err NotPassed.Dear → length sizes.old ≡ 0 }
     ensures sizes { AreSizes message.now sizes.new }

@@ -86,7 +86,8 @@ impl NameTable {
     }
 
     fn add(&mut self, piece: &[u8]) -> Result<Place, AllocError>
-        ensures octets { IfOk result (λ place. (place.start + place.size ≤ length self.new.octets)
+        ensures octets { IfOk result (λ place.
+            (place.start + place.size ≤ length self.new.octets)
             × (octets_in self.new.octets place ≡ piece.now) × (place.size ≡ length piece.now)
             × (place.start + place.size < 2 ^ 64)) }
         ensures table { (message : List ℕ) → IsTableOf message self.old

@@ -22,7 +22,8 @@ pub fn one_next_closer()
         → IsUnder name encloser → name ≢ encloser
         → IsNextCloser name encloser (next_closer_of name encloser) }
     ensures one { (name encloser closer other : List Label)
-        → IsNextCloser name encloser closer → IsNextCloser name encloser other → closer ≡ other }
+        → IsNextCloser name encloser closer → IsNextCloser name encloser other → closer
+        ≡ other }
 {}
 
 /// An encloser above a name leaves room for its wildcard, and the wildcard is a name.

@@ -41,7 +41,8 @@ pub fn none_has_expired()
 
 /// The order in which records are held means nothing to what is looked up, as none displaces another.
 pub fn order_means_nothing()
-    ensures zone { (held other : Held) → IsReordered held other → (name : List Label) (qtype : ℕ)
+    ensures zone { (held other : Held) → IsReordered held other
+        → (name : List Label) (qtype : ℕ)
         → zone_for held name qtype ≡ zone_for other name qtype }
     ensures chains { (held other : Held) → IsReordered held other → (zone : List Label)
         → chains_of held zone ≡ chains_of other zone }

@@ -21,7 +21,8 @@ pub(crate) struct Agreed {
 impl Agreed {
     /// None where there is no signature, one isn't read, or two say something else.
     pub(crate) fn of(signatures: &[Octets], now: u32) -> Option<Agreed>
-        ensures { MatchOption result ((agreed : Agreed) → ¬ IsAgreed now signatures.now agreed) (IsAgreed now signatures.now) }
+        ensures { MatchOption result ((agreed : Agreed)
+            → ¬ IsAgreed now signatures.now agreed) (IsAgreed now signatures.now) }
     {
         let (first, others) = signatures.split_first()?;
         let mut agreed = Agreed::by(first, now)?;
@@ -37,7 +38,8 @@ impl Agreed {
 
     // What one signature says; none where it isn't read.
     fn by(octets: &Octets, now: u32) -> Option<Agreed>
-        ensures { MatchOption result ((rrsig : Rrsig) → ¬ IsRrsig octets.now rrsig) (IsSaid now octets.now) }
+        ensures { MatchOption result ((rrsig : Rrsig)
+            → ¬ IsRrsig octets.now rrsig) (IsSaid now octets.now) }
     {
         let Ok(rrsig) = Rrsig::read(octets.as_slice()) else {
             return None;

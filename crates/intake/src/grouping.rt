@@ -44,8 +44,10 @@ fn take_in(
     requires table { IsTable table.old }
     requires whole { All HasFixedPart rrs }
     ensures table { OnOk result (IsTable table.new) }
-    ensures piles { OnOk result (table.new.piles.items ≡ fold with_data table.old.piles.items rrs) }
-    ensures live { OnOk result (signatures.new.items ≡ signatures.old.items ++ filter (is_live now) rrs) }
+    ensures piles { OnOk result (table.new.piles.items
+        ≡ fold with_data table.old.piles.items rrs) }
+    ensures live { OnOk result (signatures.new.items ≡ signatures.old.items
+        ++ filter (is_live now) rrs) }
 {
     for rr in rrs.into_vec() {
         if rr.rtype != RRSIG_TYPE {

@@ -15,11 +15,14 @@ use std::alloc::Global;
 /// The records that an upstream's answer gives a cache at a moment, in seconds since 1970; or why it gives none.
 pub fn batch_of(alloc: Global, octets: &[u8], now: u32) -> Result<Taken, IntakeFault>
     ensures taken { IfOk result (IsTaken octets.now now) }
-    ensures refused { IfErr result (λ fault. (fault ≡ IntakeFault.OutOfMemory) ⊎ IsFault octets.now now fault) }
+    ensures refused { IfErr result
+        (λ fault. (fault ≡ IntakeFault.OutOfMemory) ⊎ IsFault octets.now now fault) }
 
     // A batch and each fault come wherever the octets give them, where there is memory.
-    ensures every_taken { (taken : Taken) → IsTaken octets.now now taken → (result ≡ Ok taken) ⊎ (result ≡ Err IntakeFault.OutOfMemory) }
-    ensures every_refused { (fault : IntakeFault) → IsFault octets.now now fault → (result ≡ Err fault) ⊎ (result ≡ Err IntakeFault.OutOfMemory) }
+    ensures every_taken { (taken : Taken) → IsTaken octets.now now taken → (result ≡ Ok taken)
+        ⊎ (result ≡ Err IntakeFault.OutOfMemory) }
+    ensures every_refused { (fault : IntakeFault) → IsFault octets.now now fault
+        → (result ≡ Err fault) ⊎ (result ≡ Err IntakeFault.OutOfMemory) }
 {
     outcome_of(alloc, octets, now)
 }
@@ -27,7 +30,8 @@ pub fn batch_of(alloc: Global, octets: &[u8], now: u32) -> Result<Taken, IntakeF
 // What the octets give.
 fn outcome_of(alloc: Global, octets: &[u8], now: u32) -> Result<Taken, IntakeFault>
     ensures taken { IfOk result (IsTaken octets.now now) }
-    ensures refused { IfErr result (λ fault. (fault ≡ IntakeFault.OutOfMemory) ⊎ IsFault octets.now now fault) }
+    ensures refused { IfErr result
+        (λ fault. (fault ≡ IntakeFault.OutOfMemory) ⊎ IsFault octets.now now fault) }
 {
     let message = read_message(alloc, octets)?;
     if let Some(fault) = header_fault(&message) {

@@ -41,7 +41,9 @@ pub(crate) fn nsec_record(
 }
 
 fn read_parts(alloc: Global, octets: &[u8]) -> Result<Option<NsecParts>, OutOfMemory>
-    ensures { IfOk result (λ read. MatchOption read ((parts : NsecParts) → ¬ IsNsec octets.now parts) (IsNsec octets.now)) }
+    ensures { IfOk result
+        (λ read. MatchOption read ((parts : NsecParts)
+        → ¬ IsNsec octets.now parts) (IsNsec octets.now)) }
 {
     match NsecParts::read(alloc, octets) {
         Ok(parts) => Ok(Some(parts)),

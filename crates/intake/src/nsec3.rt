@@ -64,7 +64,8 @@ pub(crate) fn nsec3_record(
 
 // The hash whose text is the owner's first label, where the owner's parent is the zone.
 fn owner_hash(owner: &Name, zone: &Name) -> Option<[u8; 20]>
-    ensures { MatchOption result ((hash : List ℕ) → ¬ IsHashedOwner owner.now zone.now hash) (IsHashedOwner owner.now zone.now) }
+    ensures { MatchOption result ((hash : List ℕ)
+        → ¬ IsHashedOwner owner.now zone.now hash) (IsHashedOwner owner.now zone.now) }
 {
     let parent = owner.parent()?;
     let wire = owner.wire();
@@ -83,7 +84,9 @@ fn are_hash(octets: &[u8])
 {}
 
 fn read_parts(alloc: Global, octets: &[u8]) -> Result<Option<Nsec3Parts>, OutOfMemory>
-    ensures { IfOk result (λ read. MatchOption read ((parts : Nsec3Parts) → ¬ IsNsec3 octets.now parts) (IsNsec3 octets.now)) }
+    ensures { IfOk result
+        (λ read. MatchOption read ((parts : Nsec3Parts)
+        → ¬ IsNsec3 octets.now parts) (IsNsec3 octets.now)) }
 {
     match Nsec3Parts::read(alloc, octets) {
         Ok(parts) => Ok(Some(parts)),

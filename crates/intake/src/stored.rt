@@ -19,7 +19,8 @@ use std::alloc::Global;
 
 /// The record that a pile's group is stored as. None where it isn't stored.
 pub(crate) fn stored(alloc: Global, pile: Pile, now: u32) -> Result<Option<Record>, OutOfMemory>
-    ensures { IfOk result (λ taken. (group : Group) → IsPileOf group pile → IsTakenAs now group taken) }
+    ensures { IfOk result
+        (λ taken. (group : Group) → IsPileOf group pile → IsTakenAs now group taken) }
 {
     let signatures = each_once(alloc, pile.signatures)?;
     let Some(agreed) = Agreed::of(signatures.as_slice(), now) else {

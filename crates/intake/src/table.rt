@@ -47,7 +47,8 @@ impl Table {
     pub(crate) fn sign(&mut self, key: &Key, octets: Octets) -> Result<(), OutOfMemory>
         requires { IsTable self.old }
         ensures table { OnOk result (IsTable self.new) }
-        ensures piles { OnOk result (self.new.piles.items ≡ signed key.now octets self.old.piles.items) }
+        ensures piles { OnOk result (self.new.piles.items
+            ≡ signed key.now octets self.old.piles.items) }
     {
         match self.place(key) {
             Some(at) => self.piles[at].sign(octets),
@@ -74,7 +75,8 @@ impl Table {
         requires table { IsTable self.old }
         requires new { place_of (has_key key) self.old.piles.items ≡ None }
         ensures table { OnOk result (IsTable self.new) }
-        ensures piles { OnOk result (self.new.piles.items ≡ self.old.piles.items ++ begun key ttl octets ∷ []) }
+        ensures piles { OnOk result (self.new.piles.items ≡ self.old.piles.items
+            ++ begun key ttl octets ∷ []) }
     {
         let mut items = OctetsList::empty(alloc);
         items.push(octets)?;

@@ -39,7 +39,8 @@ pub fn every_made_record_is_true()
     ensures by_number { (seed names k now : ℕ) (taken : Taken) → names ≤ 10000 → k ≤ names
         → Gives (message_at seed names k) now (Ok taken)
         → All (IsTrueOf (made_zone seed names)) taken.batch.records }
-    ensures among_all { (seed names now : ℕ) (message : List ℕ) (taken : Taken) → names ≤ 10000
+    ensures among_all { (seed names now : ℕ) (message : List ℕ) (taken : Taken) → names
+        ≤ 10000
         → Contains (messages_of seed names) message → Gives message now (Ok taken)
         → All (IsTrueOf (made_zone seed names)) taken.batch.records }
 {}

@@ -33,6 +33,8 @@ pub trait Harbor {
             (Self.Link.Link.port link) (Self.Link.Link.upstream link)
             (Self.Link.Link.received link) (Self.Link.Link.sent link)
             (Self.Link.Link.faults link))) }
-        ensures unfailing { Self.Link.Link.faults link ≡ 0 → faults self.new ≡ faults self.old }
-        ensures failed { 1 ≤ Self.Link.Link.faults link → Rose (faults self.old) (faults self.new) };
+        ensures unfailing { Self.Link.Link.faults link ≡ 0 →
+            faults self.new ≡ faults self.old }
+        ensures failed { 1 ≤ Self.Link.Link.faults link →
+            Rose (faults self.old) (faults self.new) };
 }

@@ -115,7 +115,8 @@ impl Harbor for MemoryHarbor {
         requires { port ≡ link.port }
         ensures came_back { TellsAtMost (told_back self.new)
             (then_returned (told_back self.old) (Some (shown link))) }
-        ensures unfailing { link.plan.faults ≡ 0 → self.new.plan.faults ≡ self.old.plan.faults }
+        ensures unfailing { link.plan.faults ≡ 0 →
+            self.new.plan.faults ≡ self.old.plan.faults }
         ensures failed { 1 ≤ link.plan.faults →
             Rose self.old.plan.faults self.new.plan.faults }
 

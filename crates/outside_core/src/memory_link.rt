@@ -144,7 +144,8 @@ impl Link for MemoryLink {
 
         // Beyond the trait: the answer and the link after the call follow from it.
         ensures fails { IsErr result ↔ IsCongested self.old }
-        ensures after { OnOk result (self.new ≡ after_sending (datagram_of to octets.now) self.old) }
+        ensures after { OnOk result
+            (self.new ≡ after_sending (datagram_of to octets.now) self.old) }
         ensures failed_after { OnErr result (self.new ≡ after_failed_call self.old) }
     {
         if self.plan.is_due() || self.sent.len() >= self.room {

@@ -60,7 +60,8 @@ impl Source for MemorySource {
 
         // Beyond the trait: the answer, the buffer and the source after the call follow from it.
         ensures fails { IsErr result ↔ IsDue self.old.plan }
-        ensures count { IfOk result (λ n. n ≡ min (length into.old) (length self.old.supply.left)) }
+        ensures count { IfOk result
+            (λ n. n ≡ min (length into.old) (length self.old.supply.left)) }
         ensures buffer { IfOk result (λ n.
             into.new ≡ take n self.old.supply.left ++ drop n into.old) }
         ensures after { IfOk result (λ n. self.new ≡ after_read n self.old) }

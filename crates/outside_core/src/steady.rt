@@ -50,7 +50,8 @@ impl Source for SteadySource {
         ensures within { IfOk result (λ n. n ≤ length into.old) }
         ensures taken { IfOk result (λ n. self.new.taken ≡ self.old.taken ++ take n into.new) }
         ensures left { IfOk result (λ n. self.old.left ≡ take n into.new ++ self.new.left) }
-        ensures end { IfOk result (λ n. n ≡ 0 → 1 ≤ length into.old → self.new.left ≡ []) }
+        ensures end { IfOk result
+            (λ n. n ≡ 0 → 1 ≤ length into.old → self.new.left ≡ []) }
 
         // Beyond the trait: the answer, the buffer and the source after the call follow from it.
         ensures count { IfOk result (λ n. n ≡ min (length into.old) (length self.old.left)) }

@@ -94,7 +94,8 @@ impl<W: Write> Sink for StreamSink<W> {
         ensures cause { HasCause (sink_faults self.old) (sink_faults self.new) result }
 
         // Beyond the trait: what it takes is what the stream gains, where std knows that.
-        ensures counted { OnErr result (sink_faults self.new ≡ next_count (sink_faults self.old)) }
+        ensures counted { OnErr result (sink_faults self.new
+            ≡ next_count (sink_faults self.old)) }
         ensures passed { WriteAppends
             (W.contents (sink_stream self.old)) (W.contents (sink_stream self.new))
             result piece.now }

@@ -28,7 +28,8 @@ fn read_to_end<S: Source>(alloc: Global, source: &mut S) -> Result<Vec<u8>, Stop
         S.left source.old ≡ prepend_told input.items (S.left source.new)) }
     ensures end { OnOk result (IfSome (S.left source.new) (λ rest. rest ≡ [])) }
     ensures unfailing { OnOk result (S.faults source.new ≡ S.faults source.old) }
-    ensures failed { result ≡ Err Stop.Failed → Rose (S.faults source.old) (S.faults source.new) }
+    ensures failed { result ≡ Err Stop.Failed
+        → Rose (S.faults source.old) (S.faults source.new) }
 {
     let mut input = Vec::new(alloc);
     let mut buffer = [0; 3];

@@ -106,7 +106,8 @@ impl Link for UdpLink {
         ensures cause { HasCause (link_faults self.old) (link_faults self.new) result }
 
         // Beyond the trait.
-        ensures counted { OnErr result (link_faults self.new ≡ next_count (link_faults self.old)) }
+        ensures counted { OnErr result
+            (link_faults self.new ≡ next_count (link_faults self.old)) }
     {
         match self.socket.recv_from(&mut self.landing) {
             Ok((count, SocketAddr::V4(address))) => {
@@ -130,7 +131,8 @@ impl Link for UdpLink {
         ensures cause { HasCause (link_faults self.old) (link_faults self.new) result }
 
         // Beyond the trait.
-        ensures counted { OnErr result (link_faults self.new ≡ next_count (link_faults self.old)) }
+        ensures counted { OnErr result
+            (link_faults self.new ≡ next_count (link_faults self.old)) }
     {
         let whole = match address_of(number_of(to, self.upstream)) {
             Some(address) => send_to(&self.socket, octets, address),

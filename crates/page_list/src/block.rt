@@ -32,7 +32,8 @@ pub(crate) trait Block<T: Drop>: Drop {
     /// The mark of its first entry.
     fn first_mark(&self) -> u64
         ensures some { 0 < length (entries self.now) }
-        ensures first { (a : Marked T) → result ≡ mark_of (slice_index_or (entries self.now) 0 a) };
+        ensures first { (a : Marked T) → result
+            ≡ mark_of (slice_index_or (entries self.now) 0 a) };
 
     /// The entries from the entry `i` on, as far as its page goes.
     fn page_from(&self, i: usize) -> &[Entry<T>]
@@ -45,7 +46,8 @@ pub(crate) trait Block<T: Drop>: Drop {
         requires { F.IsAlwaysCallable before.now }
         ensures in_range { result ≤ length (entries self.now) }
         ensures exact { (p : Marked T → Bool) → IsTestOf F.Fn before.now p
-            → IsPartitionedBy p (entries self.now) → result ≡ prefix_len p (entries self.now) };
+            → IsPartitionedBy p (entries self.now) → result
+            ≡ prefix_len p (entries self.now) };
 
     /// The same, asked only of entries with the mark: those of a lesser mark come before, those of a greater one don't.
     fn find_at<F: Fn(&T) -> bool>(&self, mark: u64, before: &F) -> usize

@@ -94,7 +94,8 @@ impl<T: Drop> EntryList<T> {
     ) -> Result<EntryList<T>, OutOfMemory>
         requires order { from ≤ to }
         requires in_range { to ≤ length self.now }
-        ensures { IfOk result (λ made. made ≡ take from self.now ++ items.items ++ drop to self.now) }
+        ensures { IfOk result
+            (λ made. made ≡ take from self.now ++ items.items ++ drop to self.now) }
     {
         let old = &self.bookcases;
         if let Some(bookcases) = old.replaced(alloc, from, to, items.as_slice()) {

@@ -72,7 +72,8 @@ fn moved(
     old: usize,
     new: usize,
 ) -> Result<Vec<usize>, OutOfMemory>
-    requires { (k : ℕ) → p ≤ k → k < length numbers.now → old ≤ slice_index numbers.now k }
+    requires { (k : ℕ) → p ≤ k → k < length numbers.now → old
+        ≤ slice_index numbers.now k }
     ensures { IfOk result (λ made. AreMoved numbers.now p old new made.items) }
 {
     let mut made = Vec::from_slice(alloc, numbers)?;

@@ -73,7 +73,8 @@ impl<T: Drop, R: RingSpan<T>> Arcs<T, R> {
         requires { AreOfFrame R.frame R.mark frame.now self.now }
         ensures span { MatchOption result
             (filter (span_has R.Key.Ord.cmp R.start R.end key.now) self.now ≡ [])
-            (λ found. filter (span_has R.Key.Ord.cmp R.start R.end key.now) self.now ≡ found.0.now ∷ []) }
+            (λ found. filter (span_has R.Key.Ord.cmp R.start R.end key.now) self.now
+            ≡ found.0.now ∷ []) }
         ensures place { IfSome result
             (λ found. found.1 ≡ place_of (R.Key.Ord.cmp (R.start found.0.now) key.now)) }
     {

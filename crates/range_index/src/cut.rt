@@ -52,7 +52,8 @@ fn with_plain<T: Drop, R: RingSpan<T>>(
 ) -> Result<MarkedList<T, ByStart<R>>, OutOfMemory>
     requires frame { AreOfFrame R.frame R.mark (R.frame (arc_value span)) list.now }
     requires arcs { IsArcs R.Key.Ord.cmp R.start R.end list.now }
-    requires plain { is_lt (R.Key.Ord.cmp (R.start (arc_value span)) (R.end (arc_value span))) ≡ true }
+    requires plain { is_lt (R.Key.Ord.cmp (R.start (arc_value span)) (R.end (arc_value span)))
+        ≡ true }
     ensures { IfOk result (λ made.
         made ≡ arcs_with R.Key.Ord.cmp R.start R.end (arc_value span) list.now) }
 {
@@ -88,7 +89,8 @@ fn with_over<T: Drop, R: RingSpan<T>>(
 ) -> Result<MarkedList<T, ByStart<R>>, OutOfMemory>
     requires frame { AreOfFrame R.frame R.mark (R.frame (arc_value span)) list.now }
     requires arcs { IsArcs R.Key.Ord.cmp R.start R.end list.now }
-    requires over { is_lt (R.Key.Ord.cmp (R.start (arc_value span)) (R.end (arc_value span))) ≡ false }
+    requires over { is_lt (R.Key.Ord.cmp (R.start (arc_value span)) (R.end (arc_value span)))
+        ≡ false }
     ensures { IfOk result (λ made.
         made ≡ arcs_with R.Key.Ord.cmp R.start R.end (arc_value span) list.now) }
 {

@@ -18,7 +18,8 @@ pub(crate) fn kept_shares<T: Drop, R: RingSpan<T>, F: Fn(&T) -> bool>(
 ) -> Result<Vec<Arc<T>>, OutOfMemory>
     requires callable { F.IsAlwaysCallable keep }
     requires arcs { IsArcs R.Key.Ord.cmp R.start R.end list.now }
-    ensures arcs { IfOk result (λ made. IsArcs R.Key.Ord.cmp R.start R.end (map arc_value made.items)) }
+    ensures arcs { IfOk result
+        (λ made. IsArcs R.Key.Ord.cmp R.start R.end (map arc_value made.items)) }
     ensures exact { IfOk result (λ made. (p : T → Bool)
         → ((x : T) (r : Bool) → FnReturnsAt F.Fn keep x r → r ≡ p x)
         → map arc_value made.items ≡ filter p list.now) }

@@ -20,8 +20,10 @@ pub(crate) fn starts_upto<T: Drop, R: RingSpan<T>>(
     key: &R::Key,
 ) -> usize
     requires frame { AreOfFrame R.frame R.mark frame.now list.now }
-    requires parted { IsPartitionedBy (λ span. is_le (R.Key.Ord.cmp (R.start span) key.now)) list.now }
-    ensures value { result ≡ prefix_len (λ span. is_le (R.Key.Ord.cmp (R.start span) key.now)) list.now }
+    requires parted { IsPartitionedBy
+        (λ span. is_le (R.Key.Ord.cmp (R.start span) key.now)) list.now }
+    ensures value { result ≡ prefix_len
+        (λ span. is_le (R.Key.Ord.cmp (R.start span) key.now)) list.now }
     ensures in_range { result ≤ length list.now }
 {
     list.find_at(
@@ -37,8 +39,10 @@ pub(crate) fn starts_before<T: Drop, R: RingSpan<T>>(
     key: &R::Key,
 ) -> usize
     requires frame { AreOfFrame R.frame R.mark frame.now list.now }
-    requires parted { IsPartitionedBy (λ span. is_lt (R.Key.Ord.cmp (R.start span) key.now)) list.now }
-    ensures value { result ≡ prefix_len (λ span. is_lt (R.Key.Ord.cmp (R.start span) key.now)) list.now }
+    requires parted { IsPartitionedBy
+        (λ span. is_lt (R.Key.Ord.cmp (R.start span) key.now)) list.now }
+    ensures value { result ≡ prefix_len
+        (λ span. is_lt (R.Key.Ord.cmp (R.start span) key.now)) list.now }
     ensures in_range { result ≤ length list.now }
 {
     list.find_at(

@@ -37,7 +37,8 @@ pub(crate) fn with(
     new: Arc<Record, Global>,
 ) -> Result<Arc<Goings, Global>, OutOfMemory>
     requires apart { NoneDisplaces goings.now }
-    requires new { (item : Record) → Contains goings.now item → displaces (arc_value new) item ≡ false }
+    requires new { (item : Record) → Contains goings.now item → displaces (arc_value new) item
+        ≡ false }
     ensures records { IfOk result (λ more. AreWith (arc_value new) goings.now (arc_value more)) }
     ensures apart { IfOk result (λ more. NoneDisplaces (arc_value more)) }
 {
@@ -65,7 +66,8 @@ pub(crate) fn without_displaced(
     ensures apart { IfOk result (λ cleared. NoneDisplaces (arc_value cleared.goings)) }
     ensures zone { IfOk result (λ cleared.
         IsZoneOf (arc_value cleared.goings) (arc_value cleared.zone)) }
-    ensures apex { IfOk result (λ cleared. (arc_value cleared.zone).apex ≡ (arc_value zone).apex) }
+    ensures apex { IfOk result
+        (λ cleared. (arc_value cleared.zone).apex ≡ (arc_value zone).apex) }
     ensures chains { IfOk result (λ cleared.
         chains_in (arc_value cleared.zone) ≡ chains_in (arc_value zone)) }
 {
@@ -108,7 +110,8 @@ fn without_chain(
     chain: &ChainRecords,
 ) -> Result<Arc<Goings, Global>, OutOfMemory>
     requires apart { NoneDisplaces (arc_value goings) }
-    requires there { (item : Record) → Contains chain.now.records item → Contains (arc_value goings) item }
+    requires there { (item : Record) → Contains chain.now.records item
+        → Contains (arc_value goings) item }
     requires all { (item : Record) → Contains (arc_value goings) item
         → chain_of item ≡ Some chain.now.chain → Contains chain.now.records item }
     requires its { (item : Record) → Contains chain.now.records item

@@ -75,7 +75,8 @@ impl Holding {
         ensures some { IsTrue result → 0 < length self.now.records }
         ensures first { IsTrue result
             → All (λ item. is_usable now item ≡ false) (take 1 self.now.records) }
-        ensures none { result ≡ false → All (λ item. is_usable now item ≡ true) self.now.records }
+        ensures none { result ≡ false → All
+            (λ item. is_usable now item ≡ true) self.now.records }
         ensures apart { NoneDisplaces self.now.records }
     {
         self.goings.len() > 0 && expiry_of(self.goings.get(0)) <= u64::from(now)

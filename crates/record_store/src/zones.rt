@@ -21,7 +21,8 @@ use zone_chains::ZoneRecords;
 pub(crate) fn zone_at<'z>(zones: &'z Zones, apex: &Name) -> Option<&'z Arc<ZoneRecords>>
     ensures zone { MatchOption result
         ((zone : OneZone) → Contains zones.now zone → zone.apex ≡ apex.now → ⊥)
-        (λ zone. Contains zones.now (arc_value zone.now) × ((arc_value zone.now).apex ≡ apex.now)) }
+        (λ zone. Contains zones.now (arc_value zone.now)
+        × ((arc_value zone.now).apex ≡ apex.now)) }
     ensures order { IsInOrder apex_cmp zones.now }
 {
     let place = zones.find(|zone| zone.apex() < apex);
@@ -63,8 +64,10 @@ pub(crate) fn without_zone(
 /// Whether a set of the zone is held. Sets of the zone's number stand together, so hardly any other is read.
 pub(crate) fn has_set(sets: &Sets, apex: &Name) -> bool
     requires sets { (item : Record) → Contains sets.now item → chain_of item ≡ None }
-    ensures yes { IsTrue result → (item : Record) × Contains sets.now item × (zone_of item ≡ apex.now) }
-    ensures no { (item : Record) → Contains sets.now item → zone_of item ≡ apex.now → IsTrue result }
+    ensures yes { IsTrue result → (item : Record) × Contains sets.now item
+        × (zone_of item ≡ apex.now) }
+    ensures no { (item : Record) → Contains sets.now item → zone_of item ≡ apex.now
+        → IsTrue result }
 {
     let first = first_of_zone(apex);
     let from = sets.find_at(first, |item| BySet::mark(item) < first);

@@ -60,7 +60,8 @@ fn proof_of<'a>(store: &'a Store, name: &Name, qtype: u16, now: u32) -> Option<P
 
 fn zone_proof<'a>(zone: &ZoneRef<'a>, now: u32, name: &Name, qtype: u16) -> Option<Proven<'a>>
     ensures proof { result ≡ zone_proof zone.now.held now zone.now.apex name.now qtype }
-    ensures sound { IsAsked zone.now.apex name.now qtype → IfSome result (IsSound name.now qtype) }
+    ensures sound { IsAsked zone.now.apex name.now qtype
+        → IfSome result (IsSound name.now qtype) }
 {
     if let Some(proof) = synth_nsec::exact(zone, name, qtype, now) {
         return Some(proof);
@@ -73,7 +74,8 @@ fn by_chains<'a>(zone: &ZoneRef<'a>, now: u32, name: &Name, qtype: u16) -> Optio
     ensures proof { result
         ≡ first_of (chain_proof zone.now.held now zone.now.apex name.now qtype) (chains_of
         zone.now.held zone.now.apex) }
-    ensures sound { IsAsked zone.now.apex name.now qtype → IfSome result (IsSound name.now qtype) }
+    ensures sound { IsAsked zone.now.apex name.now qtype
+        → IfSome result (IsSound name.now qtype) }
 {
     let [newer, older] = zone.chains();
     if let Some(proof) = chain_proof(zone, now, name, qtype, newer) {
@@ -93,7 +95,8 @@ fn chain_proof<'a>(
     ensures proof { result
         ≡ option_and_then (chain_proof zone.now.held now zone.now.apex name.now qtype)
         (lent_chain chain.entry) }
-    ensures sound { IsAsked zone.now.apex name.now qtype → IfSome result (IsSound name.now qtype) }
+    ensures sound { IsAsked zone.now.apex name.now qtype
+        → IfSome result (IsSound name.now qtype) }
 {
     match chain {
         Chain::Bare => None,

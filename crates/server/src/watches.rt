@@ -49,8 +49,10 @@ fn watches_of<L: Link + Drop>(
     links: Vec<Moored<L>>,
 ) -> Result<Vec<Watch<L>>, OutOfMemory>
     requires { length links.items ≡ length seats.items }
-    ensures seats { IfOk result (λ watches. map (λ watch. watch.seat) watches.items ≡ seats.items) }
-    ensures links { IfOk result (λ watches. map (λ watch. watch.link) watches.items ≡ links.items) }
+    ensures seats { IfOk result
+        (λ watches. map (λ watch. watch.seat) watches.items ≡ seats.items) }
+    ensures links { IfOk result
+        (λ watches. map (λ watch. watch.link) watches.items ≡ links.items) }
 {
     let mut watches = Vec::new(alloc);
     let mut links = links.into_iter();

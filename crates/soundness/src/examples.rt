@@ -52,5 +52,6 @@ pub fn contradicting_records_are_both_used()
     ensures both { outcome_of contradicting 1060 y_example A_TYPE IN_CLASS
         ≡ Some (denied kinds.NoData (nsec_to_host ∷ nsec_to_low_wildcard ∷ [])) }
     ensures one { HasUsed one_host (denied kinds.NoData (nsec_to_host ∷ [])) }
-    ensures not_enough { IsSound y_example A_TYPE (denied kinds.NoData (nsec_to_host ∷ [])) → ⊥ }
+    ensures not_enough { IsSound y_example A_TYPE (denied kinds.NoData (nsec_to_host ∷ []))
+        → ⊥ }
 {}

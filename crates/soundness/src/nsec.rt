@@ -23,7 +23,8 @@ pub fn no_data_by_an_empty_name()
     ensures { (held : Held) (now : ℕ) (apex name : List Label) (qtype : ℕ) (covering : NsecRec)
         (proof : Proof)
         → IsAsked apex name qtype → nsec_for held now apex name ≡ Some covering
-        → no_data_by_empty held now apex name covering ≡ Some proof → IsSound name qtype proof }
+        → no_data_by_empty held now apex name covering ≡ Some proof
+        → IsSound name qtype proof }
 {}
 
 /// An answer by a wildcard's set, where an NSEC record covers the name, is sound.

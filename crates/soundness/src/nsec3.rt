@@ -65,5 +65,6 @@ pub fn each_nsec3_proof_is_sound()
     ensures { (held : Held) (now : ℕ) (apex : List Label) (parameters : HashParameters)
         (name : List Label) (qtype : ℕ) (proof : Proof)
         → IsAsked apex name qtype
-        → nsec3_proof held now apex parameters name qtype ≡ Some proof → IsSound name qtype proof }
+        → nsec3_proof held now apex parameters name qtype ≡ Some proof
+        → IsSound name qtype proof }
 {}

@@ -21,7 +21,8 @@ use soundness::each_nsec_proof_is_sound;
 /// sections 5.1 and 5.3); none exactly where they prove nothing. It takes no memory.
 pub fn judge<'a>(zone: &ZoneRef<'a>, name: &Name, qtype: u16, now: u32) -> Option<Proven<'a>>
     ensures proof { result ≡ nsec_proof zone.now.held now zone.now.apex name.now qtype }
-    ensures sound { IsAsked zone.now.apex name.now qtype → IfSome result (IsSound name.now qtype) }
+    ensures sound { IsAsked zone.now.apex name.now qtype
+        → IfSome result (IsSound name.now qtype) }
 {
     each_nsec_proof_is_sound();
     nsec_proof(zone, now, name, qtype)

@@ -37,7 +37,8 @@ pub fn judge<'a>(
     ensures proof { result
         ≡ nsec3_proof zone.now.held now zone.now.apex (parameters_by salt.now iterations) name.now
         qtype }
-    ensures sound { IsAsked zone.now.apex name.now qtype → IfSome result (IsSound name.now qtype) }
+    ensures sound { IsAsked zone.now.apex name.now qtype
+        → IfSome result (IsSound name.now qtype) }
 {
     each_nsec3_proof_is_sound();
     let chain = HashedChain::of(zone, salt, iterations, now);

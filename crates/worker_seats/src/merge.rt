@@ -104,7 +104,8 @@ fn front_frame(octets: &[u8]) -> &[u8]
     requires { BeginsWithFrame octets.now }
     ensures within { length result.now ≤ length octets.now }
     ensures front { (output : Output) (rest : List ℕ) → IsOutput output
-        → octets.now ≡ output_spelling output ++ rest → result.now ≡ output_spelling output }
+        → octets.now ≡ output_spelling output ++ rest → result.now
+        ≡ output_spelling output }
 {
     let size = HEAD + usize::from(u16_at(octets, 6));
     let (frame, _) = octets.split_at(size);

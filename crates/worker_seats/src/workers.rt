@@ -123,8 +123,10 @@ fn all_shifts(
 
 // The seats, and what was written over each.
 fn split(alloc: Global, shifts: Vec<Shift>) -> Result<(Vec<CacheSeat>, Outputs), OutOfMemory>
-    ensures seats { IfOk result (λ done. done.0.items ≡ map (λ shift. shift.seat) shifts.items) }
-    ensures parts { IfOk result (λ done. done.1 ≡ map (λ shift. shift.octets.items) shifts.items) }
+    ensures seats { IfOk result
+        (λ done. done.0.items ≡ map (λ shift. shift.seat) shifts.items) }
+    ensures parts { IfOk result
+        (λ done. done.1 ≡ map (λ shift. shift.octets.items) shifts.items) }
 {
     let mut seats = Vec::new(alloc);
     let mut parts = Vec::new(alloc);

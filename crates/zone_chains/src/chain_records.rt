@@ -69,7 +69,8 @@ impl ChainRecords {
     /// The record at a place. They are in order of their owner names, or of their hashes.
     pub fn get(&self, i: usize) -> &Arc<Record>
         requires { i < length self.now.records }
-        ensures { arc_value result.now ≡ slice_index_or self.now.records i (arc_value result.now) }
+        ensures { arc_value result.now
+            ≡ slice_index_or self.now.records i (arc_value result.now) }
     {
         match &self.spans {
             ChainSpans::Nsec(arcs) => arcs.get(i),

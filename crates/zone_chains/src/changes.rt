@@ -111,7 +111,8 @@ pub(crate) fn chains_held(chains: &ZoneChains) -> Result<ZoneChains, OutOfMemory
 }
 
 fn one_held(only: &Arc<ChainRecords>) -> Result<ZoneChains, OutOfMemory>
-    ensures { IfOk result (λ made. chains_by made ≡ filter has_records (arc_value only.now ∷ [])) }
+    ensures { IfOk result
+        (λ made. chains_by made ≡ filter has_records (arc_value only.now ∷ [])) }
 {
     if only.len() == 0 {
         Ok(ZoneChains::Bare)

@@ -68,7 +68,8 @@ pub(crate) fn nsec3_in<'a>(
         (filter (span_has (slice_cmp nat_cmp) nsec3_start nsec3_end hash.now) arcs.now ≡ [])
         (λ found. filter (span_has (slice_cmp nat_cmp) nsec3_start nsec3_end hash.now) arcs.now
         ≡ Record.Nsec3 found.0.now ∷ []) }
-    ensures place { IfSome result (λ found. found.1 ≡ place_by (bytes_eq found.0.now.hash hash.now)) }
+    ensures place { IfSome result
+        (λ found. found.1 ≡ place_by (bytes_eq found.0.now.hash hash.now)) }
 {
     match arcs.at(NO_HASH, hash) {
         Some((item, place)) => Some((nsec3_of(item), placed(place))),

@@ -75,7 +75,8 @@ pub(crate) fn nsec_in<'a>(
         (filter (span_has canonical_cmp nsec_start nsec_end name.now) arcs.now ≡ [])
         (λ found. filter (span_has canonical_cmp nsec_start nsec_end name.now) arcs.now
         ≡ Record.Nsec found.0.now ∷ []) }
-    ensures place { IfSome result (λ found. found.1 ≡ place_by (nsec_matches found.0.now name.now)) }
+    ensures place { IfSome result
+        (λ found. found.1 ≡ place_by (nsec_matches found.0.now name.now)) }
 {
     match arcs.at(zone, name) {
         Some((item, place)) => Some((nsec_of(item), placed(place))),

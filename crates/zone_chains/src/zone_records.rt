@@ -191,7 +191,8 @@ impl ZoneRecords {
             chains_in made ≡ chains_with (chains_in self.now) (chain_of (arc_value item))) }
         ensures records { IfOk result (λ made. (each : Record) → Contains (records_in made) each
             ↔ ((each ≡ arc_value item) ⊎ (Contains (records_in self.now) each
-            × (is_of (third_for (chains_in self.now) (chain_of (arc_value item))) each ≡ false)))) }
+            × (is_of (third_for (chains_in self.now) (chain_of (arc_value item))) each
+            ≡ false)))) }
     {
         let chains = chains_with(alloc, &self.chains, item)?;
         Ok(ZoneRecords {

@@ -61,7 +61,8 @@ pub fn no_data_by_a_wildcard()
     ensures without_type { (zone : Zone) (nsec source : NsecPart) (name encloser : List Label)
         (rtype : ℕ)
         → IsZone zone → IsConsistentNsec zone nsec → IsConsistentNsec zone source
-        → IsWildcardWithoutType nsec source name encloser rtype → LooksUp zone name rtype NoData }
+        → IsWildcardWithoutType nsec source name encloser rtype
+        → LooksUp zone name rtype NoData }
     ensures empty { (zone : Zone) (nsec source : NsecPart) (name encloser : List Label)
         (rtype : ℕ)
         → IsZone zone → IsConsistentNsec zone nsec → IsConsistentNsec zone source
@@ -70,7 +71,8 @@ pub fn no_data_by_a_wildcard()
 
 /// A true set answers with just its data, at its owner, and where it is the wildcard's at a name that doesn't exist.
 pub fn answer_by_a_set()
-    ensures at_its_owner { (zone : Zone) (set : SetPart) → IsZone zone → IsConsistentSet zone set
+    ensures at_its_owner { (zone : Zone) (set : SetPart) → IsZone zone
+        → IsConsistentSet zone set
         → LooksUp zone set.owner set.rtype (Answer set.items) }
     ensures by_a_wildcard { (zone : Zone) (nsec : NsecPart) (set : SetPart)
         (name encloser : List Label) (rtype : ℕ)
@@ -83,6 +85,7 @@ pub fn answer_by_a_set()
 /// lookup.
 pub fn no_data_of_a_proof_type()
     ensures { (zone : Zone) (name : List Label) (rtype : ℕ) → IsZone zone → IsLive zone name
-        → (IsCut zone name → ⊥) → (HasType zone name CNAME_TYPE → ⊥) → IsProofType rtype
+        → (IsCut zone name → ⊥) → (HasType zone name CNAME_TYPE → ⊥)
+        → IsProofType rtype
         → LooksUp zone name rtype NoData }
 {}

@@ -115,7 +115,8 @@ pub fn what_each_condition_keeps_out()
         × LooksUp wildcard_dname (codes "x" ∷ example) A_TYPE Undefined }
     ensures ds_of_a_wildcard { IsConsistentSet wildcard_cut ds_set
         × IsMissingName nsec_at_wildcard_cut (codes "x" ∷ example) example
-        × (IsWildcardAnswer nsec_at_wildcard_cut ds_set (codes "x" ∷ example) example DS_TYPE → ⊥)
+        × (IsWildcardAnswer nsec_at_wildcard_cut ds_set (codes "x" ∷ example) example DS_TYPE
+        → ⊥)
         × LooksUp wildcard_cut (codes "x" ∷ example) DS_TYPE Undefined }
 {}
 

@@ -37,7 +37,8 @@ pub fn what_is_not_true_of_a_zone()
     ensures nsec3_kept { IsZone
         (record two_hosts { records = record_of example NSEC3_TYPE [] ∷ [] }) → ⊥ }
 
-    ensures next_skipped { IsConsistentNsec two_hosts (record nsec_at_a { next = example }) → ⊥ }
+    ensures next_skipped { IsConsistentNsec two_hosts (record nsec_at_a { next = example })
+        → ⊥ }
     ensures type_missing { IsConsistentNsec two_hosts
         (record nsec_at_a { types = RRSIG_TYPE ∷ NSEC_TYPE ∷ [] }) → ⊥ }
     ensures type_added { IsConsistentNsec two_hosts

@@ -79,7 +79,8 @@ pub(crate) fn least(items: &OctetsList) -> &Octets
 
 fn lesser<'a>(one: &'a Octets, other: &'a Octets) -> &'a Octets
     ensures one { is_gt (slice_cmp nat_cmp one.now other.now) ≡ false → result.now ≡ one.now }
-    ensures other { is_gt (slice_cmp nat_cmp one.now other.now) ≡ true → result.now ≡ other.now }
+    ensures other { is_gt (slice_cmp nat_cmp one.now other.now) ≡ true → result.now
+        ≡ other.now }
 {
     let octets = one.as_slice();
     let others = other.as_slice();

@@ -16,7 +16,8 @@ pub fn no_data_by_a_hashed_match()
 /// A name whose hash is inside the arc of a true NSEC3 with Opt-Out clear doesn't exist.
 pub fn no_name_by_a_hash()
     ensures { (zone : Zone) (nsec3 : Nsec3Part) (name : List Label)
-        → IsConsistentNsec3 zone nsec3 → IsNoHashedName nsec3 name → Exists zone name → ⊥ }
+        → IsConsistentNsec3 zone nsec3 → IsNoHashedName nsec3 name → Exists zone name
+        → ⊥ }
 {}
 
 /// An ancestor that exists, and below which the next closer name doesn't, is the closest encloser. There is one alone, so

@@ -155,7 +155,8 @@ pub fn what_each_hash_condition_keeps_out()
 /// tells from it.
 pub fn a_zone_of_one_name()
     ensures zone { IsZone one_name }
-    ensures nsec3 { (hash : List Label → List ℕ) → IsConsistentNsec3 one_name (nsec3_alone hash) }
+    ensures nsec3 { (hash : List Label → List ℕ)
+        → IsConsistentNsec3 one_name (nsec3_alone hash) }
     ensures free { (hash : List Label → List ℕ)
         → hash a_example ≢ hash example → hash asterisk_example ≢ hash example
         → IsClashFree one_name hash a_example }

@@ -182,7 +182,8 @@ impl ZoneTable {
     // No data, which a DNAME leaves open.
     fn without_data<'a>(&'a self, source: &Name) -> Looked<'a>
         ensures dname { HasType self.now source.now DNAME_TYPE → result ≡ Looked.Undefined }
-        ensures none { (HasType self.now source.now DNAME_TYPE → ⊥) → result ≡ Looked.NoData }
+        ensures none { (HasType self.now source.now DNAME_TYPE → ⊥) → result
+            ≡ Looked.NoData }
     {
         if self.has(source, DNAME_TYPE) {
             Looked::Undefined

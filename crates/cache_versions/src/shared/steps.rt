@@ -164,7 +164,8 @@ impl<S: State> Shared<S> {
         ensures same { IsSameSeat seat.old seat.new }
         ensures begins { IsPrefix (seen_by seat.old) (seen_by seat.new) }
         ensures learnt { IsPrefix (noted_by note) (seen_by seat.new) }
-        ensures one { (seen_by seat.new ≡ seen_by seat.old) ⊎ (seen_by seat.new ≡ noted_by note) }
+        ensures one { (seen_by seat.new ≡ seen_by seat.old)
+            ⊎ (seen_by seat.new ≡ noted_by note) }
     {
         let Note { held } = note;
         if reaches(&seat.held.recorded, &held.recorded) {
