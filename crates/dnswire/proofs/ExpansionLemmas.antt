@@ -5,7 +5,7 @@ use Rattle.std.specs.List.{All}
 use Rattle.std.proofs.lemmas.List.Elements.{All-nil, All-cons, All-head, All-tail}
 use native.Mathlib.Decide.{ℕ_discrete}
 use Rattle.dname.specs.Name.{Label, HasLabelLength, lowered, wire_of}
-use Rattle.dname.specs.Read.{Spells, StopsAt, written}
+use Rattle.dname.specs.Read.{Spells, StopsAt, IsWireForm, IsReadFrom, written}
 use Rattle.dname.specs.declared.name_fault.NameFault.{NameFault}
 use Rattle.dname.proofs.ReadLemmas.{written-push, one_name, name_or_fault}
 use Rattle.dnswire.specs.Data.{IsWrittenOut}
@@ -232,6 +232,38 @@ read_again message at octets end name taken w s =
 pub no_fault : (message : List ℕ) (at : ℕ) (octets : List ℕ) (end : ℕ) (seen : List ℕ) (fault : NameFault) → IsWrittenOut message at octets end → seen ≡ octets → StopsAt seen fault → ⊥
 no_fault message at octets end seen fault w same stops =
     name_or_fault octets (map lowered w.labels) (length (wire_of w.labels)) fault (out_spells message at octets end w) (subst (λ o. StopsAt o fault) same stops)
+
+-- what is written out is a wire form
+pub out_form : (message : List ℕ) (at : ℕ) (octets : List ℕ) (end : ℕ) (seen : List ℕ) → IsWrittenOut message at octets end → seen ≡ octets → IsWireForm seen
+out_form message at octets end seen w is = record {
+  labels = w.labels;
+  spelled = is ∙ w.wire;
+  sizes = each_label message at at w.labels end w.reads;
+  fits = omega (arith, ap length is, ap length w.wire, w.fits);
+}
+
+pub out_read : (message : List ℕ) (at : ℕ) (octets : List ℕ) (end : ℕ) (seen : List ℕ) (name : List Label) → IsWrittenOut message at octets end → seen ≡ octets → IsReadFrom seen name → NameAt message at name end
+out_read message at octets end seen name w is read = record {
+  labels = w.labels;
+  reads = w.reads;
+  fits = w.fits;
+  lower = read w.labels (is ∙ w.wire) (each_label message at at w.labels end w.reads);
+}
+
+-- ---- a pointer alone
+
+pub behind_out : (message : List ℕ) (at next : ℕ) (octets : List ℕ) → BeginsWithPointer (drop at message) next → next < at → HasOctets message next octets → IsWrittenOut message at octets (at + 2)
+behind_out message at next octets points before has =
+    let w = has.1 in
+    record { labels = w.labels; reads = pointed at at (at + 2) next has.0 w.labels points before w.reads refl; fits = w.fits; wire = w.wire }
+
+pub pointer_within : (message : List ℕ) (at next : ℕ) → BeginsWithPointer (drop at message) next → at + 2 ≤ length message
+pointer_within message at next points = omega (arith, ap length points.stands, length-drop at message)
+
+pub behind_fails : (message : List ℕ) (at next : ℕ) → BeginsWithPointer (drop at message) next → HasNoRoom message next 255 → HasNoRoom message at 255
+behind_fails message at next points none labels end reads =
+    let a = after_pointer message at at next labels end points reads in
+    none labels a.stop a.reads
 
 -- ---- a name in data
 

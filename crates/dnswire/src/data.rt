@@ -7,7 +7,7 @@ ghost use Rattle.dnswire.specs.declared.wire_fault.WireFault.{WireFault};
 
 use crate::WireFault;
 use crate::field::{Field, layout_of};
-use crate::name_read::{NEAR_OCTETS, NotRead, whole_at, write_out};
+use crate::name_read::{NEAR_OCTETS, NotRead, pointed_place, whole_at, write_out};
 use crate::name_table::NameTable;
 use arrayvec::ArrayVec;
 use dname::{Octets, OutOfMemory, octets_between};
@@ -99,6 +99,16 @@ fn append_name(
     ensures ok { IfOk result (Appends message.now stop Field.Name at octets.old octets.new) }
     ensures table { IsTableOf message.now table.new }
 {
+    match pointed_place(message, at, table) {
+        Ok(Some(_)) if at + 2 > stop => return Ok(None),
+        Ok(Some(place)) => {
+            octets.append(table.octets_of(place))?;
+            return Ok(Some(at + 2));
+        }
+        Ok(None) => {}
+        Err(NotRead::Faulty) => return Ok(None),
+        Err(NotRead::OutOfMemory) => return Err(AllocError),
+    }
     let near = if table.is_open() { 0 } else { NEAR_OCTETS };
     let Some(whole) = whole_at(message, at, near) else {
         return append_far_name(alloc, message, at, stop, table, octets);
