@@ -13,8 +13,9 @@ use Rattle.dnswire.specs.DataField.{IsMissing, HasAppended}
 use Rattle.dnswire.specs.declared.field.Field.TheVariants.{Name}
 use Rattle.dnswire.specs.MessageName.{BeginsWithEnd, BeginsWithLabel, BeginsWithPointer, Reads, NameAt}
 use Rattle.dnswire.specs.MessageName.Reads.{closed, labelled, pointed}
-use Rattle.dnswire.specs.Runs.{Stand, HasNoRoom}
-use Rattle.dnswire.specs.Expansions.{HasOctets, Expands, IsKept, AreKept, nowhere, octets_in}
+use Rattle.dnswire.specs.Runs.{AreRunSizes, Stand, HasNoRoom}
+use Rattle.dnswire.specs.Expansions.{HasOctets, Expands, IsKept, AreKept, IsTableOf, nowhere, octets_in}
+use Rattle.dnswire.specs.declared.name_table.NameTable.{NameTable}
 use Rattle.dnswire.specs.declared.name_table.Place.{Place}
 use Rattle.dnswire.proofs.MessageNameLemmas.{after_label, after_pointer, one_reading}
 use Rattle.dnswire.proofs.NameLabelsLemmas.{begins_with_label}
@@ -192,6 +193,12 @@ keep_place message kept places at place are within has here some = by (ℕ_discr
 pub keep_table : (message kept kept' : List ℕ) (places places' : List Place) (at : ℕ) (place : Place) → kept' ≡ kept → places' ≡ set places at place → AreKept message kept places → at < length places → IsKept message kept at place → AreKept message kept' places'
 keep_table message kept kept' places places' at place same is are within has =
     subst (λ k. AreKept message k places') (sym same) (subst (AreKept message kept) (sym is) (keep_place message kept places at place are within has))
+
+pub keeps_place : (message : List ℕ) (table table' : NameTable) (at : ℕ) (place : Place) → table'.octets ≡ table.octets → table'.places.items ≡ set table.places.items at place → table'.runs.items ≡ table.runs.items → IsTableOf message table → at < length table.places.items → IsKept message table.octets at place → IsTableOf message table'
+keeps_place message table table' at place same is runs t within has = record {
+  kept = keep_table message table.octets table'.octets table.places.items table'.places.items at place same is t.kept within has;
+  runs = subst (AreRunSizes message) (sym runs) t.runs;
+}
 
 pub kept_at : (message kept : List ℕ) (places : List Place) (at : ℕ) (place : Place) → AreKept message kept places → place ≡ get_or places at nowhere → 1 ≤ place.size → IsKept message kept at place
 kept_at message kept places at place are is some = subst (IsKept message kept at) (sym is) (are at (subst (λ (p : Place). 1 ≤ p.size) is some))

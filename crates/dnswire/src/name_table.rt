@@ -1,10 +1,12 @@
 ghost use Rattle.std.specs.Prelude.{◌≡◌, ◌≤◌, ◌+◌, ◌^◌, ◌<◌, ℕ, List, ◌++◌, length, set, get_or, IfOk, IfSome, IfNone, Err};
 ghost use Rattle.dnswire.specs.Expansions.{HasOctets, IsKept, IsTableOf, octets_in, nowhere};
-ghost use Rattle.dnswire.specs.Runs.{HasNoRoom};
+ghost use Rattle.dname.specs.Name.{Label};
+ghost use Rattle.dnswire.specs.Runs.{HasNoRoom, IsRunAt, Stand};
 ghost use Rattle.dnswire.specs.declared.name_read.NotRead.{NotRead};
 
-use crate::label_run::run_at;
+use crate::label_run::Run;
 use crate::name_read::{NotRead, append, append_from};
+use crate::run_sizes::run_by;
 use arrayvec::ArrayVec;
 use dname::{MAX_WIRE, Octets, octets_between};
 use std::alloc::{AllocError, Global};
@@ -18,6 +20,8 @@ pub(crate) struct NameTable {
     // All that is written out, and where it is by its offset in the message.
     octets: Octets,
     places: Vec<Place>,
+    // The sizes of runs of labels, by their offsets.
+    runs: Vec<u8>,
 }
 
 /// Where octets are kept; a place without octets is none.
@@ -37,6 +41,7 @@ impl NameTable {
         NameTable {
             octets: Octets::empty(alloc),
             places: Vec::new(alloc),
+            runs: Vec::new(alloc),
         }
     }
 
@@ -50,7 +55,9 @@ impl NameTable {
             → IsTableOf message self.new }
     {
         if self.places.is_empty() {
-            self.places = vec![in alloc; NOWHERE; size.min(POINTED_OFFSETS)]?;
+            let count = size.min(POINTED_OFFSETS);
+            self.runs = vec![in alloc; 0; count]?;
+            self.places = vec![in alloc; NOWHERE; count]?;
         }
         Ok(())
     }
@@ -81,8 +88,26 @@ impl NameTable {
         requires { at < length self.old.places.items }
         ensures octets { self.new.octets ≡ self.old.octets }
         ensures places { self.new.places.items ≡ set self.old.places.items at place }
+        ensures runs { self.new.runs.items ≡ self.old.runs.items }
     {
         self.places[at] = place;
+    }
+
+    // The run of labels at the offset, as `run_at` gives it.
+    fn run(&mut self, message: &[u8], at: usize, room: usize) -> Option<Run>
+        requires room { room ≤ 255 }
+        requires table { IsTableOf message.now self.old }
+        ensures read { IfSome result (IsRunAt message.now at) }
+        ensures labels { IfSome result (λ run. (labels : List Label)
+            × Stand message.now at labels (at + run.size)) }
+        ensures room { IfSome result (λ run. run.size < room) }
+        ensures within { IfSome result (λ run. at + run.size ≤ length message.now) }
+        ensures none { IfNone result (HasNoRoom message.now at room) }
+        ensures octets { self.new.octets ≡ self.old.octets }
+        ensures places { self.new.places.items ≡ self.old.places.items }
+        ensures table { IsTableOf message.now self.new }
+    {
+        run_by(message, at, room, self.runs.as_mut_slice())
     }
 
     fn add(&mut self, piece: &[u8]) -> Result<Place, AllocError>
@@ -141,12 +166,13 @@ struct Rest {
     last_run: usize,
 }
 
-fn rest_at(message: &[u8], at: usize, room: usize, table: &NameTable) -> Option<Rest>
+fn rest_at(message: &[u8], at: usize, room: usize, table: &mut NameTable) -> Option<Rest>
     requires room { room ≤ 255 }
-    requires table { IsTableOf message.now table.now }
+    requires table { IsTableOf message.now table.old }
     ensures read { IfSome result (λ rest. HasOctets message.now at rest.octets.items
         × (length rest.octets.items ≤ room)) }
     ensures none { IfNone result (HasNoRoom message.now at room) }
+    ensures table { IsTableOf message.now table.new }
 {
     let mut octets = ArrayVec::new();
     let mut start = at;
@@ -161,7 +187,7 @@ fn rest_at(message: &[u8], at: usize, room: usize, table: &NameTable) -> Option<
             return Some(Rest { octets, last_run });
         }
         last_run = start;
-        let Some(run) = run_at(message, start, room - octets.len()) else {
+        let Some(run) = table.run(message, start, room - octets.len()) else {
             return None;
         };
         append_from(&mut octets, message, start, run.size);
@@ -188,7 +214,7 @@ fn remember(message: &[u8], at: usize, whole: Place, last_run: usize, table: &mu
         if start == last_run {
             return;
         }
-        let Some(run) = run_at(message, start, place.size) else {
+        let Some(run) = table.run(message, start, place.size) else {
             return;
         };
         let Some(next) = run.next else {
