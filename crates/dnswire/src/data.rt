@@ -99,16 +99,6 @@ fn append_name(
     ensures ok { IfOk result (Appends message.now stop Field.Name at octets.old octets.new) }
     ensures table { IsTableOf message.now table.new }
 {
-    match pointed_place(message, at, table) {
-        Ok(Some(_)) if at + 2 > stop => return Ok(None),
-        Ok(Some(place)) => {
-            octets.append(table.octets_of(place))?;
-            return Ok(Some(at + 2));
-        }
-        Ok(None) => {}
-        Err(NotRead::Faulty) => return Ok(None),
-        Err(NotRead::OutOfMemory) => return Err(AllocError),
-    }
     let near = if table.is_open() { 0 } else { NEAR_OCTETS };
     let Some(whole) = whole_at(message, at, near) else {
         return append_far_name(alloc, message, at, stop, table, octets);
@@ -120,7 +110,7 @@ fn append_name(
     Ok(Some(whole.end))
 }
 
-// Run by run.
+// Where it isn't whole: from a place of the table, or run by run.
 fn append_far_name(
     alloc: Global,
     message: &[u8],
@@ -133,6 +123,16 @@ fn append_far_name(
     ensures ok { IfOk result (Appends message.now stop Field.Name at octets.old octets.new) }
     ensures table { IsTableOf message.now table.new }
 {
+    match pointed_place(message, at, table) {
+        Ok(Some(_)) if at + 2 > stop => return Ok(None),
+        Ok(Some(place)) => {
+            octets.append(table.octets_of(place))?;
+            return Ok(Some(at + 2));
+        }
+        Ok(None) => {}
+        Err(NotRead::Faulty) => return Ok(None),
+        Err(NotRead::OutOfMemory) => return Err(AllocError),
+    }
     let mut name = ArrayVec::new();
     let end = match write_out(alloc, message, at, table, &mut name) {
         Ok(end) => end,

@@ -26,12 +26,6 @@ pub(crate) fn name_or_fault(
         ⊎ (HasNoName message.now at × (fault ≡ WireFault.BadName at))) }
     ensures table { IsTableOf message.now table.new }
 {
-    match pointed_place(message, at, table) {
-        Ok(Some(place)) => return Ok((Name::of_wire(table.octets_of(place)), at + 2)),
-        Ok(None) => {}
-        Err(NotRead::Faulty) => return Err(WireFault::BadName { at }),
-        Err(NotRead::OutOfMemory) => return Err(WireFault::OutOfMemory),
-    }
     let near = if table.is_open() { 0 } else { NEAR_OCTETS };
     if let Some(read) = whole_name(message, at, near) {
         return Ok(read);
@@ -51,7 +45,7 @@ fn whole_name(message: &[u8], at: usize, near: usize) -> Option<(Name, usize)>
     Some((Name::of_wire(octets), whole.end))
 }
 
-// The name, run by run.
+// The name where it isn't whole: at a place of the table, or written out run by run.
 fn far_name(
     alloc: Global,
     message: &[u8],
@@ -64,6 +58,12 @@ fn far_name(
         ⊎ (HasNoName message.now at × (fault ≡ WireFault.BadName at))) }
     ensures table { IsTableOf message.now table.new }
 {
+    match pointed_place(message, at, table) {
+        Ok(Some(place)) => return Ok((Name::of_wire(table.octets_of(place)), at + 2)),
+        Ok(None) => {}
+        Err(NotRead::Faulty) => return Err(WireFault::BadName { at }),
+        Err(NotRead::OutOfMemory) => return Err(WireFault::OutOfMemory),
+    }
     let mut octets = ArrayVec::new();
     match write_out(alloc, message, at, table, &mut octets) {
         Ok(end) => Ok((Name::of_wire(octets.as_slice()), end)),
