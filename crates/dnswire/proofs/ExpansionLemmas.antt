@@ -194,9 +194,9 @@ pub keep_table : (message kept kept' : List ℕ) (places places' : List Place) (
 keep_table message kept kept' places places' at place same is are within has =
     subst (λ k. AreKept message k places') (sym same) (subst (AreKept message kept) (sym is) (keep_place message kept places at place are within has))
 
-pub keeps_place : (message : List ℕ) (table table' : NameTable) (at : ℕ) (place : Place) → table'.octets ≡ table.octets → table'.places.items ≡ set table.places.items at place → table'.runs.items ≡ table.runs.items → IsTableOf message table → at < length table.places.items → IsKept message table.octets at place → IsTableOf message table'
+pub keeps_place : (message : List ℕ) (table table' : NameTable) (at : ℕ) (place : Place) → table'.octets.items ≡ table.octets.items → table'.places.items ≡ set table.places.items at place → table'.runs.items ≡ table.runs.items → IsTableOf message table → at < length table.places.items → IsKept message table.octets.items at place → IsTableOf message table'
 keeps_place message table table' at place same is runs t within has = record {
-  kept = keep_table message table.octets table'.octets table.places.items table'.places.items at place same is t.kept within has;
+  kept = keep_table message table.octets.items table'.octets.items table.places.items table'.places.items at place same is t.kept within has;
   runs = subst (AreRunSizes message) (sym runs) t.runs;
 }
 

@@ -40,5 +40,5 @@ AreKept message kept places =
     (at : ℕ) → 1 ≤ (get_or places at nowhere).size → IsKept message kept at (get_or places at nowhere)
 
 pub record IsTableOf (message : List ℕ) (table : NameTable) : Type 0 where
-  pub kept : AreKept message table.octets table.places.items
+  pub kept : AreKept message table.octets.items table.places.items
   pub runs : AreRunSizes message table.runs.items

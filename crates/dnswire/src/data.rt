@@ -7,7 +7,7 @@ ghost use Rattle.dnswire.specs.declared.wire_fault.WireFault.{WireFault};
 
 use crate::WireFault;
 use crate::field::{Field, layout_of};
-use crate::name_read::{NEAR_OCTETS, NotRead, pointed_place, whole_at, write_out};
+use crate::name_read::{NotRead, pointed_place, whole_at, write_out};
 use crate::name_table::NameTable;
 use arrayvec::ArrayVec;
 use dname::{Octets, OutOfMemory, octets_between};
@@ -99,8 +99,10 @@ fn append_name(
     ensures ok { IfOk result (Appends message.now stop Field.Name at octets.old octets.new) }
     ensures table { IsTableOf message.now table.new }
 {
-    let near = if table.is_open() { 0 } else { NEAR_OCTETS };
-    let Some(whole) = whole_at(message, at, near) else {
+    if table.is_open() {
+        return append_far_name(alloc, message, at, stop, table, octets);
+    }
+    let Some(whole) = whole_at(message, at) else {
         return append_far_name(alloc, message, at, stop, table, octets);
     };
     if whole.end > stop {

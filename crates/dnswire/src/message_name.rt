@@ -6,7 +6,7 @@ ghost use Rattle.dnswire.specs.declared.wire_fault.WireFault.{WireFault};
 
 use crate::WireFault;
 use crate::name_labels::{NameLabels, NameStep};
-use crate::name_read::{NEAR_OCTETS, NotRead, pointed_place, whole_at, write_out};
+use crate::name_read::{NotRead, pointed_place, whole_at, write_out};
 use crate::name_table::NameTable;
 use arrayvec::ArrayVec;
 use dname::{Name, octets_between};
@@ -26,19 +26,19 @@ pub(crate) fn name_or_fault(
         ⊎ (HasNoName message.now at × (fault ≡ WireFault.BadName at))) }
     ensures table { IsTableOf message.now table.new }
 {
-    let near = if table.is_open() { 0 } else { NEAR_OCTETS };
-    if let Some(read) = whole_name(message, at, near) {
-        return Ok(read);
+    if !table.is_open() {
+        if let Some(read) = whole_name(message, at) {
+            return Ok(read);
+        }
     }
     far_name(alloc, message, at, table)
 }
 
-// The name where it stands in one piece, or in so many octets behind a pointer.
-fn whole_name(message: &[u8], at: usize, near: usize) -> Option<(Name, usize)>
-    requires { near ≤ 255 }
+// The name where it stands in one piece, or near behind a pointer.
+fn whole_name(message: &[u8], at: usize) -> Option<(Name, usize)>
     ensures { IfSome result (λ read. NameAt message.now at read.0 read.1) }
 {
-    let Some(whole) = whole_at(message, at, near) else {
+    let Some(whole) = whole_at(message, at) else {
         return None;
     };
     let octets = octets_between(message, whole.start, whole.start + whole.size);

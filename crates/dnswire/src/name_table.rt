@@ -8,17 +8,20 @@ use crate::label_run::Run;
 use crate::name_read::{NotRead, append, append_from};
 use crate::run_sizes::run_by;
 use arrayvec::ArrayVec;
-use dname::{MAX_WIRE, Octets, octets_between};
+use dname::{MAX_WIRE, octets_between};
 use std::alloc::{AllocError, Global};
 
 /// So many offsets can a pointer go to (RFC 1035, section 4.1.4).
 const POINTED_OFFSETS: usize = 0x4000;
 
+/// For so many octets an offset is room made at first, so that they are seldom moved.
+const OCTETS_AN_OFFSET: usize = 32;
+
 /// What stands in a message where pointers go, written out, so that no chain of pointers is followed twice.
 #[derive(Drop)]
 pub(crate) struct NameTable {
     // All that is written out, and where it is by its offset in the message.
-    octets: Octets,
+    octets: Vec<u8>,
     places: Vec<Place>,
     // The sizes of runs of labels, by their offsets.
     runs: Vec<u8>,
@@ -39,7 +42,7 @@ impl NameTable {
         ensures { (message : List ℕ) → IsTableOf message result }
     {
         NameTable {
-            octets: Octets::empty(alloc),
+            octets: Vec::new(alloc),
             places: Vec::new(alloc),
             runs: Vec::new(alloc),
         }
@@ -56,6 +59,7 @@ impl NameTable {
     {
         if self.places.is_empty() {
             let count = size.min(POINTED_OFFSETS);
+            self.octets = Vec::with_capacity(alloc, OCTETS_AN_OFFSET * count)?;
             self.runs = vec![in alloc; 0; count]?;
             self.places = vec![in alloc; NOWHERE; count]?;
         }
@@ -74,8 +78,8 @@ impl NameTable {
 
     /// The octets at the place.
     pub(crate) fn octets_of(&self, place: Place) -> &[u8]
-        requires { place.start + place.size ≤ length self.now.octets }
-        ensures { result.now ≡ octets_in self.now.octets place }
+        requires { place.start + place.size ≤ length self.now.octets.items }
+        ensures { result.now ≡ octets_in self.now.octets.items place }
     {
         octets_between(
             self.octets.as_slice(),
@@ -86,7 +90,7 @@ impl NameTable {
 
     fn keep(&mut self, at: usize, place: Place)
         requires { at < length self.old.places.items }
-        ensures octets { self.new.octets ≡ self.old.octets }
+        ensures octets { self.new.octets.items ≡ self.old.octets.items }
         ensures places { self.new.places.items ≡ set self.old.places.items at place }
         ensures runs { self.new.runs.items ≡ self.old.runs.items }
     {
@@ -103,7 +107,7 @@ impl NameTable {
         ensures room { IfSome result (λ run. run.size < room) }
         ensures within { IfSome result (λ run. at + run.size ≤ length message.now) }
         ensures none { IfNone result (HasNoRoom message.now at room) }
-        ensures octets { self.new.octets ≡ self.old.octets }
+        ensures octets { self.new.octets.items ≡ self.old.octets.items }
         ensures places { self.new.places.items ≡ self.old.places.items }
         ensures table { IsTableOf message.now self.new }
     {
@@ -112,15 +116,15 @@ impl NameTable {
 
     fn add(&mut self, piece: &[u8]) -> Result<Place, AllocError>
         ensures octets { IfOk result (λ place.
-            (place.start + place.size ≤ length self.new.octets)
-            × (octets_in self.new.octets place ≡ piece.now) × (place.size ≡ length piece.now)
+            (place.start + place.size ≤ length self.new.octets.items)
+            × (octets_in self.new.octets.items place ≡ piece.now) × (place.size ≡ length piece.now)
             × (place.start + place.size < 2 ^ 64)) }
         ensures table { (message : List ℕ) → IsTableOf message self.old
             → IsTableOf message self.new }
     {
-        let start = self.octets.as_slice().len();
-        self.octets.append(piece)?;
-        let end = self.octets.as_slice().len();
+        let start = self.octets.len();
+        self.octets.extend_from_slice(piece)?;
+        let end = self.octets.len();
         Ok(Place {
             start,
             size: end - start,
@@ -137,7 +141,7 @@ pub(crate) fn place_of(
 ) -> Result<Place, NotRead>
     requires room { room ≤ 255 }
     requires table { IsTableOf message.now table.old }
-    ensures read { IfOk result (λ place. IsKept message.now table.new.octets at place
+    ensures read { IfOk result (λ place. IsKept message.now table.new.octets.items at place
         × (place.size ≤ room)) }
     ensures faulty { result ≡ Err NotRead.Faulty → HasNoRoom message.now at room }
     ensures table { IsTableOf message.now table.new }
@@ -201,10 +205,10 @@ fn rest_at(message: &[u8], at: usize, room: usize, table: &mut NameTable) -> Opt
 
 // Keeps what is read from the offset on, which is at the place, and what its pointers lead to.
 fn remember(message: &[u8], at: usize, whole: Place, last_run: usize, table: &mut NameTable)
-    requires kept { IsKept message.now table.old.octets at whole }
+    requires kept { IsKept message.now table.old.octets.items at whole }
     requires small { whole.size ≤ 255 }
     requires table { IsTableOf message.now table.old }
-    ensures octets { table.new.octets ≡ table.old.octets }
+    ensures octets { table.new.octets.items ≡ table.old.octets.items }
     ensures table { IsTableOf message.now table.new }
 {
     let mut start = at;

@@ -22,7 +22,7 @@ loop-start-preserved c =
     let run = c.in-Some.ensures.labels in
     let same = c.run.ensures.octets ∙ c.keep.ensures.octets in
     record {
-      kept = kept_after c.args.message.now c.loop-start.table.octets c.run.new.self.octets c.loop-start.start c.in-Some.run'.size c.in-Some-next.next c.loop-start.place run.0 same inv.kept run.1 (omega (arith, c.in-Some.ensures.room)) ends.0;
+      kept = kept_after c.args.message.now c.loop-start.table.octets.items c.run.new.self.octets.items c.loop-start.start c.in-Some.run'.size c.in-Some-next.next c.loop-start.place run.0 same inv.kept run.1 (omega (arith, c.in-Some.ensures.room)) ends.0;
       small = omega (arith, inv.small);
       octets = same ∙ inv.octets;
       table = c.run.ensures.table;
