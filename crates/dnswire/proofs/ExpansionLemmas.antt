@@ -1,13 +1,12 @@
 -- Names in a message written out run by run, and what is kept of them.
-use Rattle.std.proofs.Common.{◌≡◌, ℕ, ◌+◌, ◌-◌, ◌^◌, ◌<◌, ◌≤◌, List, [], ◌∷◌, ◌++◌, length, map, take, drop, set, get_or, refl, sym, ◌∙◌, ap, subst, arith, length-append, append_assoc, append-nil}
-use Rattle.std.proofs.lemmas.List.{take-append-drop, take_at, drop_at, drop-drop, drop-take, length-take-le, length-drop, get_or-set_same, get_or-set_other}
+use Rattle.std.proofs.Common.{◌≡◌, ℕ, ◌+◌, ◌-◌, ◌^◌, ◌<◌, ◌≤◌, List, [], ◌∷◌, ◌++◌, length, take, drop, set, get_or, refl, sym, ◌∙◌, ap, subst, arith, length-append, append_assoc}
+use Rattle.std.proofs.lemmas.List.{take_at, drop_at, drop-drop, drop-take, length-take-le, length-drop, get_or-set_same, get_or-set_other}
 use Rattle.std.specs.List.{All}
-use Rattle.std.proofs.lemmas.List.Elements.{All-nil, All-cons, All-head, All-tail}
+use Rattle.std.proofs.lemmas.List.Elements.{All-nil, All-cons}
 use native.Mathlib.Decide.{ℕ_discrete}
-use Rattle.dname.specs.Name.{Label, HasLabelLength, lowered, wire_of}
-use Rattle.dname.specs.Read.{Spells, StopsAt, IsWireForm, IsReadFrom, written}
-use Rattle.dname.specs.declared.name_fault.NameFault.{NameFault}
-use Rattle.dname.proofs.ReadLemmas.{written-push, one_name, name_or_fault}
+use Rattle.dname.specs.Name.{Label, HasLabelLength, wire_of}
+use Rattle.dname.specs.Read.{IsWireForm, IsReadFrom, written}
+use Rattle.dname.proofs.ReadLemmas.{written-push}
 use Rattle.dnswire.specs.Data.{IsWrittenOut}
 use Rattle.dnswire.specs.DataField.{IsMissing, HasAppended}
 use Rattle.dnswire.specs.declared.field.Field.TheVariants.{Name}
@@ -213,32 +212,8 @@ each_label message start at _ end (closed _ _ _ e is) = All-nil HasLabelLength
 each_label message start at _ end (labelled _ _ _ label labels l more) = All-cons HasLabelLength label labels l.size (each_label message start (at + 1 + length label) labels end more)
 each_label message start at labels end (pointed _ _ _ offset stop _ p before more is) = each_label message offset offset labels stop more
 
--- what is written out spells the name
-pub out_spells : (message : List ℕ) (at : ℕ) (octets : List ℕ) (end : ℕ) (w : IsWrittenOut message at octets end) → Spells octets (map lowered w.labels) (length (wire_of w.labels))
-out_spells message at octets end w = record {
-  labels = w.labels;
-  rest = [];
-  spelled = w.wire ∙ sym (append-nil (wire_of w.labels));
-  sizes = each_label message at at w.labels end w.reads;
-  size = refl;
-  fits = w.fits;
-  lower = refl;
-}
-
-pub out_name : (message : List ℕ) (at : ℕ) (octets : List ℕ) (end : ℕ) (w : IsWrittenOut message at octets end) → NameAt message at (map lowered w.labels) end
-out_name message at octets end w = record { labels = w.labels; reads = w.reads; fits = w.fits; lower = refl }
-
 pub no_out : (message : List ℕ) (at : ℕ) (octets : List ℕ) (end : ℕ) → HasNoRoom message at 255 → IsWrittenOut message at octets end → ⊥
 no_out message at octets end none w = omega (arith, w.fits, none w.labels end w.reads)
-
--- octets that are written out are read as the name
-pub read_again : (message : List ℕ) (at : ℕ) (octets : List ℕ) (end : ℕ) (name : List Label) (taken : ℕ) → IsWrittenOut message at octets end → Spells octets name taken → NameAt message at name end
-read_again message at octets end name taken w s =
-    subst (λ name. NameAt message at name end) (one_name octets (map lowered w.labels) name (length (wire_of w.labels)) taken (out_spells message at octets end w) s).0 (out_name message at octets end w)
-
-pub no_fault : (message : List ℕ) (at : ℕ) (octets : List ℕ) (end : ℕ) (seen : List ℕ) (fault : NameFault) → IsWrittenOut message at octets end → seen ≡ octets → StopsAt seen fault → ⊥
-no_fault message at octets end seen fault w same stops =
-    name_or_fault octets (map lowered w.labels) (length (wire_of w.labels)) fault (out_spells message at octets end w) (subst (λ o. StopsAt o fault) same stops)
 
 -- what is written out is a wire form
 pub out_form : (message : List ℕ) (at : ℕ) (octets : List ℕ) (end : ℕ) (seen : List ℕ) → IsWrittenOut message at octets end → seen ≡ octets → IsWireForm seen
@@ -287,32 +262,6 @@ pub name_missing : (message : List ℕ) (stop at : ℕ) → HasNoRoom message at
 name_missing message stop at none octets end w within = no_out message at octets end none w
 
 -- ---- names in one piece
-
-labels_read : (message : List ℕ) (start at : ℕ) (labels : List Label) (rest : List ℕ) → drop at message ≡ wire_of labels ++ rest → All HasLabelLength labels → Reads message start at labels (at + length (wire_of labels))
-labels_read message start at [] rest is sizes = closed start at (at + 1) (record { rest = rest; stands = is }) refl
-labels_read message start at (label ∷ labels) rest is sizes =
-    let more = wire_of labels ++ rest in
-    let front : drop at message ≡ length label ∷ (label ++ more) = is ∙ ap (λ o. length label ∷ o) (append_assoc label (wire_of labels) rest) in
-    let next : drop (at + 1 + length label) message ≡ more = drop_on message (length label ∷ label) more at (at + 1 + length label) front (omega arith) in
-    labelled start at (at + length (wire_of (label ∷ labels))) label labels (record { rest = more; stands = front; size = All-head HasLabelLength label labels sizes })
-    (subst (Reads message start (at + 1 + length label) labels) (omega (arith, length-append label (wire_of labels)))
-    (labels_read message start (at + 1 + length label) labels rest next (All-tail HasLabelLength label labels sizes)))
-
--- a name that octets of the message spell stands there
-pub spelt_name : (message : List ℕ) (at count : ℕ) (octets : List ℕ) (name : List Label) (taken : ℕ) → octets ≡ take count (drop at message) → Spells octets name taken → NameAt message at name (at + taken)
-spelt_name message at count octets name taken is s =
-    let left = drop count (drop at message) in
-    let spelled : drop at message ≡ wire_of s.labels ++ (s.rest ++ left) = sym (take-append-drop count (drop at message)) ∙ ap (λ o. o ++ left) (sym is ∙ s.spelled) ∙ append_assoc (wire_of s.labels) s.rest left in
-    subst (NameAt message at name) (ap (λ n. at + n) (sym s.size)) (record {
-      labels = s.labels;
-      reads = labels_read message at at s.labels (s.rest ++ left) spelled s.sizes;
-      fits = omega (arith, s.size, s.fits);
-      lower = s.lower;
-    })
-
-pub name_behind : (message : List ℕ) (at next : ℕ) (name : List Label) (stop : ℕ) → BeginsWithPointer (drop at message) next → next < at → NameAt message next name stop → NameAt message at name (at + 2)
-name_behind message at next name stop points before n =
-    record { labels = n.labels; reads = pointed at at (at + 2) next stop n.labels points before n.reads refl; fits = n.fits; lower = n.lower }
 
 pub closed_whole : (message : List ℕ) (at size : ℕ) (labels : List Label) → Stand message at labels (at + size) → BeginsWithEnd (drop (at + size) message) → size < 255 → IsWrittenOut message at (take (size + 1) (drop at message)) (at + (size + 1))
 closed_whole message at size labels stands ends few =

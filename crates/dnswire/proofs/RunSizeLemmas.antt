@@ -4,7 +4,7 @@ use Rattle.std.proofs.lemmas.List.{length-drop, get_or-set_same, get_or-set_othe
 use native.Mathlib.Decide.{ℕ_discrete}
 use Rattle.dname.specs.Name.{Label, wire_of}
 use Rattle.dname.specs.Read.{written}
-use Rattle.dnswire.specs.MessageName.{BeginsWithLabel, Reads}
+use Rattle.dnswire.specs.MessageName.{Reads}
 use Rattle.dnswire.specs.Runs.{AreRunSizes, HasEnd, Passed, Stand}
 use Rattle.dnswire.proofs.RunLemmas.{passed_none, passed_label, passed_over_limit, reads_starts, some_octets, zero_at}
 use Rattle.dnswire.proofs.ExpansionLemmas.{stand_none, stand_label}

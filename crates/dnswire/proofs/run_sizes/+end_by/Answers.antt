@@ -1,4 +1,4 @@
-use Rattle.std.proofs.Common.{◌≡◌, ◌+◌, ◌-◌, ◌∙◌, sym, subst, arith}
+use Rattle.std.proofs.Common.{◌-◌, subst, arith}
 use Rattle.std.proofs.Math.Seq.{drop-cons}
 use Rattle.dnswire.specs.Runs.{HasEnd}
 use Rattle.dnswire.proofs.RunSizeLemmas.{ends_on, kept_size, no_room_at, no_room_known, keep_run}
