@@ -1,4 +1,4 @@
-ghost use Rattle.std.specs.Prelude.{◌≡◌, ◌≤◌, ◌+◌, ◌^◌, ◌<◌, ℕ, List, ◌++◌, length, set, get_or, IfOk, IfSome, IfNone, Err};
+ghost use Rattle.std.specs.Prelude.{[], ◌≡◌, ◌≤◌, ◌+◌, ◌^◌, ◌<◌, ℕ, List, ◌++◌, length, set, get_or, IfOk, IfSome, IfNone, Err};
 ghost use Rattle.dnswire.specs.Expansions.{HasOctets, IsKept, IsTableOf, octets_in, nowhere};
 ghost use Rattle.dname.specs.Name.{Label};
 ghost use Rattle.dnswire.specs.Runs.{HasNoRoom, IsRunAt, Stand};
@@ -153,32 +153,33 @@ pub(crate) fn place_of(
     if known.size > 0 {
         return Ok(known);
     }
-    let Some(rest) = rest_at(message, at, room, table) else {
+    let mut rest = ArrayVec::new();
+    let Some(last_run) = rest_at(message, at, room, table, &mut rest) else {
         return Err(NotRead::Faulty);
     };
-    let Ok(place) = table.add(rest.octets.as_slice()) else {
+    let Ok(place) = table.add(rest.as_slice()) else {
         return Err(NotRead::OutOfMemory);
     };
-    remember(message, at, place, rest.last_run, table);
+    remember(message, at, place, last_run, table);
     Ok(place)
 }
 
-// What is read from an offset on, and where the last run begins that wasn't kept.
-#[derive(Drop)]
-struct Rest {
-    octets: ArrayVec<u8, MAX_WIRE>,
-    last_run: usize,
-}
-
-fn rest_at(message: &[u8], at: usize, room: usize, table: &mut NameTable) -> Option<Rest>
+// Writes what is read from the offset on, and gives where the last run begins that wasn't kept.
+fn rest_at(
+    message: &[u8],
+    at: usize,
+    room: usize,
+    table: &mut NameTable,
+    octets: &mut ArrayVec<u8, MAX_WIRE>,
+) -> Option<usize>
     requires room { room ≤ 255 }
+    requires empty { octets.old.items ≡ [] }
     requires table { IsTableOf message.now table.old }
-    ensures read { IfSome result (λ rest. HasOctets message.now at rest.octets.items
-        × (length rest.octets.items ≤ room)) }
+    ensures read { IfSome result (λ _. HasOctets message.now at octets.new.items
+        × (length octets.new.items ≤ room)) }
     ensures none { IfNone result (HasNoRoom message.now at room) }
     ensures table { IsTableOf message.now table.new }
 {
-    let mut octets = ArrayVec::new();
     let mut start = at;
     let mut last_run = at;
     loop {
@@ -187,17 +188,17 @@ fn rest_at(message: &[u8], at: usize, room: usize, table: &mut NameTable) -> Opt
             return None;
         }
         if known.size > 0 {
-            append(&mut octets, table.octets_of(known));
-            return Some(Rest { octets, last_run });
+            append(octets, table.octets_of(known));
+            return Some(last_run);
         }
         last_run = start;
         let Some(run) = table.run(message, start, room - octets.len()) else {
             return None;
         };
-        append_from(&mut octets, message, start, run.size);
+        append_from(octets, message, start, run.size);
         let Some(next) = run.next else {
-            append(&mut octets, &[0]);
-            return Some(Rest { octets, last_run });
+            append(octets, &[0]);
+            return Some(last_run);
         };
         start = next;
     }
