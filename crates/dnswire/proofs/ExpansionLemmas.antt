@@ -1,20 +1,20 @@
 -- Names in a message written out run by run, and what is kept of them.
-use Rattle.std.proofs.Common.{◌≡◌, ℕ, ◌+◌, ◌-◌, ◌^◌, ◌<◌, ◌≤◌, List, [], ◌∷◌, ◌++◌, length, map, take, drop, set, get_or, refl, sym, ◌∙◌, ap, subst, arith, length-append, append_assoc, append-nil}
-use Rattle.std.proofs.lemmas.List.{take-append-drop, take_at, drop_at, drop-drop, drop-take, length-take-le, length-drop, get_or-set_same, get_or-set_other}
+use Rattle.std.proofs.Common.{◌≡◌, ℕ, ◌+◌, ◌-◌, ◌^◌, ◌<◌, ◌≤◌, List, [], ◌∷◌, ◌++◌, length, take, drop, set, get_or, refl, sym, ◌∙◌, ap, subst, arith, length-append, append_assoc}
+use Rattle.std.proofs.lemmas.List.{take_at, drop_at, drop-drop, drop-take, length-take-le, length-drop, get_or-set_same, get_or-set_other}
 use Rattle.std.specs.List.{All}
-use Rattle.std.proofs.lemmas.List.Elements.{All-nil, All-cons, All-head, All-tail}
+use Rattle.std.proofs.lemmas.List.Elements.{All-nil, All-cons}
 use native.Mathlib.Decide.{ℕ_discrete}
-use Rattle.dname.specs.Name.{Label, HasLabelLength, lowered, wire_of}
-use Rattle.dname.specs.Read.{Spells, StopsAt, written}
-use Rattle.dname.specs.declared.name_fault.NameFault.{NameFault}
-use Rattle.dname.proofs.ReadLemmas.{written-push, one_name, name_or_fault}
+use Rattle.dname.specs.Name.{Label, HasLabelLength, wire_of}
+use Rattle.dname.specs.Read.{IsWireForm, IsReadFrom, written}
+use Rattle.dname.proofs.ReadLemmas.{written-push}
 use Rattle.dnswire.specs.Data.{IsWrittenOut}
 use Rattle.dnswire.specs.DataField.{IsMissing, HasAppended}
 use Rattle.dnswire.specs.declared.field.Field.TheVariants.{Name}
 use Rattle.dnswire.specs.MessageName.{BeginsWithEnd, BeginsWithLabel, BeginsWithPointer, Reads, NameAt}
 use Rattle.dnswire.specs.MessageName.Reads.{closed, labelled, pointed}
-use Rattle.dnswire.specs.Runs.{Stand, HasNoRoom}
-use Rattle.dnswire.specs.Expansions.{HasOctets, Expands, IsKept, AreKept, nowhere, octets_in}
+use Rattle.dnswire.specs.Runs.{AreRunSizes, Stand, HasNoRoom}
+use Rattle.dnswire.specs.Expansions.{HasOctets, Expands, IsKept, AreKept, IsTableOf, nowhere, octets_in}
+use Rattle.dnswire.specs.declared.name_table.NameTable.{NameTable}
 use Rattle.dnswire.specs.declared.name_table.Place.{Place}
 use Rattle.dnswire.proofs.MessageNameLemmas.{after_label, after_pointer, one_reading}
 use Rattle.dnswire.proofs.NameLabelsLemmas.{begins_with_label}
@@ -193,6 +193,12 @@ pub keep_table : (message kept kept' : List ℕ) (places places' : List Place) (
 keep_table message kept kept' places places' at place same is are within has =
     subst (λ k. AreKept message k places') (sym same) (subst (AreKept message kept) (sym is) (keep_place message kept places at place are within has))
 
+pub keeps_place : (message : List ℕ) (table table' : NameTable) (at : ℕ) (place : Place) → table'.octets.items ≡ table.octets.items → table'.places.items ≡ set table.places.items at place → table'.runs.items ≡ table.runs.items → IsTableOf message table → at < length table.places.items → IsKept message table.octets.items at place → IsTableOf message table'
+keeps_place message table table' at place same is runs t within has = record {
+  kept = keep_table message table.octets.items table'.octets.items table.places.items table'.places.items at place same is t.kept within has;
+  runs = subst (AreRunSizes message) (sym runs) t.runs;
+}
+
 pub kept_at : (message kept : List ℕ) (places : List Place) (at : ℕ) (place : Place) → AreKept message kept places → place ≡ get_or places at nowhere → 1 ≤ place.size → IsKept message kept at place
 kept_at message kept places at place are is some = subst (IsKept message kept at) (sym is) (are at (subst (λ (p : Place). 1 ≤ p.size) is some))
 
@@ -206,32 +212,40 @@ each_label message start at _ end (closed _ _ _ e is) = All-nil HasLabelLength
 each_label message start at _ end (labelled _ _ _ label labels l more) = All-cons HasLabelLength label labels l.size (each_label message start (at + 1 + length label) labels end more)
 each_label message start at labels end (pointed _ _ _ offset stop _ p before more is) = each_label message offset offset labels stop more
 
--- what is written out spells the name
-pub out_spells : (message : List ℕ) (at : ℕ) (octets : List ℕ) (end : ℕ) (w : IsWrittenOut message at octets end) → Spells octets (map lowered w.labels) (length (wire_of w.labels))
-out_spells message at octets end w = record {
-  labels = w.labels;
-  rest = [];
-  spelled = w.wire ∙ sym (append-nil (wire_of w.labels));
-  sizes = each_label message at at w.labels end w.reads;
-  size = refl;
-  fits = w.fits;
-  lower = refl;
-}
-
-pub out_name : (message : List ℕ) (at : ℕ) (octets : List ℕ) (end : ℕ) (w : IsWrittenOut message at octets end) → NameAt message at (map lowered w.labels) end
-out_name message at octets end w = record { labels = w.labels; reads = w.reads; fits = w.fits; lower = refl }
-
 pub no_out : (message : List ℕ) (at : ℕ) (octets : List ℕ) (end : ℕ) → HasNoRoom message at 255 → IsWrittenOut message at octets end → ⊥
 no_out message at octets end none w = omega (arith, w.fits, none w.labels end w.reads)
 
--- octets that are written out are read as the name
-pub read_again : (message : List ℕ) (at : ℕ) (octets : List ℕ) (end : ℕ) (name : List Label) (taken : ℕ) → IsWrittenOut message at octets end → Spells octets name taken → NameAt message at name end
-read_again message at octets end name taken w s =
-    subst (λ name. NameAt message at name end) (one_name octets (map lowered w.labels) name (length (wire_of w.labels)) taken (out_spells message at octets end w) s).0 (out_name message at octets end w)
+-- what is written out is a wire form
+pub out_form : (message : List ℕ) (at : ℕ) (octets : List ℕ) (end : ℕ) (seen : List ℕ) → IsWrittenOut message at octets end → seen ≡ octets → IsWireForm seen
+out_form message at octets end seen w is = record {
+  labels = w.labels;
+  spelled = is ∙ w.wire;
+  sizes = each_label message at at w.labels end w.reads;
+  fits = omega (arith, ap length is, ap length w.wire, w.fits);
+}
 
-pub no_fault : (message : List ℕ) (at : ℕ) (octets : List ℕ) (end : ℕ) (seen : List ℕ) (fault : NameFault) → IsWrittenOut message at octets end → seen ≡ octets → StopsAt seen fault → ⊥
-no_fault message at octets end seen fault w same stops =
-    name_or_fault octets (map lowered w.labels) (length (wire_of w.labels)) fault (out_spells message at octets end w) (subst (λ o. StopsAt o fault) same stops)
+pub out_read : (message : List ℕ) (at : ℕ) (octets : List ℕ) (end : ℕ) (seen : List ℕ) (name : List Label) → IsWrittenOut message at octets end → seen ≡ octets → IsReadFrom seen name → NameAt message at name end
+out_read message at octets end seen name w is read = record {
+  labels = w.labels;
+  reads = w.reads;
+  fits = w.fits;
+  lower = read w.labels (is ∙ w.wire) (each_label message at at w.labels end w.reads);
+}
+
+-- ---- a pointer alone
+
+pub behind_out : (message : List ℕ) (at next : ℕ) (octets : List ℕ) → BeginsWithPointer (drop at message) next → next < at → HasOctets message next octets → IsWrittenOut message at octets (at + 2)
+behind_out message at next octets points before has =
+    let w = has.1 in
+    record { labels = w.labels; reads = pointed at at (at + 2) next has.0 w.labels points before w.reads refl; fits = w.fits; wire = w.wire }
+
+pub pointer_within : (message : List ℕ) (at next : ℕ) → BeginsWithPointer (drop at message) next → at + 2 ≤ length message
+pointer_within message at next points = omega (arith, ap length points.stands, length-drop at message)
+
+pub behind_fails : (message : List ℕ) (at next : ℕ) → BeginsWithPointer (drop at message) next → HasNoRoom message next 255 → HasNoRoom message at 255
+behind_fails message at next points none labels end reads =
+    let a = after_pointer message at at next labels end points reads in
+    none labels a.stop a.reads
 
 -- ---- a name in data
 
@@ -248,32 +262,6 @@ pub name_missing : (message : List ℕ) (stop at : ℕ) → HasNoRoom message at
 name_missing message stop at none octets end w within = no_out message at octets end none w
 
 -- ---- names in one piece
-
-labels_read : (message : List ℕ) (start at : ℕ) (labels : List Label) (rest : List ℕ) → drop at message ≡ wire_of labels ++ rest → All HasLabelLength labels → Reads message start at labels (at + length (wire_of labels))
-labels_read message start at [] rest is sizes = closed start at (at + 1) (record { rest = rest; stands = is }) refl
-labels_read message start at (label ∷ labels) rest is sizes =
-    let more = wire_of labels ++ rest in
-    let front : drop at message ≡ length label ∷ (label ++ more) = is ∙ ap (λ o. length label ∷ o) (append_assoc label (wire_of labels) rest) in
-    let next : drop (at + 1 + length label) message ≡ more = drop_on message (length label ∷ label) more at (at + 1 + length label) front (omega arith) in
-    labelled start at (at + length (wire_of (label ∷ labels))) label labels (record { rest = more; stands = front; size = All-head HasLabelLength label labels sizes })
-    (subst (Reads message start (at + 1 + length label) labels) (omega (arith, length-append label (wire_of labels)))
-    (labels_read message start (at + 1 + length label) labels rest next (All-tail HasLabelLength label labels sizes)))
-
--- a name that octets of the message spell stands there
-pub spelt_name : (message : List ℕ) (at count : ℕ) (octets : List ℕ) (name : List Label) (taken : ℕ) → octets ≡ take count (drop at message) → Spells octets name taken → NameAt message at name (at + taken)
-spelt_name message at count octets name taken is s =
-    let left = drop count (drop at message) in
-    let spelled : drop at message ≡ wire_of s.labels ++ (s.rest ++ left) = sym (take-append-drop count (drop at message)) ∙ ap (λ o. o ++ left) (sym is ∙ s.spelled) ∙ append_assoc (wire_of s.labels) s.rest left in
-    subst (NameAt message at name) (ap (λ n. at + n) (sym s.size)) (record {
-      labels = s.labels;
-      reads = labels_read message at at s.labels (s.rest ++ left) spelled s.sizes;
-      fits = omega (arith, s.size, s.fits);
-      lower = s.lower;
-    })
-
-pub name_behind : (message : List ℕ) (at next : ℕ) (name : List Label) (stop : ℕ) → BeginsWithPointer (drop at message) next → next < at → NameAt message next name stop → NameAt message at name (at + 2)
-name_behind message at next name stop points before n =
-    record { labels = n.labels; reads = pointed at at (at + 2) next stop n.labels points before n.reads refl; fits = n.fits; lower = n.lower }
 
 pub closed_whole : (message : List ℕ) (at size : ℕ) (labels : List Label) → Stand message at labels (at + size) → BeginsWithEnd (drop (at + size) message) → size < 255 → IsWrittenOut message at (take (size + 1) (drop at message)) (at + (size + 1))
 closed_whole message at size labels stands ends few =

@@ -2,6 +2,7 @@ pub mod HeaderLemmas
 pub mod MessageNameLemmas
 pub mod NameLabelsLemmas
 pub mod RunLemmas
+pub mod RunSizeLemmas
 pub mod ExpansionLemmas
 pub mod InTurnLemmas
 pub mod FieldsLemmas

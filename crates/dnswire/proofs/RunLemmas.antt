@@ -15,7 +15,7 @@ reads_starts message start at _ end (closed _ _ _ e is) = omega (arith, ap lengt
 reads_starts message start at _ end (labelled _ _ _ label labels l more) = omega (arith, ap length l.stands, length-drop at message)
 reads_starts message start at labels end (pointed _ _ _ offset stop _ p before more is) = omega (arith, ap length p.stands, length-drop at message)
 
-some_octets : (labels : List Label) → 1 ≤ length (wire_of labels)
+pub some_octets : (labels : List Label) → 1 ≤ length (wire_of labels)
 some_octets [] = omega arith
 some_octets (label ∷ rest) = omega arith
 
@@ -200,7 +200,7 @@ keep_size message sizes at size are within has here some = by (ℕ_discrete here
 abbrev zeros : ℕ → List ℕ
 zeros count = replicate count 0
 
-zero_at : (count at : ℕ) → get_or (zeros count) at 0 ≡ 0
+pub zero_at : (count at : ℕ) → get_or (zeros count) at 0 ≡ 0
 zero_at zero at = refl
 zero_at (suc count) zero = refl
 zero_at (suc count) (suc at) = zero_at count at

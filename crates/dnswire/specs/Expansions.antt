@@ -3,6 +3,7 @@ use Rattle.std.specs.Prelude.{◌≡◌, ℕ, ◌+◌, ◌^◌, ◌<◌, ◌≤�
 use Rattle.dname.specs.Name.{Label, wire_of}
 use Rattle.dnswire.specs.Data.{IsWrittenOut}
 use Rattle.dnswire.specs.MessageName.{Reads}
+use Rattle.dnswire.specs.Runs.{AreRunSizes}
 use Rattle.dnswire.specs.declared.name_table.NameTable.{NameTable}
 use Rattle.dnswire.specs.declared.name_table.Place.{Place}
 
@@ -38,5 +39,6 @@ abbrev pub AreKept : List ℕ → List ℕ → List Place → Type 0
 AreKept message kept places =
     (at : ℕ) → 1 ≤ (get_or places at nowhere).size → IsKept message kept at (get_or places at nowhere)
 
-abbrev pub IsTableOf : List ℕ → NameTable → Type 0
-IsTableOf message table = AreKept message table.octets table.places.items
+pub record IsTableOf (message : List ℕ) (table : NameTable) : Type 0 where
+  pub kept : AreKept message table.octets.items table.places.items
+  pub runs : AreRunSizes message table.runs.items

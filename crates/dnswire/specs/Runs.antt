@@ -70,3 +70,12 @@ pub record Leads (message : List ℕ) (from to passed : ℕ) : Type 0 where
       (all : List Label) (stop : ℕ) → Reads message from from all stop
       → (labels : List Label) × (end : ℕ) × Reads message to to labels end
       × (length (wire_of all) ≡ passed + length (wire_of labels))
+
+-- the labels from the one offset on end at the other
+pub record HasEnd (message : List ℕ) (at last : ℕ) : Type 0 where
+  pub end : IsRunEnd message at last
+  pub labels : (labels : List Label) × Stand message at labels last
+
+-- by the offset, the sizes of runs of labels that are kept; 0 is none
+abbrev pub AreRunSizes : List ℕ → List ℕ → Type 0
+AreRunSizes message sizes = (at : ℕ) → 1 ≤ get_or sizes at 0 → HasEnd message at (at + get_or sizes at 0)

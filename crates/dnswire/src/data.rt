@@ -7,7 +7,7 @@ ghost use Rattle.dnswire.specs.declared.wire_fault.WireFault.{WireFault};
 
 use crate::WireFault;
 use crate::field::{Field, layout_of};
-use crate::name_read::{NEAR_OCTETS, NotRead, whole_at, write_out};
+use crate::name_read::{NotRead, pointed_place, whole_at, write_out};
 use crate::name_table::NameTable;
 use arrayvec::ArrayVec;
 use dname::{Octets, OutOfMemory, octets_between};
@@ -99,8 +99,10 @@ fn append_name(
     ensures ok { IfOk result (Appends message.now stop Field.Name at octets.old octets.new) }
     ensures table { IsTableOf message.now table.new }
 {
-    let near = if table.is_open() { 0 } else { NEAR_OCTETS };
-    let Some(whole) = whole_at(message, at, near) else {
+    if table.is_open() {
+        return append_far_name(alloc, message, at, stop, table, octets);
+    }
+    let Some(whole) = whole_at(message, at) else {
         return append_far_name(alloc, message, at, stop, table, octets);
     };
     if whole.end > stop {
@@ -110,7 +112,7 @@ fn append_name(
     Ok(Some(whole.end))
 }
 
-// Run by run.
+// Where it isn't whole: from a place of the table, or run by run.
 fn append_far_name(
     alloc: Global,
     message: &[u8],
@@ -123,6 +125,16 @@ fn append_far_name(
     ensures ok { IfOk result (Appends message.now stop Field.Name at octets.old octets.new) }
     ensures table { IsTableOf message.now table.new }
 {
+    match pointed_place(message, at, table) {
+        Ok(Some(_)) if at + 2 > stop => return Ok(None),
+        Ok(Some(place)) => {
+            octets.append(table.octets_of(place))?;
+            return Ok(Some(at + 2));
+        }
+        Ok(None) => {}
+        Err(NotRead::Faulty) => return Ok(None),
+        Err(NotRead::OutOfMemory) => return Err(AllocError),
+    }
     let mut name = ArrayVec::new();
     let end = match write_out(alloc, message, at, table, &mut name) {
         Ok(end) => end,

@@ -23,6 +23,7 @@ mod question;
 mod question_fields;
 mod rr;
 mod rr_fields;
+mod run_sizes;
 mod section;
 mod wire_fault;
 

@@ -5,15 +5,12 @@ ghost use Rattle.dnswire.specs.RrHead.{HasNoName};
 ghost use Rattle.dnswire.specs.declared.wire_fault.WireFault.{WireFault};
 
 use crate::WireFault;
-use crate::name_labels::{NameLabels, NameStep, Piece, piece_at};
-use crate::name_read::{NotRead, write_out};
+use crate::name_labels::{NameLabels, NameStep};
+use crate::name_read::{NotRead, pointed_place, whole_at, write_out};
 use crate::name_table::NameTable;
 use arrayvec::ArrayVec;
 use dname::{Name, octets_between};
 use std::alloc::Global;
-
-// So many octets of a name are read where a pointer goes, while nothing is kept.
-const NEAR_OCTETS: usize = 32;
 
 /// The name at the offset and the offset after it, or the message's fault. Pointers are followed (RFC 1035, section 4.1.4).
 pub(crate) fn name_or_fault(
@@ -29,43 +26,26 @@ pub(crate) fn name_or_fault(
         ⊎ (HasNoName message.now at × (fault ≡ WireFault.BadName at))) }
     ensures table { IsTableOf message.now table.new }
 {
-    let near = if table.is_open() { 0 } else { NEAR_OCTETS };
-    if let Some(read) = near_name(message, at, near) {
-        return Ok(read);
+    if !table.is_open() {
+        if let Some(read) = whole_name(message, at) {
+            return Ok(read);
+        }
     }
     far_name(alloc, message, at, table)
 }
 
-// The name where it stands in one piece, or in so many octets behind a pointer.
-fn near_name(message: &[u8], at: usize, near: usize) -> Option<(Name, usize)>
-    requires { near ≤ 255 }
+// The name where it stands in one piece, or near behind a pointer.
+fn whole_name(message: &[u8], at: usize) -> Option<(Name, usize)>
     ensures { IfSome result (λ read. NameAt message.now at read.0 read.1) }
 {
-    match piece_at(message, at) {
-        Some(Piece::Pointer(next)) if next < at => {
-            let (name, _) = name_before(message, next, message.len().min(next + near))?;
-            Some((name, at + 2))
-        }
-        Some(_) => name_before(message, at, message.len()),
-        None => None,
-    }
-}
-
-// The name at the offset that is read without pointers before another offset, and the offset after it.
-fn name_before(message: &[u8], at: usize, stop: usize) -> Option<(Name, usize)>
-    requires { stop ≤ length message.now }
-    ensures { IfSome result (λ read. NameAt message.now at read.0 read.1) }
-{
-    if at > stop {
+    let Some(whole) = whole_at(message, at) else {
         return None;
-    }
-    match Name::read(octets_between(message, at, stop)) {
-        Ok((name, size)) => Some((name, at + size)),
-        Err(_) => None,
-    }
+    };
+    let octets = octets_between(message, whole.start, whole.start + whole.size);
+    Some((Name::of_wire(octets), whole.end))
 }
 
-// The name, run by run.
+// The name where it isn't whole: at a place of the table, or written out run by run.
 fn far_name(
     alloc: Global,
     message: &[u8],
@@ -78,15 +58,17 @@ fn far_name(
         ⊎ (HasNoName message.now at × (fault ≡ WireFault.BadName at))) }
     ensures table { IsTableOf message.now table.new }
 {
-    let mut octets = ArrayVec::new();
-    let end = match write_out(alloc, message, at, table, &mut octets) {
-        Ok(end) => end,
+    match pointed_place(message, at, table) {
+        Ok(Some(place)) => return Ok((Name::of_wire(table.octets_of(place)), at + 2)),
+        Ok(None) => {}
         Err(NotRead::Faulty) => return Err(WireFault::BadName { at }),
         Err(NotRead::OutOfMemory) => return Err(WireFault::OutOfMemory),
-    };
-    match Name::read(octets.as_slice()) {
-        Ok((name, _)) => Ok((name, end)),
-        Err(_) => Err(WireFault::BadName { at }),
+    }
+    let mut octets = ArrayVec::new();
+    match write_out(alloc, message, at, table, &mut octets) {
+        Ok(end) => Ok((Name::of_wire(octets.as_slice()), end)),
+        Err(NotRead::Faulty) => Err(WireFault::BadName { at }),
+        Err(NotRead::OutOfMemory) => Err(WireFault::OutOfMemory),
     }
 }
 

@@ -1,11 +1,12 @@
 ghost use Rattle.std.specs.Prelude.{◌≡◌, ◌≤◌, ◌+◌, ℕ, List, [], ◌++◌, length, take, drop, IfOk, IfSome, IsTrue, Err};
 ghost use Rattle.dnswire.specs.Data.{IsWrittenOut};
-ghost use Rattle.dnswire.specs.Expansions.{HasOctets, IsTableOf};
+ghost use Rattle.dnswire.specs.Expansions.{HasOctets, IsTableOf, octets_in};
 ghost use Rattle.dnswire.specs.Runs.{HasNoRoom};
 ghost use Rattle.dnswire.specs.declared.name_read.NotRead.{NotRead};
 
 use crate::label_run::run_at;
-use crate::name_table::{NameTable, place_of};
+use crate::name_labels::{Piece, piece_at};
+use crate::name_table::{NameTable, Place, place_of};
 use arrayvec::ArrayVec;
 use dname::{MAX_WIRE, octets_between};
 use std::alloc::Global;
@@ -21,7 +22,7 @@ pub(crate) enum NotRead {
 /// How much may be read behind a name's first pointer where nothing is kept.
 const NEAR_POINTERS: usize = 4;
 
-pub(crate) const NEAR_OCTETS: usize = 64;
+const NEAR_OCTETS: usize = 64;
 
 /// Where a name's octets stand in one piece, the root's among them, and the offset after the name.
 #[derive(Clone, Copy, Debug)]
@@ -31,9 +32,8 @@ pub(crate) struct Whole {
     pub(crate) end: usize,
 }
 
-/// The name at the offset where it stands in one piece, or in so many octets behind a pointer.
-pub(crate) fn whole_at(message: &[u8], at: usize, near: usize) -> Option<Whole>
-    requires { near ≤ 255 }
+/// The name at the offset where it stands in one piece, or near behind a pointer.
+pub(crate) fn whole_at(message: &[u8], at: usize) -> Option<Whole>
     ensures read { IfSome result (λ whole.
         IsWrittenOut message.now at (take whole.size (drop whole.start message.now)) whole.end) }
     ensures within { IfSome result (λ whole. whole.start + whole.size ≤ length message.now) }
@@ -50,7 +50,7 @@ pub(crate) fn whole_at(message: &[u8], at: usize, near: usize) -> Option<Whole>
     if run.size > 0 {
         return None;
     }
-    let last = run_at(message, next, near)?;
+    let last = run_at(message, next, NEAR_OCTETS)?;
     match last.next {
         None => Some(Whole {
             start: next,
@@ -58,6 +58,35 @@ pub(crate) fn whole_at(message: &[u8], at: usize, near: usize) -> Option<Whole>
             end: at + 2,
         }),
         Some(_) => None,
+    }
+}
+
+/// The place of the name at the offset, where it is a pointer alone and the table is open.
+pub(crate) fn pointed_place(
+    message: &[u8],
+    at: usize,
+    table: &mut NameTable,
+) -> Result<Option<Place>, NotRead>
+    requires { IsTableOf message.now table.old }
+    ensures read { IfOk result (λ found. IfSome found (λ place.
+        IsWrittenOut message.now at (octets_in table.new.octets.items place) (at + 2))) }
+    ensures within { IfOk result (λ found. IfSome found (λ place.
+        (place.start + place.size ≤ length table.new.octets.items) × (at + 2 ≤ length message.now))) }
+    ensures faulty { result ≡ Err NotRead.Faulty → HasNoRoom message.now at 255 }
+    ensures table { IsTableOf message.now table.new }
+{
+    if !table.is_open() {
+        return Ok(None);
+    }
+    match piece_at(message, at) {
+        Some(Piece::Pointer(next)) if next < at => {
+            match place_of(message, next, MAX_WIRE, table) {
+                Ok(place) => Ok(Some(place)),
+                Err(NotRead::Faulty) => Err(NotRead::Faulty),
+                Err(NotRead::OutOfMemory) => Err(NotRead::OutOfMemory),
+            }
+        }
+        _ => Ok(None),
     }
 }
 

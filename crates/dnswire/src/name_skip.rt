@@ -107,8 +107,8 @@ fn rest_at(message: &[u8], at: usize, room: usize, sizes: &[u8]) -> Result<NameR
     }
 }
 
-// The size that is remembered for the offset; 0 is none.
-fn known_size(sizes: &[u8], at: usize) -> usize
+/// The size that is remembered for the offset; 0 is none.
+pub(crate) fn known_size(sizes: &[u8], at: usize) -> usize
     ensures { result ≡ get_or sizes.now at 0 }
 {
     match sizes.get(at) {

@@ -1,23 +1,30 @@
-ghost use Rattle.std.specs.Prelude.{◌≡◌, ◌≤◌, ◌+◌, ◌^◌, ◌<◌, ℕ, List, ◌++◌, length, set, get_or, IfOk, IfSome, IfNone, Err};
+ghost use Rattle.std.specs.Prelude.{[], ◌≡◌, ◌≤◌, ◌+◌, ◌^◌, ◌<◌, ℕ, List, ◌++◌, length, set, get_or, IfOk, IfSome, IfNone, Err};
 ghost use Rattle.dnswire.specs.Expansions.{HasOctets, IsKept, IsTableOf, octets_in, nowhere};
-ghost use Rattle.dnswire.specs.Runs.{HasNoRoom};
+ghost use Rattle.dname.specs.Name.{Label};
+ghost use Rattle.dnswire.specs.Runs.{HasNoRoom, IsRunAt, Stand};
 ghost use Rattle.dnswire.specs.declared.name_read.NotRead.{NotRead};
 
-use crate::label_run::run_at;
+use crate::label_run::Run;
 use crate::name_read::{NotRead, append, append_from};
+use crate::run_sizes::run_by;
 use arrayvec::ArrayVec;
-use dname::{MAX_WIRE, Octets, octets_between};
+use dname::{MAX_WIRE, octets_between};
 use std::alloc::{AllocError, Global};
 
 /// So many offsets can a pointer go to (RFC 1035, section 4.1.4).
 const POINTED_OFFSETS: usize = 0x4000;
 
+/// For so many octets an offset is room made at first, so that they are seldom moved.
+const OCTETS_AN_OFFSET: usize = 32;
+
 /// What stands in a message where pointers go, written out, so that no chain of pointers is followed twice.
 #[derive(Drop)]
 pub(crate) struct NameTable {
     // All that is written out, and where it is by its offset in the message.
-    octets: Octets,
+    octets: Vec<u8>,
     places: Vec<Place>,
+    // The sizes of runs of labels, by their offsets.
+    runs: Vec<u8>,
 }
 
 /// Where octets are kept; a place without octets is none.
@@ -35,8 +42,9 @@ impl NameTable {
         ensures { (message : List ℕ) → IsTableOf message result }
     {
         NameTable {
-            octets: Octets::empty(alloc),
+            octets: Vec::new(alloc),
             places: Vec::new(alloc),
+            runs: Vec::new(alloc),
         }
     }
 
@@ -50,7 +58,10 @@ impl NameTable {
             → IsTableOf message self.new }
     {
         if self.places.is_empty() {
-            self.places = vec![in alloc; NOWHERE; size.min(POINTED_OFFSETS)]?;
+            let count = size.min(POINTED_OFFSETS);
+            self.octets = Vec::with_capacity(alloc, OCTETS_AN_OFFSET * count)?;
+            self.runs = vec![in alloc; 0; count]?;
+            self.places = vec![in alloc; NOWHERE; count]?;
         }
         Ok(())
     }
@@ -67,8 +78,8 @@ impl NameTable {
 
     /// The octets at the place.
     pub(crate) fn octets_of(&self, place: Place) -> &[u8]
-        requires { place.start + place.size ≤ length self.now.octets }
-        ensures { result.now ≡ octets_in self.now.octets place }
+        requires { place.start + place.size ≤ length self.now.octets.items }
+        ensures { result.now ≡ octets_in self.now.octets.items place }
     {
         octets_between(
             self.octets.as_slice(),
@@ -79,23 +90,41 @@ impl NameTable {
 
     fn keep(&mut self, at: usize, place: Place)
         requires { at < length self.old.places.items }
-        ensures octets { self.new.octets ≡ self.old.octets }
+        ensures octets { self.new.octets.items ≡ self.old.octets.items }
         ensures places { self.new.places.items ≡ set self.old.places.items at place }
+        ensures runs { self.new.runs.items ≡ self.old.runs.items }
     {
         self.places[at] = place;
     }
 
+    // The run of labels at the offset, as `run_at` gives it.
+    fn run(&mut self, message: &[u8], at: usize, room: usize) -> Option<Run>
+        requires room { room ≤ 255 }
+        requires table { IsTableOf message.now self.old }
+        ensures read { IfSome result (IsRunAt message.now at) }
+        ensures labels { IfSome result (λ run. (labels : List Label)
+            × Stand message.now at labels (at + run.size)) }
+        ensures room { IfSome result (λ run. run.size < room) }
+        ensures within { IfSome result (λ run. at + run.size ≤ length message.now) }
+        ensures none { IfNone result (HasNoRoom message.now at room) }
+        ensures octets { self.new.octets.items ≡ self.old.octets.items }
+        ensures places { self.new.places.items ≡ self.old.places.items }
+        ensures table { IsTableOf message.now self.new }
+    {
+        run_by(message, at, room, self.runs.as_mut_slice())
+    }
+
     fn add(&mut self, piece: &[u8]) -> Result<Place, AllocError>
         ensures octets { IfOk result (λ place.
-            (place.start + place.size ≤ length self.new.octets)
-            × (octets_in self.new.octets place ≡ piece.now) × (place.size ≡ length piece.now)
+            (place.start + place.size ≤ length self.new.octets.items)
+            × (octets_in self.new.octets.items place ≡ piece.now) × (place.size ≡ length piece.now)
             × (place.start + place.size < 2 ^ 64)) }
         ensures table { (message : List ℕ) → IsTableOf message self.old
             → IsTableOf message self.new }
     {
-        let start = self.octets.as_slice().len();
-        self.octets.append(piece)?;
-        let end = self.octets.as_slice().len();
+        let start = self.octets.len();
+        self.octets.extend_from_slice(piece)?;
+        let end = self.octets.len();
         Ok(Place {
             start,
             size: end - start,
@@ -112,7 +141,7 @@ pub(crate) fn place_of(
 ) -> Result<Place, NotRead>
     requires room { room ≤ 255 }
     requires table { IsTableOf message.now table.old }
-    ensures read { IfOk result (λ place. IsKept message.now table.new.octets at place
+    ensures read { IfOk result (λ place. IsKept message.now table.new.octets.items at place
         × (place.size ≤ room)) }
     ensures faulty { result ≡ Err NotRead.Faulty → HasNoRoom message.now at room }
     ensures table { IsTableOf message.now table.new }
@@ -124,31 +153,33 @@ pub(crate) fn place_of(
     if known.size > 0 {
         return Ok(known);
     }
-    let Some(rest) = rest_at(message, at, room, table) else {
+    let mut rest = ArrayVec::new();
+    let Some(last_run) = rest_at(message, at, room, table, &mut rest) else {
         return Err(NotRead::Faulty);
     };
-    let Ok(place) = table.add(rest.octets.as_slice()) else {
+    let Ok(place) = table.add(rest.as_slice()) else {
         return Err(NotRead::OutOfMemory);
     };
-    remember(message, at, place, rest.last_run, table);
+    remember(message, at, place, last_run, table);
     Ok(place)
 }
 
-// What is read from an offset on, and where the last run begins that wasn't kept.
-#[derive(Drop)]
-struct Rest {
-    octets: ArrayVec<u8, MAX_WIRE>,
-    last_run: usize,
-}
-
-fn rest_at(message: &[u8], at: usize, room: usize, table: &NameTable) -> Option<Rest>
+// Writes what is read from the offset on, and gives where the last run begins that wasn't kept.
+fn rest_at(
+    message: &[u8],
+    at: usize,
+    room: usize,
+    table: &mut NameTable,
+    octets: &mut ArrayVec<u8, MAX_WIRE>,
+) -> Option<usize>
     requires room { room ≤ 255 }
-    requires table { IsTableOf message.now table.now }
-    ensures read { IfSome result (λ rest. HasOctets message.now at rest.octets.items
-        × (length rest.octets.items ≤ room)) }
+    requires empty { octets.old.items ≡ [] }
+    requires table { IsTableOf message.now table.old }
+    ensures read { IfSome result (λ _. HasOctets message.now at octets.new.items
+        × (length octets.new.items ≤ room)) }
     ensures none { IfNone result (HasNoRoom message.now at room) }
+    ensures table { IsTableOf message.now table.new }
 {
-    let mut octets = ArrayVec::new();
     let mut start = at;
     let mut last_run = at;
     loop {
@@ -157,17 +188,17 @@ fn rest_at(message: &[u8], at: usize, room: usize, table: &NameTable) -> Option<
             return None;
         }
         if known.size > 0 {
-            append(&mut octets, table.octets_of(known));
-            return Some(Rest { octets, last_run });
+            append(octets, table.octets_of(known));
+            return Some(last_run);
         }
         last_run = start;
-        let Some(run) = run_at(message, start, room - octets.len()) else {
+        let Some(run) = table.run(message, start, room - octets.len()) else {
             return None;
         };
-        append_from(&mut octets, message, start, run.size);
+        append_from(octets, message, start, run.size);
         let Some(next) = run.next else {
-            append(&mut octets, &[0]);
-            return Some(Rest { octets, last_run });
+            append(octets, &[0]);
+            return Some(last_run);
         };
         start = next;
     }
@@ -175,10 +206,10 @@ fn rest_at(message: &[u8], at: usize, room: usize, table: &NameTable) -> Option<
 
 // Keeps what is read from the offset on, which is at the place, and what its pointers lead to.
 fn remember(message: &[u8], at: usize, whole: Place, last_run: usize, table: &mut NameTable)
-    requires kept { IsKept message.now table.old.octets at whole }
+    requires kept { IsKept message.now table.old.octets.items at whole }
     requires small { whole.size ≤ 255 }
     requires table { IsTableOf message.now table.old }
-    ensures octets { table.new.octets ≡ table.old.octets }
+    ensures octets { table.new.octets.items ≡ table.old.octets.items }
     ensures table { IsTableOf message.now table.new }
 {
     let mut start = at;
@@ -188,7 +219,7 @@ fn remember(message: &[u8], at: usize, whole: Place, last_run: usize, table: &mu
         if start == last_run {
             return;
         }
-        let Some(run) = run_at(message, start, place.size) else {
+        let Some(run) = table.run(message, start, place.size) else {
             return;
         };
         let Some(next) = run.next else {

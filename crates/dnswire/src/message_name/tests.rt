@@ -106,3 +106,48 @@ fn a_name_has_at_most_255_octets(rt: HostRuntime) -> Result<(), Fail> {
     }
     Ok(())
 }
+
+// The name at the second offset, where an open table was asked for the first.
+fn name_after(
+    alloc: Global,
+    message: &[u8],
+    first: usize,
+    second: usize,
+) -> Result<(Name, usize), WireFault> {
+    let mut table = NameTable::empty(alloc);
+    if table.open(alloc, message.len()).is_err() {
+        return Err(WireFault::OutOfMemory);
+    }
+    name_or_fault(alloc, message, first, &mut table)?;
+    name_or_fault(alloc, message, second, &mut table)
+}
+
+// At 255 a pointer to 127 labels of a capital letter, at 257 one to the last 126 of them, at 259 a label more than fits.
+#[test]
+fn a_pointer_alone_gives_the_kept_name_lowered(rt: HostRuntime) -> Result<(), Fail> {
+    let mut message = Vec::new(rt.alloc());
+    let mut lowered = Vec::new(rt.alloc());
+    for _ in 0..127 {
+        message.extend_from_slice(b"\x01A")?;
+        lowered.extend_from_slice(b"\x01a")?;
+    }
+    message.extend_from_slice(b"\x00\xc0\x00\xc0\x02\x01A\xc0\x00")?;
+    lowered.push(0)?;
+    for (first, second, skipped, end) in [
+        (255usize, 255usize, 0usize, 257usize),
+        (255, 257, 2, 259),
+        (257, 255, 0, 257),
+    ] {
+        match name_after(rt.alloc(), message.as_slice(), first, second) {
+            Ok((name, after)) => {
+                assert_eq!(rt; name.wire().len() + skipped, 255);
+                assert_eq!(rt; lowered.as_slice().ends_with(name.wire()), true);
+                assert_eq!(rt; after, end);
+            }
+            Err(_) => assert_eq!(rt; second, 0),
+        }
+    }
+    let long = name_after(rt.alloc(), message.as_slice(), 255, 259).err();
+    assert_eq!(rt; long, Some(WireFault::BadName { at: 259 }));
+    Ok(())
+}

@@ -41,3 +41,6 @@ returns-in_err-additional-clause-refused c =
     let authorities = c.in_ok-authority.ensures in
     let both = in_turn-append (IsRr c.args.octets.now) _ c.in_ok-answer.answer c.in_ok-authority.authority _ _ answers.read authorities.read in
     rw (p.1, p.2) (section_refused _ _ _ _ _ _ _ _ question both (omega (arith, answers.size, authorities.size, length-append c.in_ok-answer.answer c.in_ok-authority.authority)) c.in_err-additional.ensures.refused)
+
+pub name_or_fault-requires : goal.name_or_fault-requires
+name_or_fault-requires c = c.empty-table.ensures c.args.octets.now

@@ -14,4 +14,4 @@ returns-in-None-clause-read c =
     let near = c.in_ok-last.ensures in
     let points = rw c.in-Some.is at run.read.ends in
     let ends = rw c.in-None.is at near.read.ends in
-    whole_behind _ _ _ _ _ _ (omega (arith, c.if-run-gt0.false)) points.0 points.1 (closed_whole _ _ _ near.labels.0 near.labels.1 ends (omega (arith, near.room, c.requires)))
+    whole_behind _ _ _ _ _ _ (omega (arith, c.if-run-gt0.false)) points.0 points.1 (closed_whole _ _ _ near.labels.0 near.labels.1 ends (omega (arith, near.room)))

@@ -15,4 +15,4 @@ returns-clause-read c =
     let kept = c.in_ok-place.ensures.read.0 in
     let near = c.write_near.ensures.no in
     let back : c.truncate.new.self.items ≡ c.args.octets.now.items = c.truncate.ensures.items ∙ ap (λ o. take c.len-front.result o) near.1 ∙ take_at c.args.octets.now.items near.0 c.len-front.result (sym c.len-front.ensures.value) in
-    (octets_in c.place_of.new.table.octets c.in_ok-place.place, kept.octets, omega (arith, size_kept _ _ _ _ kept, c.in_ok-place.ensures.read.1), c.append.ensures.octets ∙ ap (λ o. o ++ c.octets_of.result.now) back ∙ ap (λ o. c.args.octets.now.items ++ o) c.octets_of.ensures)
+    (octets_in c.place_of.new.table.octets.items c.in_ok-place.place, kept.octets, omega (arith, size_kept _ _ _ _ kept, c.in_ok-place.ensures.read.1), c.append.ensures.octets ∙ ap (λ o. o ++ c.octets_of.result.now) back ∙ ap (λ o. c.args.octets.now.items ++ o) c.octets_of.ensures)

@@ -4,11 +4,11 @@ use Rattle.dnswire.proofs.name_table.place_of.Goals as goal
 
 pub returns-then-known-room-clause-faulty : goal.returns-then-known-room-clause-faulty
 returns-then-known-room-clause-faulty c = λ _.
-    let kept = kept_at c.args.message.now c.args.table.now.octets c.args.table.now.places.items c.args.at c.place_at-known.result c.requires.table c.place_at-known.ensures (omega (arith, c.if-known-room.true)) in
+    let kept = kept_at c.args.message.now c.args.table.now.octets.items c.args.table.now.places.items c.args.at c.place_at-known.result c.requires.table.kept c.place_at-known.ensures (omega (arith, c.if-known-room.true)) in
     expands_long c.args.message.now c.args.at c.args.at _ [] _ (expands_none _ _ _ refl) kept.octets (omega (arith, size_kept _ _ _ _ kept, c.if-known-room.true))
 
 pub returns-in_default-add-clause-table : goal.returns-in_default-add-clause-table
-returns-in_default-add-clause-table c = c.add.ensures.table c.args.message.now c.requires.table
+returns-in_default-add-clause-table c = c.add.ensures.table c.args.message.now c.rest_at.ensures.table
 
 pub remember-requires-clause-table : goal.remember-requires-clause-table
-remember-requires-clause-table c = c.add.ensures.table c.args.message.now c.requires.table
+remember-requires-clause-table c = c.add.ensures.table c.args.message.now c.rest_at.ensures.table

@@ -4,9 +4,9 @@ use Rattle.dnswire.proofs.name_table.remember.Given as goal
 
 abbrev pub invariant-loop-start : goal.invariant-loop-start
 invariant-loop-start l = record {
-  kept : IsKept l.message l.table.octets l.start l.place;
+  kept : IsKept l.message l.table.octets.items l.start l.place;
   small : l.place.size ≤ 255;
-  octets : l.table.octets ≡ l.fn.table.octets;
+  octets : l.table.octets.items ≡ l.fn.table.octets.items;
   table : IsTableOf l.message l.table;
 }
 
