@@ -1,5 +1,5 @@
 //! Entries that lie in a row.
-ghost use Rattle.std.specs.Prelude.{◌≡◌, ◌++◌, IfOk, OnOk, take, drop};
+ghost use Rattle.std.specs.Prelude.{◌≡◌, ◌++◌, IfOk, OnOk};
 
 use crate::{Entry, OutOfMemory};
 use std::alloc::Global;
@@ -32,24 +32,4 @@ fn put_onto<T: Drop>(onto: &mut Vec<Entry<T>>, from: &[Entry<T>]) -> Result<(), 
         onto.push(entry.try_clone()?)?;
     }
     Ok(())
-}
-
-pub(crate) fn entries_before<T>(entries: &[Entry<T>], n: usize) -> &[Entry<T>]
-    ensures { result.now ≡ take n entries.now }
-{
-    if n < entries.len() {
-        &entries[..n]
-    } else {
-        entries
-    }
-}
-
-pub(crate) fn entries_from<T>(entries: &[Entry<T>], n: usize) -> &[Entry<T>]
-    ensures { result.now ≡ drop n entries.now }
-{
-    if n < entries.len() {
-        &entries[n..]
-    } else {
-        &entries[entries.len()..]
-    }
 }
