@@ -1,5 +1,5 @@
 //! A row of shared blocks.
-ghost use Rattle.std.specs.Prelude.{◌≡◌, ℕ, ◌<◌, ◌≤◌, ◌+◌, ◌++◌, [], Bool, length, get_or, set, take, drop, map, IfOk, IfSome, OnOk, slice_index_or};
+ghost use Rattle.std.specs.Prelude.{◌≡◌, ℕ, ◌<◌, ◌≤◌, ◌+◌, ◌++◌, [], Bool, length, get_or, set, take, drop, map, IfOk, IfSome, OnOk, slice_index_or, vec_capacity, vec_len};
 ghost use Rattle.std.specs.List.{flat_map, prefix_len};
 ghost use Rattle.std.specs.List.Sorted.{IsPartitionedBy};
 ghost use Rattle.std.specs.Arc.{arc_value};
@@ -70,11 +70,16 @@ fn shift_onto<B: Drop>(
     old: usize,
     new: usize,
 ) -> Result<(), OutOfMemory>
-    requires { (k : ℕ) (d : Shelved B) → k < length from.now → old ≤ (get_or from.now k d).end }
-    ensures { OnOk result (onto.new.items ≡ onto.old.items ++ map (shifted old new) from.now) }
+    requires long { (k : ℕ) (d : Shelved B) → k < length from.now
+        → old ≤ (get_or from.now k d).end }
+    requires room { vec_len onto.old + length from.now ≤ vec_capacity onto.old }
+    ensures items { OnOk result
+        (onto.new.items ≡ onto.old.items ++ map (shifted old new) from.now) }
+    ensures len { OnOk result (vec_len onto.new ≡ vec_len onto.old + length from.now) }
+    ensures capacity { OnOk result (vec_capacity onto.new ≡ vec_capacity onto.old) }
 {
     for slot in from {
-        onto.push(slot.shifted(old, new)?)?;
+        onto.push_reserved(slot.shifted(old, new)?);
     }
     Ok(())
 }
@@ -199,7 +204,7 @@ impl<T: Drop, B: Block<T>> Row<T, B> {
         let (old, new) = (self.block(p).len(), block.len());
         let mut all = Vec::with_capacity(alloc, slots.len())?;
         shift_onto(&mut all, items_before(slots, p), 0, 0)?;
-        all.push(shelved::<T, B>(block, self.start(p))?)?;
+        all.push_reserved(shelved::<T, B>(block, self.start(p))?);
         shift_onto(&mut all, items_from(slots, p + 1), old, new)?;
         Ok(Row {
             slots: all,

@@ -4,18 +4,18 @@ use Rattle.page_list.specs.Marks.{mark_of}
 use Rattle.page_list.proofs.Slots.{exchanged_blocks, exchanged_shelf, exchanged_whole, shelf_is_past}
 use Rattle.page_list.proofs.row.Row.exchanged.Goals as goal
 
-pub shift_onto-requires-2 : goal.shift_onto-requires-2
-shift_onto-requires-2 g c =
+pub shift_onto-requires-2-clause-long : goal.shift_onto-requires-2-clause-long
+shift_onto-requires-2-clause-long g c =
     shelf_is_past mark_of g.B.Block.entries c.self.inside.slots.items c.items_from.result.now c.args.self.now c.args.p c.len-old.result c.block.result.now c.self.view_is c.self.invariant c.requires c.block.ensures c.len-old.ensures (c.items_from.ensures ∙ ap (drop (c.args.p + 1)) c.as_slice-slots.ensures.value)
 
 pub invariant_of-result : goal.invariant_of-result
 invariant_of-result g c =
     let slots = c.self.inside.slots.items in
-    let whole = exchanged_whole c.in_ok-all.all.items _ _ c.shift_onto-2.new.onto.items slots c.as_slice-slots.result.now c.items_before.result.now c.items_from.result.now c.args.p c.len-old.result c.len-new.result c.in_ok-shelved.field-0 c.in_ok-all.ensures.items c.as_slice-slots.ensures.value c.items_before.ensures c.items_from.ensures c.in_ok-shift_onto.ensures c.in_ok-push.ensures.items c.in_ok-shift_onto-2.ensures in
+    let whole = exchanged_whole c.in_ok-all.all.items _ _ c.shift_onto-2.new.onto.items slots c.as_slice-slots.result.now c.items_before.result.now c.items_from.result.now c.args.p c.len-old.result c.len-new.result c.in_ok-shelved.field-0 c.in_ok-all.ensures.items c.as_slice-slots.ensures.value c.items_before.ensures c.items_from.ensures c.in_ok-shift_onto.ensures.items c.push_reserved.ensures.items c.in_ok-shift_onto-2.ensures.items in
     exchanged_shelf mark_of g.B.Block.entries slots c.shift_onto-2.new.onto.items c.args.self.now c.args.p c.len-old.result c.len-new.result c.start.result c.in_ok-shelved.field-0 c.block.result.now (arc_value c.args.block) c.self.view_is c.requires whole c.in_ok-shelved.ensures c.self.invariant c.start.ensures c.block.ensures c.len-old.ensures (c.len-new.ensures ∙ ap (λ z. length (g.B.Block.entries z)) c.deref.ensures)
 
 pub returns : goal.returns
 returns g c =
     let slots = c.self.inside.slots.items in
-    let whole = exchanged_whole c.in_ok-all.all.items _ _ c.shift_onto-2.new.onto.items slots c.as_slice-slots.result.now c.items_before.result.now c.items_from.result.now c.args.p c.len-old.result c.len-new.result c.in_ok-shelved.field-0 c.in_ok-all.ensures.items c.as_slice-slots.ensures.value c.items_before.ensures c.items_from.ensures c.in_ok-shift_onto.ensures c.in_ok-push.ensures.items c.in_ok-shift_onto-2.ensures in
+    let whole = exchanged_whole c.in_ok-all.all.items _ _ c.shift_onto-2.new.onto.items slots c.as_slice-slots.result.now c.items_before.result.now c.items_from.result.now c.args.p c.len-old.result c.len-new.result c.in_ok-shelved.field-0 c.in_ok-all.ensures.items c.as_slice-slots.ensures.value c.items_before.ensures c.items_from.ensures c.in_ok-shift_onto.ensures.items c.push_reserved.ensures.items c.in_ok-shift_onto-2.ensures.items in
     exchanged_blocks mark_of g.B.Block.entries slots c.shift_onto-2.new.onto.items c.args.self.now c.args.p c.len-old.result c.len-new.result c.start.result c.in_ok-shelved.field-0 c.block.result.now (arc_value c.args.block) c.self.view_is c.requires whole c.in_ok-shelved.ensures
