@@ -62,6 +62,14 @@ impl<T: Drop, R: Ranking<T>> OrderedList<T, R> {
         self.list.get(i)
     }
 
+    /// The mark of the entry `i`, which is not read itself.
+    pub fn mark_at(&self, i: usize) -> u64
+        requires { i < length self.now }
+        ensures { (x : T) → result ≡ R.mark (slice_index_or self.now i x) }
+    {
+        self.list.mark_at(i)
+    }
+
     /// The entries in order, one after another: the whole list at a cost linear in its length.
     pub fn iter(&self) -> Iter<'_, T>
         ensures all { result ≡ self.now }

@@ -1,7 +1,7 @@
-use Rattle.std.proofs.Common.{◌≡◌, ℕ, ◌+◌, ◌-◌, ◌<◌, ◌≤◌, Bool, true, false, nat_lt, List, [], ◌∷◌, ◌++◌, length, get_or, set, take, drop, map, Contains, append_assoc, length-append, inl, inr, arith, refl, sym, ap, ◌∙◌, subst, add-zero}
+use Rattle.std.proofs.Common.{◌≡◌, ℕ, ◌+◌, ◌-◌, ◌<◌, ◌≤◌, Bool, true, false, nat_lt, List, [], ◌∷◌, ◌++◌, length, get_or, set, take, drop, Contains, length-append, inl, inr, arith, refl, sym, ap, ◌∙◌, subst, add-zero}
 use denote.Ref.{Bor}
 use denote.Param.Members.{Shared}
-use Rattle.std.proofs.lemmas.List.{get_or_read, map-append, length-map, take_more, get_or-map, get_or_default, get_or_push, get_or_append_left, length_push, length-take, length-drop, take-map, drop-map, length-set, get_or-set_same, get_or-set_other}
+use Rattle.std.proofs.lemmas.List.{get_or_read, get_or_default, get_or_push, get_or_append_left, length_push, length-take, length-drop, length-set, get_or-set_same, get_or-set_other}
 use Rattle.std.proofs.lemmas.List.Elements.{Contains-append_left, Contains-append_right, Contains-get_or}
 use Rattle.std.proofs.lemmas.Bool.{cases_lt}
 use Rattle.std.proofs.lemmas.Bool.Decides.{nat_tests}
@@ -10,7 +10,7 @@ use Rattle.std.specs.List.Sorted.{IsPartitionedBy}
 use Rattle.page_list.specs.Marks.{Marked, mark_of, PartsAtMark}
 use Rattle.page_list.specs.Rows.{IsFirstMarks}
 use Rattle.page_list.specs.Search.{IsTestAt}
-use Rattle.page_list.proofs.Rows.{nat_cases, at_mapped, mapped_in, flat_split, length_more, length_along, length_all, entry_at}
+use Rattle.page_list.proofs.Rows.{nat_cases, flat_split, length_more, length_along, length_all, entry_at}
 
 -- an entry that is read among the same ones
 pub entry_among : {X : Type 0} (read xs : List X) (i : ℕ) (x : X) → x ≡ get_or read i x → read ≡ xs → x ≡ get_or xs i x
@@ -19,7 +19,7 @@ entry_among read xs i x is same = is ∙ ap (λ z. get_or z i x) same
 pub entry_read_at : {X : Type 0} (xs : List X) (i : ℕ) (x d : X) → i < length xs → x ≡ get_or xs i x → x ≡ get_or xs i d
 entry_read_at xs i x d lt is = get_or_read xs i x lt is d
 
-IsFirstMarks-push : {X A : Type 0} (mark_of : A → ℕ) (f : X → List A) (xs : List X) (marks : List ℕ) (x : X) (m : ℕ) → 0 < length (f x) → ((a : A) → m ≡ mark_of (get_or (f x) 0 a)) → IsFirstMarks mark_of f xs marks → IsFirstMarks mark_of f (xs ++ x ∷ []) (marks ++ m ∷ [])
+pub IsFirstMarks-push : {X A : Type 0} (mark_of : A → ℕ) (f : X → List A) (xs : List X) (marks : List ℕ) (x : X) (m : ℕ) → 0 < length (f x) → ((a : A) → m ≡ mark_of (get_or (f x) 0 a)) → IsFirstMarks mark_of f xs marks → IsFirstMarks mark_of f (xs ++ x ∷ []) (marks ++ m ∷ [])
 IsFirstMarks-push mark_of f xs marks x m some first was =
     let long : length marks ≡ length xs = was.one_each in
     let older : (k : ℕ) (d : _) → k < length xs → get_or (xs ++ x ∷ []) k d ≡ get_or xs k d = λ k d lt. get_or_append_left xs (x ∷ []) d k lt in
@@ -35,13 +35,6 @@ IsFirstMarks-push mark_of f xs marks x m some first was =
         | inr le ↦ get_or_push marks m 0 k (omega (arith, length_push xs x)) ∙ (first a ∙ ap (λ z. mark_of (get_or (f z) 0 a)) (sym (newest k d le h)))
       ];
     }
-
--- the mark of one more block
-pub IsFirstMarks-more : {X Y A : Type 0} (v : X → Y) (mark_of : A → ℕ) (f : Y → List A) (xs : List X) (i m : ℕ) (marks marks' : List ℕ) (x : X) (y : Y) → i < length xs → x ≡ get_or xs i x → y ≡ v x → 0 < length (f y) → ((a : A) → m ≡ mark_of (get_or (f y) 0 a)) → marks' ≡ marks ++ m ∷ [] → IsFirstMarks mark_of f (take i (map v xs)) marks → IsFirstMarks mark_of f (take (i + 1) (map v xs)) marks'
-IsFirstMarks-more v mark_of f xs i m marks marks' x y h e s some first new was =
-    let more : take (i + 1) (map v xs) ≡ take i (map v xs) ++ y ∷ [] =
-    take_more (map v xs) i y (mapped_in v xs i h) ∙ ap (λ z. take i (map v xs) ++ z ∷ []) (at_mapped v xs i x y h e s y) in
-    rw (more, new) (IsFirstMarks-push mark_of f (take i (map v xs)) marks y m some first was)
 
 -- where the block p starts there is an entry, and the mark of p is that of this one
 pub starts_with : {X A : Type 0} (mark_of : A → ℕ) (f : X → List A) (xs : List X) (marks : List ℕ) (p own : ℕ) → IsFirstMarks mark_of f xs marks → p < length xs → own ≡ get_or marks p own → (length (flat_map f (take p xs)) < length (flat_map f xs)) × ((a : A) → own ≡ mark_of (get_or (flat_map f xs) (length (flat_map f (take p xs))) a))

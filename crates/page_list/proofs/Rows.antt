@@ -1,17 +1,17 @@
-use Rattle.std.proofs.Common.{◌≡◌, ℕ, zero, suc, ◌+◌, ◌-◌, ◌<◌, ◌≤◌, List, [], ◌∷◌, ◌++◌, length, get_or, set, take, drop, map, reverse, refl, subst, ◌⊎◌, sym, ◌∙◌, ap, append_assoc, length-append, add-zero, inl, inr, arith}
-use Rattle.std.proofs.lemmas.List.{append-nil, map-append, length-map, take_more, drop_more, take-append-drop, get_or-map, get_or_default, get_or_push, get_or_append_left, length_push, length-take, take-append-le, drop-append-le, take_all, reverse-append, length-set, get_or-set_same, get_or-set_other, take-set, take-set-le, drop-set-lt}
+use Rattle.std.proofs.Common.{◌≡◌, ℕ, zero, suc, ◌+◌, ◌-◌, ◌<◌, ◌≤◌, List, [], ◌∷◌, ◌++◌, length, get_or, set, take, drop, map, reverse, refl, ◌⊎◌, sym, ◌∙◌, ap, append_assoc, length-append, add-zero, inl, inr, arith}
+use Rattle.std.proofs.lemmas.List.{append-nil, map-append, length-map, take_more, drop_more, take-append-drop, get_or-map, get_or_default, get_or_push, get_or_append_left, length_push, length-take, take-append-le, drop-append-le, take_all, reverse-append, length-set, get_or-set_same, take-set, take-set-le, drop-set-lt}
 use Rattle.std.proofs.lemmas.List.Concat.{flat_map-append, get_or-flat_map}
 use Rattle.std.proofs.lemmas.Bool.{cases_lt}
 use Rattle.std.proofs.Math.Seq.{take-append-add, drop-append-add}
 use Rattle.std.specs.List.{flat_map}
-use Rattle.page_list.specs.Rows.{AreMoved, IsEnds, IsPlace, IsSeam}
+use Rattle.page_list.specs.Rows.{IsEnds, IsPlace, IsSeam}
 
 -- the ends of the blocks so far, and the last of them
 pub record HasEnds {X A : Type 0} (f : X → List A) (xs : List X) (ends : List ℕ) (end : ℕ) : Type 0 where
   pub all : IsEnds f xs ends
   pub last : end ≡ length (flat_map f xs)
 
-HasEnds-push : {X A : Type 0} (f : X → List A) (xs : List X) (ends : List ℕ) (end k m : ℕ) (x : X) → k ≡ length (f x) → m ≡ end + k → HasEnds f xs ends end → HasEnds f (xs ++ x ∷ []) (ends ++ m ∷ []) m
+pub HasEnds-push : {X A : Type 0} (f : X → List A) (xs : List X) (ends : List ℕ) (end k m : ℕ) (x : X) → k ≡ length (f x) → m ≡ end + k → HasEnds f xs ends end → HasEnds f (xs ++ x ∷ []) (ends ++ m ∷ []) m
 HasEnds-push f xs ends end k m x kk mm was =
     let long : length ends ≡ length xs = was.all.one_each in
     let last : m ≡ length (flat_map f (xs ++ x ∷ [])) =
@@ -33,12 +33,17 @@ HasEnds-push f xs ends end k m x kk mm was =
 pub at_mapped : {X Y : Type 0} (v : X → Y) (xs : List X) (i : ℕ) (x : X) (y : Y) → i < length xs → x ≡ get_or xs i x → y ≡ v x → (d : Y) → get_or (map v xs) i d ≡ y
 at_mapped v xs i x y h e s d = get_or-map v xs i x d h ∙ (sym (ap v e) ∙ sym s)
 
-pub shared_more : {X Y : Type 0} (v : X → Y) (os os' : List X) (base : List Y) (from : List X) (i : ℕ) (x y : X) → i < length from → x ≡ get_or from i x → v y ≡ v x → os' ≡ os ++ y ∷ [] → map v os ≡ base ++ take i (map v from) → map v os' ≡ base ++ take (i + 1) (map v from)
-shared_more v os os' base from i x y h e s new inv =
-    let k : i < length (map v from) = rw (length-map from v) h in
-    let t : take (i + 1) (map v from) ≡ take i (map v from) ++ v x ∷ [] =
-    take_more (map v from) i (v x) k ∙ ap (λ z. take i (map v from) ++ z ∷ []) (at_mapped v from i x (v x) h e refl (v x)) in
-    ap (map v) new ∙ (map-append v os (y ∷ []) ∙ (ap (λ z. z ++ v y ∷ []) inv ∙ (ap (λ z. (base ++ take i (map v from)) ++ z ∷ []) s ∙ (append_assoc base (take i (map v from)) (v x ∷ []) ∙ ap (λ z. base ++ z) (sym t)))))
+pub mapped_in : {X Y : Type 0} (v : X → Y) (xs : List X) (i : ℕ) → i < length xs → i < length (map v xs)
+mapped_in v xs i h = rw (length-map xs v) h
+
+pub take_mapped_more : {X Y : Type 0} (w : X → Y) (from : List X) (i : ℕ) (x : X) (y : Y) → i < length from → x ≡ get_or from i x → y ≡ w x → take (i + 1) (map w from) ≡ take i (map w from) ++ y ∷ []
+take_mapped_more w from i x y h e s =
+    take_more (map w from) i y (mapped_in w from i h) ∙ ap (λ z. take i (map w from) ++ z ∷ []) (at_mapped w from i x y h e s y)
+
+pub shared_more : {X Y Z : Type 0} (v : X → Y) (w : Z → Y) (os os' : List X) (base : List Y) (from : List Z) (i : ℕ) (x : Z) (y : X) → i < length from → x ≡ get_or from i x → v y ≡ w x → os' ≡ os ++ y ∷ [] → map v os ≡ base ++ take i (map w from) → map v os' ≡ base ++ take (i + 1) (map w from)
+shared_more v w os os' base from i x y h e s new inv =
+    let t = take_mapped_more w from i x (w x) h e refl in
+    ap (map v) new ∙ (map-append v os (y ∷ []) ∙ (ap (λ z. z ++ v y ∷ []) inv ∙ (ap (λ z. (base ++ take i (map w from)) ++ z ∷ []) s ∙ (append_assoc base (take i (map w from)) (w x ∷ []) ∙ ap (λ z. base ++ z) (sym t)))))
 
 -- the entries of one more block
 pub flat_more : {Y A : Type 0} (f : Y → List A) (ys : List Y) (i : ℕ) (y : Y) → i < length ys → get_or ys i y ≡ y → flat_map f (take (i + 1) ys) ≡ flat_map f (take i ys) ++ f y
@@ -61,16 +66,6 @@ take_within xs ys zs n k e h =
 drop_within : {A : Type 0} (xs ys zs : List A) (n k : ℕ) → length xs + k ≡ n → k ≤ length ys → drop n (xs ++ (ys ++ zs)) ≡ drop k ys ++ zs
 drop_within xs ys zs n k e h =
     ap (λ z. drop z (xs ++ (ys ++ zs))) (sym e) ∙ (drop-append-add xs (ys ++ zs) k ∙ drop-append-le k ys zs h)
-
-pub mapped_in : {X Y : Type 0} (v : X → Y) (xs : List X) (i : ℕ) → i < length xs → i < length (map v xs)
-mapped_in v xs i h = rw (length-map xs v) h
-
--- the ends of one more block
-pub IsEnds-more : {X Y A : Type 0} (v : X → Y) (f : Y → List A) (xs : List X) (i k m end : ℕ) (ends ends' : List ℕ) (x : X) (y : Y) → i < length xs → x ≡ get_or xs i x → y ≡ v x → k ≡ length (f y) → m ≡ end + k → ends' ≡ ends ++ m ∷ [] → HasEnds f (take i (map v xs)) ends end → HasEnds f (take (i + 1) (map v xs)) ends' m
-IsEnds-more v f xs i k m end ends ends' x y h e s kk mm new was =
-    let more : take (i + 1) (map v xs) ≡ take i (map v xs) ++ y ∷ [] =
-    take_more (map v xs) i y (mapped_in v xs i h) ∙ ap (λ z. take i (map v xs) ++ z ∷ []) (at_mapped v xs i x y h e s y) in
-    rw (more, new) (HasEnds-push f (take i (map v xs)) ends end k m y kk mm was)
 
 -- up to a later block there are no fewer entries
 pub length_along : {X A : Type 0} (f : X → List A) (xs : List X) (i j : ℕ) → i ≤ j → length (flat_map f (take i xs)) ≤ length (flat_map f (take j xs))
@@ -210,6 +205,12 @@ replaced_whole f xs all items from to p x y b b' first last is new whole =
     let end : drop to (flat_map f xs) ≡ drop y (f b) ++ flat_map f (drop (p + 1) xs) = last.right b ∙ ap (λ z. drop y (f z) ++ flat_map f (drop (p + 1) xs)) (sym is) in
     rw (whole, flat_set f xs p b' first.in_range, new, start, end) (simp append_assoc refl)
 
+-- the numbers from the place p on differ by what `new` is more than `old`
+pub record AreMoved (numbers : List ℕ) (p old new : ℕ) (made : List ℕ) : Type 0 where
+  pub one_each : length made ≡ length numbers
+  pub before : (k : ℕ) → k < p → get_or made k 0 ≡ get_or numbers k 0
+  pub behind : (k : ℕ) → p ≤ k → k < length numbers → get_or made k 0 + old ≡ get_or numbers k 0 + new
+
 -- how many entries there are up to a place behind the block that is exchanged
 length_set : {X A : Type 0} (f : X → List A) (xs : List X) (p k : ℕ) (b d : X) → p < length xs → p < k → length (flat_map f (take k (set xs p b))) + length (f (get_or xs p d)) ≡ length (flat_map f (take k xs)) + length (f b)
 length_set f [] p k b d h lt = absurd (omega arith)
@@ -239,56 +240,3 @@ IsEnds-set f xs ends ends' p old new b b' h is is_old is_new moved was = record 
 pub end_is_past : {X A : Type 0} (f : X → List A) (xs : List X) (ends : List ℕ) (p old k : ℕ) (b : X) → p < length xs → b ≡ get_or xs p b → old ≡ length (f b) → IsEnds f xs ends → p ≤ k → k < length ends → old ≤ get_or ends k 0
 end_is_past f xs ends p old k b h is is_old was le lt =
     omega (arith, was.one_each, was.sums k (omega (arith, was.one_each)), length_along f xs (p + 1) (k + 1) (omega arith), length_more f xs p b h (sym is))
-
--- the numbers up to k are moved
-pub record AreMovedTo (numbers : List ℕ) (p old new k : ℕ) (made : List ℕ) : Type 0 where
-  pub one_each : length made ≡ length numbers
-  pub order : p ≤ k
-  pub before : (j : ℕ) → j < p → get_or made j 0 ≡ get_or numbers j 0
-  pub behind : (j : ℕ) → p ≤ j → j < k → j < length numbers → get_or made j 0 + old ≡ get_or numbers j 0 + new
-  pub rest : (j : ℕ) → k ≤ j → get_or made j 0 ≡ get_or numbers j 0
-
-pub AreMovedTo-start : (numbers : List ℕ) (p old new : ℕ) → AreMovedTo numbers p old new p numbers
-AreMovedTo-start numbers p old new = record {
-  one_each = refl;
-  order = omega arith;
-  before = λ j lt. refl;
-  behind = λ j le lt lt'. absurd (omega arith);
-  rest = λ j le. refl;
-}
-
-pub AreMovedTo-more : (numbers : List ℕ) (p old new k number was_number : ℕ) (made : List ℕ) → AreMovedTo numbers p old new k made → k < length made → was_number ≡ get_or made k was_number → old ≤ was_number → number ≡ was_number - old + new → AreMovedTo numbers p old new (k + 1) (set made k number)
-AreMovedTo-more numbers p old new k number was_number made was lt is le e =
-    let read : was_number ≡ get_or made k 0 = is ∙ get_or_default made k was_number 0 lt in
-    record {
-      one_each = length-set made k number ∙ was.one_each;
-      order = omega (arith, was.order);
-      before = λ j lt'. get_or-set_other made k j number 0 (λ same. omega (arith, was.order)) ∙ was.before j lt';
-      behind = λ j le' lt' in_range. elim (nat_cases j k) [
-        | inl same ↦
-            (let at : get_or (set made k number) j 0 ≡ number = ap (λ n. get_or (set made k number) n 0) same ∙ get_or-set_same made k number 0 lt in
-            let old_at : get_or made j 0 ≡ get_or numbers j 0 = was.rest j (omega arith) in
-            let here : get_or made j 0 ≡ was_number = ap (λ n. get_or made n 0) same ∙ sym read in
-            omega (arith, at, old_at, here))
-        | inr apart ↦
-            (let e' = get_or-set_other made k j number 0 apart in
-            let below : j < k = elim (cases_lt j k) [ inl b ↦ b | inr a ↦ absurd (apart (omega arith)) ] in
-            omega (arith, e', was.behind j le' below in_range))
-      ];
-      rest = λ j le'. get_or-set_other made k j number 0 (λ same. omega arith) ∙ was.rest j (omega arith);
-    }
-
-pub AreMovedTo-done : (numbers : List ℕ) (p old new k : ℕ) (made : List ℕ) → AreMovedTo numbers p old new k made → length made ≤ k → AreMoved numbers p old new made
-AreMovedTo-done numbers p old new k made was le = record {
-  one_each = was.one_each;
-  before = was.before;
-  behind = λ j le' lt. was.behind j le' (omega (arith, was.one_each)) lt;
-}
-
--- where new is old nothing moves
-pub AreMoved-same : (numbers made : List ℕ) (p old new : ℕ) → made ≡ numbers → new ≡ old → AreMoved numbers p old new made
-AreMoved-same numbers made p old new is same = record {
-  one_each = ap length is;
-  before = λ k lt. ap (λ z. get_or z k 0) is;
-  behind = λ k le lt. ap (λ z. get_or z k 0 + old) is ∙ ap (λ n. get_or numbers k 0 + n) (sym same);
-}

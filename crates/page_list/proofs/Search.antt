@@ -7,10 +7,11 @@ use Rattle.std.proofs.lemmas.List.{get_or_read}
 use Rattle.std.specs.List.{flat_map, prefix_len}
 use Rattle.std.specs.List.Sorted.{IsPartitionedBy}
 use Rattle.page_list.proofs.Rows.{length_more, entry_at}
-use Rattle.page_list.specs.Marks.{Marked}
-use Rattle.page_list.specs.Search.{IsTestOf, HasNarrowed}
+use Rattle.page_list.specs.Marks.{Marked, mark_of}
+use Rattle.page_list.specs.Search.{IsBehindLesser, IsTestAt, IsTestOf, HasNarrowed}
 use Rattle.std.proofs.lemmas.List.Sums.{prefix_len_is, prefix_len_passes, prefix_len_stops}
 use Rattle.std.proofs.lemmas.Bool.{cases_lt}
+use Rattle.std.proofs.lemmas.List.Elements.{Contains-get_or}
 
 -- what a call at the entry `middle` tells of any test that the calls compute
 pub answered : {X F : Type 0} (g : Shared F (Bor X × Unit {0}) Bool) (f : F) (xs : List (Marked X)) (middle : ℕ) (entry : Marked X) (y : Bor X) (r b : Bool) → middle < length xs → entry ≡ get_or xs middle entry → y.now ≡ entry.value → g.post f (y, tt) r → r ≡ b → (p : Marked X → Bool) → IsTestOf g f p → (d : Marked X) → p (get_or xs middle d) ≡ b
@@ -46,6 +47,34 @@ HasNarrowed-down xs IsTest low high middle was up lt fails = record {
   below = was.below;
   above = λ p test parted k d le lt'.
       false_from (p (get_or xs k d)) (λ passes. let t : p (get_or xs middle d) ≡ true = parted middle k d le lt' passes in let f : p (get_or xs middle d) ≡ false = fails p test d in cc);
+}
+
+pub IsBehindLesser-start : {X : Type 0} (mark : ℕ) (entries : List (Marked X)) → IsBehindLesser mark entries 0
+IsBehindLesser-start mark entries = record { in_range = omega arith; lesser = λ d some. absurd (omega arith) }
+
+-- the entry at the place has a lesser mark
+pub IsBehindLesser-more : {X : Type 0} (mark own : ℕ) (entries : List (Marked X)) (at : ℕ) (entry : Marked X) → at < length entries → entry ≡ get_or entries at entry → own ≡ mark_of entry → own < mark → IsBehindLesser mark entries (at + 1)
+IsBehindLesser-more mark own entries at entry lt is e less = record {
+  in_range = omega arith;
+  lesser = λ d some.
+      let back : at + 1 - 1 ≡ at = omega arith in
+      let read : own ≡ mark_of (get_or entries (at + 1 - 1) d) =
+      e ∙ (ap mark_of (get_or_read entries at entry lt is d) ∙ ap (λ n. mark_of (get_or entries n d)) (sym back)) in
+      omega (arith, read);
+}
+
+-- entries of a lesser mark come before, and none does from one of a greater mark on
+pub HasNarrowed-to_run : {X F : Type 0} (g : Shared F (Bor X × Unit {0}) Bool) (f : F) (mark : ℕ) (xs : List (Marked X)) (low high : ℕ) → IsBehindLesser mark xs low → low ≤ high → high ≤ length xs → ((d : Marked X) → high < length xs → mark < mark_of (get_or xs high d)) → HasNarrowed xs (IsTestAt g f mark xs) low high
+HasNarrowed-to_run g f mark xs low high behind le in_xs greater = record {
+  order = le;
+  in_range = in_xs;
+  below = λ p test parted k d lt.
+      parted k (low - 1) d (omega arith) (omega arith) (test.parts.lesser (get_or xs (low - 1) d) (Contains-get_or xs (low - 1) d (omega arith)) (behind.lesser d (omega arith)));
+  above = λ p test parted k d from lt.
+      false_from (p (get_or xs k d)) (λ passes.
+      let t : p (get_or xs high d) ≡ true = parted high k d from lt passes in
+      let f' : p (get_or xs high d) ≡ false = test.parts.greater (get_or xs high d) (Contains-get_or xs high d (omega arith)) (greater d (omega arith)) in
+      cc);
 }
 
 -- `prefix_len_is`, at any default

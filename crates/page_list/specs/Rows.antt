@@ -1,5 +1,5 @@
 -- No public clause cites this module.
-use Rattle.std.specs.Prelude.{◌≡◌, ℕ, ◌+◌, ◌<◌, ◌≤◌, List, ◌++◌, length, get_or, take, drop, slice_index}
+use Rattle.std.specs.Prelude.{◌≡◌, ℕ, ◌+◌, ◌-◌, ◌<◌, ◌≤◌, List, ◌++◌, length, get_or, take, drop, map, slice_index}
 use Rattle.std.specs.List.{flat_map}
 
 -- for each block, how many entries there are up to its end
@@ -27,8 +27,33 @@ pub record IsSeam {X A : Type 0} (f : X → List A) (xs : List X) (at p x : ℕ)
   pub right : (d : X)
       → drop at (flat_map f xs) ≡ drop x (f (get_or xs p d)) ++ flat_map f (drop (p + 1) xs)
 
--- the numbers from the place p on differ by what `new` is more than `old`
-pub record AreMoved (numbers : List ℕ) (p old new : ℕ) (made : List ℕ) : Type 0 where
-  pub one_each : length made ≡ length numbers
-  pub before : (k : ℕ) → k < p → slice_index made k ≡ slice_index numbers k
-  pub behind : (k : ℕ) → p ≤ k → k < length numbers → slice_index made k + old ≡ slice_index numbers k + new
+-- a block with how many entries there are up to its end, and the mark of its first one
+pub record Shelved (X : Type 0) : Type 0 where
+  pub block : X
+  pub end : ℕ
+  pub mark : ℕ
+
+abbrev pub block_of : {X : Type 0} → Shelved X → X
+block_of slot = slot.block
+
+abbrev pub end_of : {X : Type 0} → Shelved X → ℕ
+end_of slot = slot.end
+
+abbrev pub first_mark_of : {X : Type 0} → Shelved X → ℕ
+first_mark_of slot = slot.mark
+
+-- the same with `new` entries up to its end in place of `old` of them
+abbrev pub shifted : {X : Type 0} → ℕ → ℕ → Shelved X → Shelved X
+shifted old new slot = record { block = slot.block; end = slot.end - old + new; mark = slot.mark }
+
+-- the block behind `start` entries
+pub record IsShelved {X A : Type 0} (mark_of : A → ℕ) (f : X → List A) (block : X) (start : ℕ) (slot : Shelved X) : Type 0 where
+  pub same : slot.block ≡ block
+  pub long : slot.end ≡ start + length (f block)
+  pub some : 0 < length (f block)
+  pub first : (a : A) → slot.mark ≡ mark_of (get_or (f block) 0 a)
+
+-- each block has its end and its mark
+pub record IsShelf {X A : Type 0} (mark_of : A → ℕ) (f : X → List A) (slots : List (Shelved X)) : Type 0 where
+  pub ends : IsEnds f (map block_of slots) (map end_of slots)
+  pub marks : IsFirstMarks mark_of f (map block_of slots) (map first_mark_of slots)

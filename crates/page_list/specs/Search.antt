@@ -1,5 +1,5 @@
 -- No public clause cites this module.
-use Rattle.std.specs.Prelude.{◌≡◌, ℕ, ◌<◌, ◌≤◌, Bool, true, false, List, length, get_or}
+use Rattle.std.specs.Prelude.{◌≡◌, ℕ, ◌-◌, ◌<◌, ◌≤◌, Bool, true, false, List, length, get_or}
 use Rattle.std.specs.Fn.{FnReturnsAt}
 use Rattle.std.specs.List.Sorted.{IsPartitionedBy}
 use Rattle.page_list.specs.Marks.{Marked, mark_of, PartsAtMark}
@@ -21,3 +21,8 @@ pub record HasNarrowed {X : Type 0} (xs : List X) (IsTest : (X → Bool) → Typ
   pub in_range : high ≤ length xs
   pub below : (p : X → Bool) → IsTest p → IsPartitionedBy p xs → (k : ℕ) (d : X) → k < low → p (get_or xs k d) ≡ true
   pub above : (p : X → Bool) → IsTest p → IsPartitionedBy p xs → (k : ℕ) (d : X) → high ≤ k → k < length xs → p (get_or xs k d) ≡ false
+
+-- the entry before the place has a lesser mark, if there is one
+pub record IsBehindLesser {X : Type 0} (mark : ℕ) (entries : List (Marked X)) (place : ℕ) : Type 0 where
+  pub in_range : place ≤ length entries
+  pub lesser : (d : Marked X) → 0 < place → mark_of (get_or entries (place - 1) d) < mark

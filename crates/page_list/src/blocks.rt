@@ -6,6 +6,8 @@ ghost use Rattle.std.specs.Arc.{arc_value};
 use crate::cut::cut;
 use crate::row::Row;
 use crate::short::{MOST, Short};
+#[cfg(test)]
+use crate::slot::Slot;
 use crate::splice::spliced_row;
 use crate::{Block, Entry, OutOfMemory};
 use std::alloc::Global;
@@ -41,8 +43,8 @@ impl<T: Drop, B: Block<T>> Blocks<T, B> {
 
 #[cfg(test)]
 impl<T: Drop, B: Block<T>> Blocks<T, B> {
-    pub(crate) fn blocks(&self) -> &[Arc<B>] {
-        self.row.blocks()
+    pub(crate) fn slots(&self) -> &[Slot<B>] {
+        self.row.slots()
     }
 }
 

@@ -16,9 +16,11 @@ mod iter;
 mod marked_list;
 mod marking;
 mod page;
+mod parts;
 mod row;
 mod share;
 mod short;
+mod slot;
 mod splice;
 
 pub(crate) use block::Block;

@@ -64,6 +64,14 @@ impl<T: Drop, M: Marking<T>> MarkedList<T, M> {
         self.entries.get(i).share()
     }
 
+    /// The mark of the entry `i`, which is not read itself.
+    pub fn mark_at(&self, i: usize) -> u64
+        requires { i < length self.now }
+        ensures { (x : T) → result ≡ M.mark (slice_index_or self.now i x) }
+    {
+        self.entries.get(i).mark()
+    }
+
     /// The entries in order, one after another: the whole list at a cost linear in its length.
     pub fn iter(&self) -> Iter<'_, T>
         ensures { result ≡ self.now }

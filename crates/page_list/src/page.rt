@@ -3,11 +3,12 @@ ghost use Rattle.std.specs.Prelude.{◌≡◌, ◌<◌, ◌≤◌, ◌+◌, ◌-
 ghost use Rattle.std.specs.Arc.{arc_value};
 ghost use Rattle.std.specs.List.{flat_map};
 ghost use Rattle.page_list.specs.declared.short.TheConstants.{MOST};
-ghost use Rattle.page_list.specs.Marks.{Marked};
-ghost use Rattle.page_list.specs.Search.{IsTestAt};
+ghost use Rattle.page_list.specs.Marks.{Marked, mark_of};
+ghost use Rattle.page_list.specs.Search.{IsBehindLesser, IsTestAt};
 
 use crate::cut::cut;
-use crate::entries::{entries_before, entries_from, entries_round};
+use crate::entries::entries_round;
+use crate::parts::{items_before, items_from};
 use crate::short::{MOST, Short};
 use crate::{Block, Entry, OutOfMemory};
 use std::alloc::Global;
@@ -47,12 +48,51 @@ impl<T: Drop> Page<T> {
             ≡ take from self.now ++ items.now ++ drop to self.now) }
     {
         let entries = self.entries.as_slice();
-        let before = entries_before(entries, from);
-        let entries = entries_round(alloc, before, items, entries_from(entries, to))?;
+        let before = items_before(entries, from);
+        let entries = entries_round(alloc, before, items, items_from(entries, to))?;
         let page = Page {
             entries: Short::of(entries),
         };
         Ok(Arc::new(alloc, page)?)
+    }
+
+    // A place behind an entry of a lesser mark, or the first place. Every fourth entry is read first: a page has few, and
+    // none of these reads waits for another, as those of a search by halves would.
+    fn start_of_run(&self, mark: u64) -> usize
+        ensures { IsBehindLesser mark self.now result }
+    {
+        let entries = self.entries.as_slice();
+        let mut start = 0;
+        let mut at = 3;
+        while at < entries.len() {
+            if entries[at].mark() < mark {
+                start = at + 1;
+            }
+            at += 4;
+        }
+        while start < entries.len() && entries[start].mark() < mark {
+            start += 1;
+        }
+        start
+    }
+
+    // The first place from `low` on whose entry has a greater mark, or the end.
+    fn end_of_run(&self, low: usize, mark: u64) -> usize
+        requires { low ≤ length self.now }
+        ensures order { low ≤ result }
+        ensures in_range { result ≤ length self.now }
+        ensures greater { (d : Marked T) → result < length self.now
+            → mark < mark_of (get_or self.now result d) }
+    {
+        let entries = self.entries.as_slice();
+        let mut end = low;
+        while end < entries.len() {
+            if entries[end].mark() > mark {
+                return end;
+            }
+            end += 1;
+        }
+        end
     }
 
     // Whether the entry `i` comes before; its value is read only where its mark doesn't tell.
@@ -103,7 +143,7 @@ impl<T: Drop> Block<T> for Page<T> {
     }
 
     fn page_from(&self, i: usize) -> &[Entry<T>] {
-        entries_from(self.entries.as_slice(), i)
+        items_from(self.entries.as_slice(), i)
     }
 
     fn find<F: Fn(&T) -> bool>(&self, before: &F) -> usize {
@@ -122,8 +162,8 @@ impl<T: Drop> Block<T> for Page<T> {
     }
 
     fn find_at<F: Fn(&T) -> bool>(&self, mark: u64, before: &F) -> usize {
-        let mut low = 0;
-        let mut high = self.len();
+        let mut low = self.start_of_run(mark);
+        let mut high = self.end_of_run(low, mark);
         while low < high {
             let middle = low + (high - low) / 2;
             if self.is_before(middle, mark, before) {
@@ -166,8 +206,8 @@ impl<T: Drop> Block<T> for Page<T> {
         ensures { IfOk result (λ made. flat_map (λ page. page) (map arc_value made.items)
             ≡ take from left.now ++ items.items ++ drop to right.now) }
     {
-        let before = entries_before(left.entries.as_slice(), from);
-        let after = entries_from(right.entries.as_slice(), to);
+        let before = items_before(left.entries.as_slice(), from);
+        let after = items_from(right.entries.as_slice(), to);
         Self::made(
             alloc,
             entries_round(alloc, before, items.as_slice(), after)?,

@@ -1,59 +1,87 @@
 //! A row of shared blocks.
-ghost use Rattle.std.specs.Prelude.{◌≡◌, ℕ, ◌<◌, ◌≤◌, ◌+◌, ◌++◌, [], Bool, length, get_or, set, take, drop, map, IfOk, IfSome, slice_index, slice_index_or};
+ghost use Rattle.std.specs.Prelude.{◌≡◌, ℕ, ◌<◌, ◌≤◌, ◌+◌, ◌++◌, [], Bool, length, get_or, set, take, drop, map, IfOk, IfSome, OnOk, slice_index_or, vec_capacity, vec_len};
 ghost use Rattle.std.specs.List.{flat_map, prefix_len};
 ghost use Rattle.std.specs.List.Sorted.{IsPartitionedBy};
 ghost use Rattle.std.specs.Arc.{arc_value};
 ghost use Rattle.page_list.specs.Marks.{Marked, mark_of, PartsAtMark};
-ghost use Rattle.page_list.specs.Rows.{AreMoved, IsEnds, IsFirstMarks, IsPlace, IsSeam};
+ghost use Rattle.page_list.specs.Rows.{IsPlace, IsSeam, IsShelf, IsShelved, Shelved, block_of, shifted};
 ghost use Rattle.page_list.specs.Search.{IsTestOf, IsTestAt, HasNarrowed};
 
-use crate::share::{shared_but, shares_before, shares_from};
+use crate::parts::{items_before, items_from};
+use crate::slot::Slot;
 use crate::{Block, Entry, OutOfMemory};
 use std::alloc::{AllocError, Global};
 use std::marker::{Model, PhantomData};
 use std::sync::Arc;
 
-/// Shared blocks, seen as the list of them, with the number of entries up to the end of each, and the mark of the first
-/// entry of each.
+/// Shared blocks, seen as the list of them.
 #[derive(Drop)]
 pub(crate) struct Row<T: Drop, B: Block<T>> {
-    blocks: Vec<Arc<B>>,
-    ends: Vec<usize>,
-    marks: Vec<u64>,
+    slots: Vec<Slot<B>>,
     of: PhantomData<T>,
 }
 
 impl<T: Drop, B: Block<T>> Model for Row<T, B> {
     ghost use Rattle.std.specs.Prelude.{List, map};
-    ghost use Rattle.std.specs.Arc.{arc_value};
     ghost use Rattle.page_list.specs.Marks.{mark_of};
-    ghost use Rattle.page_list.specs.Rows.{IsEnds, IsFirstMarks};
+    ghost use Rattle.page_list.specs.Rows.{IsShelf, block_of};
 
     ghost Value = { List B };
 
-    ghost view = { λ r. map arc_value r.blocks.items };
+    ghost view = { λ r. map block_of r.slots.items };
 
-    ghost invariant = { λ r. IsEnds B.entries (map arc_value r.blocks.items) r.ends.items
-        × IsFirstMarks mark_of B.entries (map arc_value r.blocks.items) r.marks.items };
+    ghost invariant = { λ r. IsShelf mark_of B.entries r.slots.items };
 }
 
-// How many entries there are up to the end of each block; want of memory where a number has no place in a word.
-fn ends_of<T: Drop, B: Block<T>>(
-    alloc: Global,
-    blocks: &[Arc<B>],
-) -> Result<Vec<usize>, OutOfMemory>
-    ensures { IfOk result (λ ends. IsEnds B.entries (map arc_value blocks.now) ends.items) }
+// The block behind `start` entries; want of memory where a number has no place in a word.
+fn shelved<T: Drop, B: Block<T>>(block: Arc<B>, start: usize) -> Result<Slot<B>, OutOfMemory>
+    ensures { IfOk result (λ slot. IsShelved mark_of B.entries (arc_value block) start slot) }
 {
-    let mut ends = Vec::with_capacity(alloc, blocks.len())?;
+    let mark = block.first_mark();
+    match start.checked_add(block.len()) {
+        Some(end) => Ok(Slot::of(block, end, mark)),
+        None => Err(AllocError),
+    }
+}
+
+// The blocks, one behind another.
+fn slots_of<T: Drop, B: Block<T>>(
+    alloc: Global,
+    blocks: Vec<Arc<B>>,
+) -> Result<Vec<Slot<B>>, OutOfMemory>
+    ensures blocks { IfOk result (λ slots.
+        map block_of slots.items ≡ map arc_value blocks.items) }
+    ensures shelf { IfOk result (λ slots. IsShelf mark_of B.entries slots.items) }
+{
+    let mut slots = Vec::with_capacity(alloc, blocks.len())?;
     let mut end = 0usize;
     for block in blocks {
-        match end.checked_add(block.len()) {
-            Some(more) => end = more,
-            None => return Err(AllocError),
-        }
-        ends.push(end)?;
+        let slot = shelved::<T, B>(block, end)?;
+        end = slot.end();
+        slots.push(slot)?;
     }
-    Ok(ends)
+    Ok(slots)
+}
+
+// Puts another owner of each block behind `onto`, in a row that has `new` entries up to there in place of `old`.
+fn shift_onto<B: Drop>(
+    onto: &mut Vec<Slot<B>>,
+    from: &[Slot<B>],
+    old: usize,
+    new: usize,
+) -> Result<(), OutOfMemory>
+    requires long { (k : ℕ) (d : Shelved B) → k < length from.now
+        → old ≤ (get_or from.now k d).end }
+    requires room { vec_len onto.old + length from.now ≤ vec_capacity onto.old }
+    ensures items { OnOk result
+        (onto.new.items ≡ onto.old.items ++ map (shifted old new) from.now) }
+    ensures len { OnOk result (vec_len onto.new ≡ vec_len onto.old + length from.now) }
+    ensures capacity { OnOk result (vec_capacity onto.new ≡ vec_capacity onto.old) }
+{
+    for slot in from {
+        onto.push_reserved(slot.shifted(old, new)?);
+    }
+    Ok(())
 }
 
 fn at_most(n: usize, most: usize) -> usize
@@ -63,57 +91,12 @@ fn at_most(n: usize, most: usize) -> usize
     if n < most { n } else { most }
 }
 
-// The numbers, of which those from the place `p` on are changed by what `new` is more than `old`; want of memory where
-// one has no place in a word.
-fn moved(
-    alloc: Global,
-    numbers: &[usize],
-    p: usize,
-    old: usize,
-    new: usize,
-) -> Result<Vec<usize>, OutOfMemory>
-    requires { (k : ℕ) → p ≤ k → k < length numbers.now → old
-        ≤ slice_index numbers.now k }
-    ensures { IfOk result (λ made. AreMoved numbers.now p old new made.items) }
-{
-    let mut made = Vec::from_slice(alloc, numbers)?;
-    if new == old {
-        return Ok(made);
-    }
-    let mut k = p;
-    while k < made.len() {
-        match (made[k] - old).checked_add(new) {
-            Some(number) => made[k] = number,
-            None => return Err(AllocError),
-        }
-        k += 1;
-    }
-    Ok(made)
-}
-
-// The mark of the first entry of each block.
-fn first_marks_of<T: Drop, B: Block<T>>(
-    alloc: Global,
-    blocks: &[Arc<B>],
-) -> Result<Vec<u64>, OutOfMemory>
-    ensures { IfOk result (λ marks. IsFirstMarks mark_of B.entries (map arc_value blocks.now)
-        marks.items) }
-{
-    let mut marks = Vec::with_capacity(alloc, blocks.len())?;
-    for block in blocks {
-        marks.push(block.first_mark())?;
-    }
-    Ok(marks)
-}
-
 impl<T: Drop, B: Block<T>> Row<T, B> {
     pub(crate) fn empty(alloc: Global) -> Row<T, B>
         ensures { result ≡ [] }
     {
         Row {
-            blocks: Vec::new(alloc),
-            ends: Vec::new(alloc),
-            marks: Vec::new(alloc),
+            slots: Vec::new(alloc),
             of: PhantomData,
         }
     }
@@ -121,12 +104,9 @@ impl<T: Drop, B: Block<T>> Row<T, B> {
     pub(crate) fn of(alloc: Global, blocks: Vec<Arc<B>>) -> Result<Row<T, B>, OutOfMemory>
         ensures { IfOk result (λ row. row ≡ map arc_value blocks.items) }
     {
-        let ends = ends_of::<T, B>(alloc, blocks.as_slice())?;
-        let marks = first_marks_of::<T, B>(alloc, blocks.as_slice())?;
+        let slots = slots_of::<T, B>(alloc, blocks)?;
         Ok(Row {
-            blocks,
-            ends,
-            marks,
+            slots,
             of: PhantomData,
         })
     }
@@ -135,41 +115,41 @@ impl<T: Drop, B: Block<T>> Row<T, B> {
     pub(crate) fn count(&self) -> usize
         ensures { result ≡ length self.now }
     {
-        self.blocks.len()
+        self.slots.len()
     }
 
     pub(crate) fn block(&self, p: usize) -> &B
         requires { p < length self.now }
         ensures { result.now ≡ slice_index_or self.now p result.now }
     {
-        &self.blocks[p]
+        self.slots[p].share()
     }
 
-    pub(crate) fn blocks_before(&self, p: usize) -> &[Arc<B>]
-        ensures { map arc_value result.now ≡ take p self.now }
+    pub(crate) fn slots_before(&self, p: usize) -> &[Slot<B>]
+        ensures { map block_of result.now ≡ take p self.now }
     {
-        shares_before(self.blocks.as_slice(), p)
+        items_before(self.slots.as_slice(), p)
     }
 
     /// The blocks up to the block `p`.
-    pub(crate) fn blocks_through(&self, p: usize) -> &[Arc<B>]
+    pub(crate) fn slots_through(&self, p: usize) -> &[Slot<B>]
         requires { p < length self.now }
-        ensures { map arc_value result.now ≡ take (p + 1) self.now }
+        ensures { map block_of result.now ≡ take (p + 1) self.now }
     {
-        shares_before(self.blocks.as_slice(), p + 1)
+        items_before(self.slots.as_slice(), p + 1)
     }
 
-    pub(crate) fn blocks_from(&self, p: usize) -> &[Arc<B>]
-        ensures { map arc_value result.now ≡ drop p self.now }
+    pub(crate) fn slots_from(&self, p: usize) -> &[Slot<B>]
+        ensures { map block_of result.now ≡ drop p self.now }
     {
-        shares_from(self.blocks.as_slice(), p)
+        items_from(self.slots.as_slice(), p)
     }
 
-    pub(crate) fn blocks_after(&self, p: usize) -> &[Arc<B>]
+    pub(crate) fn slots_after(&self, p: usize) -> &[Slot<B>]
         requires { p < length self.now }
-        ensures { map arc_value result.now ≡ drop (p + 1) self.now }
+        ensures { map block_of result.now ≡ drop (p + 1) self.now }
     {
-        shares_from(self.blocks.as_slice(), p + 1)
+        items_from(self.slots.as_slice(), p + 1)
     }
 
     /// The row with `items` in place of the entries `from..to`, where one block takes them all.
@@ -209,7 +189,7 @@ impl<T: Drop, B: Block<T>> Row<T, B> {
         }
         let (p, _) = self.place(at_most(from, total - 1));
         let start = self.start(p);
-        if to > self.ends[p] {
+        if to > self.slots[p].end() {
             return None;
         }
         Some((p, from - start, to - start))
@@ -220,22 +200,21 @@ impl<T: Drop, B: Block<T>> Row<T, B> {
         requires { p < length self.now }
         ensures { IfOk result (λ row. row ≡ set self.now p (arc_value block)) }
     {
-        let mut marks = Vec::from_slice(alloc, self.marks.as_slice())?;
-        marks[p] = block.first_mark();
+        let slots = self.slots.as_slice();
         let (old, new) = (self.block(p).len(), block.len());
-        let ends = moved(alloc, self.ends.as_slice(), p, old, new)?;
-        let blocks = shared_but(alloc, self.blocks.as_slice(), p, block)?;
+        let mut all = Vec::with_capacity(alloc, slots.len())?;
+        shift_onto(&mut all, items_before(slots, p), 0, 0)?;
+        all.push_reserved(shelved::<T, B>(block, self.start(p))?);
+        shift_onto(&mut all, items_from(slots, p + 1), old, new)?;
         Ok(Row {
-            blocks,
-            ends,
-            marks,
+            slots: all,
             of: PhantomData,
         })
     }
 
     #[cfg(test)]
-    pub(crate) fn blocks(&self) -> &[Arc<B>] {
-        self.blocks.as_slice()
+    pub(crate) fn slots(&self) -> &[Slot<B>] {
+        self.slots.as_slice()
     }
 
     /// How many entries there are before the block `p`.
@@ -243,7 +222,7 @@ impl<T: Drop, B: Block<T>> Row<T, B> {
         requires { p ≤ length self.now }
         ensures { result ≡ length (flat_map B.entries (take p self.now)) }
     {
-        if p == 0 { 0 } else { self.ends[p - 1] }
+        if p == 0 { 0 } else { self.slots[p - 1].end() }
     }
 
     /// How many entries there are.
@@ -326,7 +305,7 @@ impl<T: Drop, B: Block<T>> Row<T, B> {
         ensures first { (a : Marked T)
             → result ≡ mark_of (slice_index_or (flat_map B.entries self.now) 0 a) }
     {
-        self.marks[0]
+        self.slots[0].mark()
     }
 
     /// How many entries `before` holds of, which are the first ones; it is asked only of entries with the mark.
@@ -378,7 +357,7 @@ impl<T: Drop, B: Block<T>> Row<T, B> {
             → q (get_or (flat_map B.entries self.now)
             (length (flat_map B.entries (take p self.now))) d) ≡ result }
     {
-        let own = self.marks[p];
+        let own = self.slots[p].mark();
         if own == mark {
             before(self.block(p).first().share())
         } else {

@@ -34,6 +34,7 @@ impl<X> Short<X> {
     pub(crate) fn as_slice(&self) -> &[X]
         ensures values { result.now ≡ self.now }
         ensures some { 0 < length self.now }
+        ensures few { length self.now ≤ MOST }
     {
         self.items.as_slice()
     }

@@ -131,12 +131,12 @@ pub(crate) fn spliced_row<T: Drop, B: Block<T>>(
     if is_clean_cut(first, x, items.as_slice(), last, y) {
         return shared_round(
             alloc,
-            left.blocks_through(p),
+            left.slots_through(p),
             Vec::new(alloc),
-            right.blocks_from(q),
+            right.slots_from(q),
         );
     }
     let made = B::spliced(alloc, first, x, items, last, y)?;
     let (made, p, q) = joined(alloc, left, p, made, right, q)?;
-    shared_round(alloc, left.blocks_before(p), made, right.blocks_after(q))
+    shared_round(alloc, left.slots_before(p), made, right.slots_after(q))
 }

@@ -10,7 +10,7 @@ use Rattle.std.proofs.lemmas.Bool.{cases_lt}
 use Rattle.std.proofs.lemmas.Bool.Decides.{Decides-eqb}
 use Rattle.std.proofs.lemmas.Cmp.{nat_cmp_total, tied_itself}
 use Rattle.std.proofs.lemmas.Grind.{common_steps}
-use Rattle.std.proofs.lemmas.List.{append-nil, get_or_read}
+use Rattle.std.proofs.lemmas.List.{append-nil, get_or_default, get_or_read}
 use Rattle.std.proofs.lemmas.List.Elements.{All-contains, filter-append}
 use Rattle.std.proofs.lemmas.List.Sums.{prefix_len_passes, prefix_len_stops}
 use Rattle.dname.specs.Name.{Label, canonical_cmp}
@@ -36,7 +36,8 @@ use Rattle.zone_chains.specs.Zone.{OneZone, chains_in, records_in, IsOneZone, Is
 use Rattle.record_store.specs.Holding.{held_in, chains_of_zones, IsTied}
 use Rattle.record_store.specs.LookUp.{is_apex, first_apex, IsFirstZone, IsZoneIn, set_like}
 use Rattle.record_store.specs.Ranks.{apex_cmp, set_cmp, sets_total}
-use Rattle.record_store.proofs.MarkLemmas.{set_tied}
+use Rattle.record_store.specs.Marks.{set_mark}
+use Rattle.record_store.proofs.MarkLemmas.{key_mark, set_tied}
 use Rattle.record_store.proofs.SearchLemmas.{same_names}
 
 -- ---- the zone for a question
@@ -253,6 +254,13 @@ set_ties zone owner rtype (Set set) a is =
     let types = subst (λ n. nat_cmp set.rtype n ≡ Equal) ((Decides-eqb set.rtype rtype).0 second.1) (tied_itself nat_cmp_total set.rtype) in
     rw (zones, owners) types
 
+other_number : (zone owner : List Label) (rtype : ℕ) (item : Record) → (set_mark item ≡ set_mark (set_like zone owner rtype) → ⊥) → None ≡ as_set_at zone owner rtype item
+other_number zone owner rtype item apart = by (as_set_at zone owner rtype item) refl
+  where
+    by : (o : Option SetRec) → as_set_at zone owner rtype item ≡ o → None ≡ as_set_at zone owner rtype item
+    by None none = sym none
+    by (Some set) some = absurd (apart (key_mark item (set_like zone owner rtype) (set_ties zone owner rtype item set some)))
+
 module _ (zone owner : List Label) (rtype : ℕ) (sets : List Record) (order : IsInOrder set_cmp sets) (n : ℕ) (start : n ≡ prefix_len (λ item. is_lt (set_cmp item (set_like zone owner rtype))) sets) where
   pub chosen_here : (item : Record) → n < length sets → item ≡ get_or sets n item → (result : Option SetRec) → result ≡ as_set_at zone owner rtype item → IsChosen (as_set_at zone owner rtype) sets result
   chosen_here item within is (Some set) result = (item, (n, within, sym is), sym result)
@@ -263,6 +271,12 @@ module _ (zone owner : List Label) (rtype : ℕ) (sets : List Record) (order : I
       by each has (Some set) some =
           let same = tied_is_here set_cmp sets_total (set_like zone owner rtype) sets order n start each has (set_tied each (set_like zone owner rtype) (set_ties zone owner rtype each set some)) item within is in
           absurd (none_some (result ∙ (ap (as_set_at zone owner rtype) same ∙ some)))
+
+  -- a record of another number is no such set
+  pub none_at : n < length sets → (set_mark (get_or sets n (set_like zone owner rtype)) ≡ set_mark (set_like zone owner rtype) → ⊥) → IsChosen (as_set_at zone owner rtype) sets None
+  none_at within apart =
+      let item = get_or sets n (set_like zone owner rtype) in
+      chosen_here item within (get_or_default sets n (set_like zone owner rtype) item within) None (other_number zone owner rtype item apart)
 
   pub none_here : length sets ≤ n → IsChosen (as_set_at zone owner rtype) sets None
   none_here past each has = by (as_set_at zone owner rtype each) refl

@@ -25,11 +25,14 @@ pub(crate) fn set_in<'s>(
 {
     let number = set_number(zone, owner, rtype);
     let place = sets.find_at(number, |item| is_before(item, zone, owner, rtype, number));
-    if place < sets.len() {
-        as_set_at(sets.get(place), zone, owner, rtype)
-    } else {
-        None
+    if place >= sets.len() {
+        return None;
     }
+    // a record of another number is no such set, and isn't read
+    if sets.mark_at(place) != number {
+        return None;
+    }
+    as_set_at(sets.get(place), zone, owner, rtype)
 }
 
 // Whether the record comes before such a set, whose number it is.

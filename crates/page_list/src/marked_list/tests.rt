@@ -78,15 +78,15 @@ fn same(list: &PageList<u64>, plain: &[u64]) -> bool {
 // How many owners a list has that no other list shares: those in its blocks that have one owner.
 fn own_owners(list: &PageList<u64>) -> usize {
     let mut count = list.entries.bookcases.count();
-    for bookcase in list.entries.bookcases.blocks() {
-        if Arc::strong_count(bookcase) == 1 {
-            count = count.saturating_add(bookcase.blocks().len());
-            for shelf in bookcase.blocks() {
-                if Arc::strong_count(shelf) == 1 {
-                    count = count.saturating_add(shelf.blocks().len());
-                    for page in shelf.blocks() {
-                        if Arc::strong_count(page) == 1 {
-                            count = count.saturating_add(page.len());
+    for bookcase in list.entries.bookcases.slots() {
+        if Arc::strong_count(bookcase.share()) == 1 {
+            count = count.saturating_add(bookcase.share().slots().len());
+            for shelf in bookcase.share().slots() {
+                if Arc::strong_count(shelf.share()) == 1 {
+                    count = count.saturating_add(shelf.share().slots().len());
+                    for page in shelf.share().slots() {
+                        if Arc::strong_count(page.share()) == 1 {
+                            count = count.saturating_add(page.share().len());
                         }
                     }
                 }
@@ -103,14 +103,14 @@ fn is_filled(list: &PageList<u64>) -> bool {
     let mut few = MOST;
     let mut few_pages = MOST;
     let mut few_shelves = MOST;
-    for bookcase in list.entries.bookcases.blocks() {
-        few_shelves = few_shelves.min(bookcase.blocks().len());
-        for shelf in bookcase.blocks() {
+    for bookcase in list.entries.bookcases.slots() {
+        few_shelves = few_shelves.min(bookcase.share().slots().len());
+        for shelf in bookcase.share().slots() {
             shelves = shelves.saturating_add(1);
-            few_pages = few_pages.min(shelf.blocks().len());
-            for page in shelf.blocks() {
+            few_pages = few_pages.min(shelf.share().slots().len());
+            for page in shelf.share().slots() {
                 pages = pages.saturating_add(1);
-                few = few.min(page.len());
+                few = few.min(page.share().len());
             }
         }
     }

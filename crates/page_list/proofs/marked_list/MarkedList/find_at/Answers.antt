@@ -1,5 +1,5 @@
 use Rattle.std.proofs.Common.{◌∙◌}
-use Rattle.page_list.specs.Marks.{Marked, value_of}
+use Rattle.page_list.specs.Marks.{value_of}
 use Rattle.page_list.proofs.Values.{parts_of, prefix_of}
 use Rattle.page_list.proofs.marked_list.MarkedList.find_at.Goals as goal
 

@@ -1,4 +1,4 @@
-use Rattle.std.proofs.Common.{map, ◌∙◌, take, drop, ◌++◌, ap}
+use Rattle.std.proofs.Common.{map}
 use Rattle.std.specs.Arc.{arc_value}
 use Rattle.page_list.proofs.Values.{replaced_values, replaced_marked}
 use Rattle.page_list.proofs.marked_list.MarkedList.with_replaced.Goals as goal

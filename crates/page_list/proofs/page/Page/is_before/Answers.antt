@@ -1,4 +1,4 @@
-use Rattle.std.proofs.Common.{refl, ◌∙◌, ap, sym}
+use Rattle.std.proofs.Common.{refl, ◌∙◌, ap}
 use Rattle.page_list.specs.Marks.{mark_of}
 use Rattle.page_list.proofs.Marks.{entry_among, entry_read_at, told_by_mark}
 use Rattle.page_list.proofs.Search.{answered}
