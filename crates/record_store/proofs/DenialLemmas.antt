@@ -12,7 +12,7 @@ use Rattle.held_laws.proofs.ListedLemmas.{none_some, some_same, chain_displaced}
 use Rattle.ordered_list.specs.Order.{IsInOrder}
 use Rattle.zone_chains.specs.Zone.{OneChain, OneZone, chains_in, records_in, IsOneZone, IsDenialOf, third_for, is_of, chains_with}
 use Rattle.zone_chains.proofs.ChainLemmas.{other_way}
-use Rattle.record_store.specs.Holding.{held_in, IsZoneOf, IsTied, AreCleared, AreWith, AreWithout}
+use Rattle.record_store.specs.Holding.{held_in, IsZoneOf, IsTied, AreWith, AreLeft}
 use Rattle.record_store.specs.Putting.{chains_for, IsZoneFor}
 use Rattle.record_store.specs.Ranks.{apex_cmp}
 use Rattle.record_store.proofs.PutLemmas.{Differ}
@@ -65,35 +65,31 @@ listed_then chains new once x = by (list_any (same_zone_chain new) chains)
 has_some : {X : Type 0} (xs : List X) (x : X) → Contains xs x → 0 < length xs
 has_some xs x has = omega (arith, has.1)
 
-module _ (goings sets : List Record) (zones : List OneZone) (tied : IsTied goings sets zones) (new : Record) (denial : IsDenialOf (zone_of new) new) (zone0 : OneZone) (is : IsZoneFor (held_in goings zones) new zone0)
-    (zone1 : OneZone) (cleared : List Record) (apex1 : zone1.apex ≡ zone0.apex) (chains1 : chains_in zone1 ≡ chains_in zone0) (its1 : IsZoneOf cleared zone1) (are : AreCleared new goings cleared) where
+module _ (goings sets : List Record) (zones : List OneZone) (tied : IsTied goings sets zones) (new : Record) (denial : IsDenialOf (zone_of new) new) (zone0 : OneZone) (is : IsZoneFor (held_in goings zones) new zone0) where
   abbrev Its : List ZoneChain
   Its = chains_for (held_in goings zones) new
 
-  its_chains : chains_in zone1 ≡ Its
-  its_chains = chains1 ∙ is.chains
-
-  module _ (left made : List Record) (are_left : AreWithout (third_for (chains_in zone1) (chain_of new)) cleared left) (with : AreWith new left made) where
+  module _ (left made : List Record) (are_left : AreLeft new (third_for (chains_in zone0) (chain_of new)) goings left) (with : AreWith new left made) where
     made_has : (item : Record) → Contains made item ↔ ((item ≡ new) ⊎ (Contains goings item × (displaces new item ≡ false) × (is_of (third_for Its (chain_of new)) item ≡ false)))
     made_has item = (
-      λ h. ⊎_elim inl (λ old. (let two = (are_left item).0 old in let was = (are item).0 two.0 in inr (was.0, was.1, ap (λ l. is_of (third_for l (chain_of new)) item) (sym its_chains) ∙ two.1))) ((with item).0 h),
-      λ h. (with item).1 (⊎_elim inl (λ old. inr ((are_left item).1 ((are item).1 (old.0, old.1), ap (λ l. is_of (third_for l (chain_of new)) item) its_chains ∙ old.2))) h),
+      λ h. ⊎_elim inl (λ old. (let was = (are_left item).0 old in inr (was.0, was.1, ap (λ l. is_of (third_for l (chain_of new)) item) (sym is.chains) ∙ was.2))) ((with item).0 h),
+      λ h. (with item).1 (⊎_elim inl (λ old. inr ((are_left item).1 (old.0, old.1, ap (λ l. is_of (third_for l (chain_of new)) item) is.chains ∙ old.2))) h),
     )
 
-    module _ (zone : OneZone) (apex : zone.apex ≡ zone1.apex) (chains : chains_in zone ≡ chains_with (chains_in zone1) (chain_of new)) (records : (each : Record) → Contains (records_in zone) each ↔ ((each ≡ new) ⊎ (Contains (records_in zone1) each × (is_of (third_for (chains_in zone1) (chain_of new)) each ≡ false)))) (whole : IsOneZone zone) where
+    module _ (zone : OneZone) (apex : zone.apex ≡ zone0.apex) (chains : chains_in zone ≡ chains_with (chains_in zone0) (chain_of new)) (records : (each : Record) → Contains (records_in zone) each ↔ ((each ≡ new) ⊎ (Contains (records_in zone0) each × (displaces new each ≡ false) × (is_of (third_for (chains_in zone0) (chain_of new)) each ≡ false)))) (whole : IsOneZone zone) where
       apex_is : zone.apex ≡ zone_of new
-      apex_is = apex ∙ (apex1 ∙ is.apex)
+      apex_is = apex ∙ is.apex
 
       its : IsZoneOf made zone
       its item = (
         λ h. ⊎_elim
             (λ same. ((with item).1 (inl same), subst (λ r. IsDenialOf zone.apex r) (sym same) (subst (λ a. IsDenialOf a new) (sym apex_is) denial)))
-            (λ old. (let two = (its1 item).0 old.0 in ((with item).1 (inr ((are_left item).1 (two.0, old.1))), subst (λ a. IsDenialOf a item) (sym apex) two.1))) ((records item).0 h),
-        λ h. (records item).1 (⊎_elim inl (λ old. (let two = (are_left item).0 old in inr ((its1 item).1 (two.0, subst (λ a. IsDenialOf a item) apex h.1), two.1))) ((with item).0 h.0)),
+            (λ old. (let two = (is.its item).0 old.0 in ((with item).1 (inr ((are_left item).1 (two.0, old.1, old.2))), subst (λ a. IsDenialOf a item) (sym apex) two.1))) ((records item).0 h),
+        λ h. (records item).1 (⊎_elim inl (λ old. (let was = (are_left item).0 old in inr ((is.its item).1 (was.0, subst (λ a. IsDenialOf a item) apex h.1), was.1, was.2))) ((with item).0 h.0)),
       )
 
       chains_are : chains_in zone ≡ chains_with Its (chain_of new)
-      chains_are = chains ∙ ap (λ l. chains_with l (chain_of new)) its_chains
+      chains_are = chains ∙ ap (λ l. chains_with l (chain_of new)) is.chains
 
       -- each chain has a record: the new one, or one that stays
       has_record : (each : OneChain) → Contains zone.chains each → (o : Option ZoneChain) → chain_of new ≡ o → Contains (chains_with Its o) each.chain → 0 < length each.records
@@ -169,32 +165,31 @@ module _ (goings sets : List Record) (zones : List OneZone) (tied : IsTied going
 
 -- ---- by what the steps say
 
--- what is left of a zone isn't displaced
-pub none_displaced : (new : Record) (goings cleared : List Record) (zone : OneZone) → AreCleared new goings cleared → IsZoneOf cleared zone → (old : Record) → Contains (records_in zone) old → displaces new old ≡ false
-none_displaced new goings cleared zone are its old has = ((are old).0 ((its old).0 has).0).1
-
 -- a zone with the record
 abbrev pub IsZoneWith : Record → OneZone → OneZone → Type 0
 IsZoneWith new zone made =
     (made.apex ≡ zone.apex) × (chains_in made ≡ chains_with (chains_in zone) (chain_of new))
-    × ((each : Record) → Contains (records_in made) each ↔ ((each ≡ new) ⊎ (Contains (records_in zone) each × (is_of (third_for (chains_in zone) (chain_of new)) each ≡ false))))
+    × ((each : Record) → Contains (records_in made) each ↔ ((each ≡ new) ⊎ (Contains (records_in zone) each × (displaces new each ≡ false) × (is_of (third_for (chains_in zone) (chain_of new)) each ≡ false))))
+
+-- what is left of the records without those that go
+abbrev pub AreLeftFor : Record → OneZone → List Record → List Record → Type 0
+AreLeftFor new zone old left = AreLeft new (third_for (chains_in zone) (chain_of new)) old left
 
 module _ (goings sets : List Record) (zones : List OneZone) (tied : IsTied goings sets zones) (new : Record) (denial : IsDenialOf (zone_of new) new) (held : Held) (view : held_in goings zones ≡ held) where
   pub denial_made : (zone0 : OneZone) (r : Record) → r ≡ new → IsZoneFor held r zone0
-      → (zone1 : OneZone) (cleared : List Record) → zone1.apex ≡ zone0.apex → chains_in zone1 ≡ chains_in zone0 → IsZoneOf cleared zone1 → AreCleared new goings cleared
-      → (left : List Record) (z : OneZone) (r' : Record) → z ≡ zone1 → r' ≡ new → AreWithout (third_for (chains_in z) (chain_of r')) cleared left
-      → (zone z' made_zone : OneZone) (r'' : Record) → z' ≡ zone1 → r'' ≡ new → zone ≡ made_zone → IsZoneWith r'' z' made_zone → (z'' : OneZone) → z'' ≡ zone → IsOneZone z''
+      → (left : List Record) (z : OneZone) (r' : Record) → z ≡ zone0 → r' ≡ new → AreLeftFor r' z goings left
+      → (zone z' made_zone : OneZone) (r'' : Record) → z' ≡ zone0 → r'' ≡ new → zone ≡ made_zone → IsZoneWith r'' z' made_zone → (z'' : OneZone) → z'' ≡ zone → IsOneZone z''
       → (made was : List Record) → was ≡ left → AreWith new was made → NoneDisplaces made
       → (sets' : List Record) → sets' ≡ sets
       → (zones' before : List OneZone) → before ≡ zones → ((each : OneZone) → Contains zones' each ↔ ((each ≡ zone) ⊎ (Contains before each × (each.apex ≡ zone.apex → ⊥)))) → IsInOrder apex_cmp zones' → IsInOrder apex_cmp before
       → IsTied made sets' zones' × IsReordered (held_with held new) (held_in made zones')
-  denial_made zone0 r same is zone1 cleared apex1 chains1 its1 are left z r' is_zone1 same' are_left zone z' made_zone r'' is_zone1' same'' is_made with_zone z'' is_zone whole made was is_left with apart sets' is_sets zones' before is_zones zones_are order ordered =
+  denial_made zone0 r same is left z r' is_zone same' are_left zone z' made_zone r'' is_zone' same'' is_made with_zone z'' is_whole whole made was is_left with apart sets' is_sets zones' before is_zones zones_are order ordered =
       let is' = subst (λ h. IsZoneFor h new zone0) (sym view) (subst (λ x. IsZoneFor held x zone0) same is) in
-      let are_left' = subst (λ y. AreWithout (third_for (chains_in y) (chain_of new)) cleared left) is_zone1 (subst (λ x. AreWithout (third_for (chains_in z) (chain_of x)) cleared left) same' are_left) in
-      let zw = subst (λ y. IsZoneWith new zone1 y) (sym is_made) (subst (λ y. IsZoneWith new y made_zone) is_zone1' (subst (λ x. IsZoneWith x z' made_zone) same'' with_zone)) in
+      let are_left' = subst (λ y. AreLeftFor new y goings left) is_zone (subst (λ x. AreLeftFor x z goings left) same' are_left) in
+      let zw = subst (λ y. IsZoneWith new zone0 y) (sym is_made) (subst (λ y. IsZoneWith new y made_zone) is_zone' (subst (λ x. IsZoneWith x z' made_zone) same'' with_zone)) in
       let with' = subst (λ l. AreWith new l made) is_left with in
       let zones_are' = subst (λ l. (each : OneZone) → Contains zones' each ↔ ((each ≡ zone) ⊎ (Contains l each × (each.apex ≡ zone.apex → ⊥)))) is_zones zones_are in
-      let put = denial_put goings sets zones tied new denial zone0 is' zone1 cleared apex1 chains1 its1 are left made are_left' with' zone zw.0 zw.1 zw.2 (subst IsOneZone is_zone whole) apart zones' zones_are' order in (
+      let put = denial_put goings sets zones tied new denial zone0 is' left made are_left' with' zone zw.0 zw.1 zw.2 (subst IsOneZone is_whole whole) apart zones' zones_are' order in (
         subst (λ l. IsTied made l zones') (sym is_sets) (put_tied goings sets zones tied new zone made sets zones' put),
         subst (λ h. IsReordered (held_with h new) (held_in made zones')) view (put_reordered goings sets zones tied new zone made sets zones' put (subst (IsInOrder apex_cmp) is_zones ordered)),
       )

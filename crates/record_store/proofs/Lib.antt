@@ -1,6 +1,7 @@
 pub mod DenialLemmas
 pub mod DroppingLemmas
 pub mod GoingLemmas
+pub mod GoneLemmas
 pub mod LongestLemmas
 pub mod LookUpLemmas
 pub mod MarkLemmas

@@ -11,7 +11,7 @@ use Rattle.dname.specs.Name.{Label}
 use Rattle.dname.specs.Order.{canonical_same}
 use Rattle.denial_records.specs.declared.record.Record.{Record}
 use Rattle.denial_records.specs.declared.record.Record.TheVariants.{Set, Nsec, Nsec3}
-use Rattle.cache_meaning.specs.Held.{Held, chain_of, displaces, key_cmp, held_with}
+use Rattle.cache_meaning.specs.Held.{Held, chain_of, zone_of, displaces, key_cmp, held_with}
 use Rattle.held_laws.specs.HeldLaws.{NoneDisplaces, IsReordered}
 use Rattle.held_laws.proofs.ApartLemmas.{displaces_either_way}
 use Rattle.held_laws.proofs.KeyOrderLemmas.{one_key_displaces, one_has_the_key}
@@ -19,13 +19,13 @@ use Rattle.held_laws.proofs.ListedLemmas.{both, name_equal, none_some}
 use Rattle.ordered_list.specs.Order.{IsInOrder, entry_at, with_entry}
 use Rattle.ordered_list.proofs.ChangeLemmas.{with_members, entry_some, entry_none}
 use Rattle.zone_chains.specs.Zone.{OneZone, third_for, is_of, chains_with, IsDenialOf}
-use Rattle.record_store.specs.Holding.{held_in, IsTied, AreBut, AreCleared, AreWith}
+use Rattle.record_store.specs.Holding.{held_in, IsTied, AreBut, AreCleared, AreWith, IsWithApex}
 use Rattle.record_store.specs.Putting.{chains_for, IsZoneFor}
 use Rattle.record_store.specs.Ranks.{apex_cmp, set_cmp, keys_total}
 use Rattle.record_store.proofs.MarkLemmas.{set_tied, key_tied}
 use Rattle.record_store.proofs.PutLemmas.{not_same}
 use Rattle.record_store.proofs.TiedLemmas.{IsPut, put_tied, put_reordered}
-use Rattle.record_store.proofs.ZoneForLemmas.{two_for, once_for}
+use Rattle.record_store.proofs.ZoneForLemmas.{found_for, none_for, two_for, once_for}
 
 -- what a set displaces is the set of its key
 set_tie : (new item : Record) → chain_of new ≡ None → displaces new item ≡ true → (chain_of item ≡ None) × (key_cmp item new ≡ Equal)
@@ -101,16 +101,17 @@ module _ (goings sets : List Record) (zones : List OneZone) (tied : IsTied going
       no_third item = ap (λ o. is_of (third_for (chains_for (held_in goings zones) new) o) item) none
 
   -- the same, by what the steps say
-  pub set_made : (held : Held) → held_in goings zones ≡ held → (zone : OneZone) (r : Record) → r ≡ new → IsZoneFor held r zone
-      → (cleared : List Record) (r' : Record) → r' ≡ new → AreCleared r' held.records cleared
+  pub set_made : (held : Held) → held_in goings zones ≡ held
+      → (cleared : List Record) (r : Record) → r ≡ new → AreCleared r held.records cleared
       → (made was : List Record) → was ≡ cleared → AreWith new was made → NoneDisplaces made
       → (sets' : List Record) → sets' ≡ with_entry set_cmp new sets
-      → (zones' before : List OneZone) → before ≡ zones → ((each : OneZone) → Contains zones' each ↔ ((each ≡ zone) ⊎ (Contains before each × (each.apex ≡ zone.apex → ⊥)))) → IsInOrder apex_cmp zones' → IsInOrder apex_cmp before
+      → (zones' before : List OneZone) (name : List Label) → before ≡ zones → name ≡ zone_of new → IsWithApex name before zones' → IsInOrder apex_cmp zones' → IsInOrder apex_cmp before
       → IsTied made sets' zones' × IsReordered (held_with held new) (held_in made zones')
-  set_made held view zone r same is cleared r' same' are made was is_cleared with apart sets' made_sets zones' before is_zones zones_are order ordered =
-      let is' = subst (λ h. IsZoneFor h new zone) (sym view) (subst (λ x. IsZoneFor held x zone) same is) in
-      let are' = subst (λ h. AreCleared new h.records cleared) (sym view) (subst (λ x. AreCleared x held.records cleared) same' are) in
+  set_made held view cleared r same are made was is_cleared with apart sets' made_sets zones' before name is_zones is_apex with_apex order ordered =
+      let ordered' = subst (IsInOrder apex_cmp) is_zones ordered in
+      let one = subst (λ l. IsWithApex (zone_of new) l zones') is_zones (subst (λ n. IsWithApex n before zones') is_apex with_apex) in
+      let is = ⊎_elim (λ has. found_for goings sets zones tied new ordered' one.zone has one.at) (λ absent. none_for goings sets zones tied new one.zone one.at absent.0 absent.1) one.its in
+      let are' = subst (λ h. AreCleared new h.records cleared) (sym view) (subst (λ x. AreCleared x held.records cleared) same are) in
       let with' = subst (λ l. AreWith new l made) is_cleared with in
-      let zones_are' = subst (λ l. (each : OneZone) → Contains zones' each ↔ ((each ≡ zone) ⊎ (Contains l each × (each.apex ≡ zone.apex → ⊥)))) is_zones zones_are in
-      let put = set_put zone is' cleared made sets' are' with' apart made_sets zones' zones_are' order in
-      (put_tied goings sets zones tied new zone made sets' zones' put, subst (λ h. IsReordered (held_with h new) (held_in made zones')) view (put_reordered goings sets zones tied new zone made sets' zones' put (subst (IsInOrder apex_cmp) is_zones ordered)))
+      let put = set_put one.zone is cleared made sets' are' with' apart made_sets zones' one.members order in
+      (put_tied goings sets zones tied new one.zone made sets' zones' put, subst (λ h. IsReordered (held_with h new) (held_in made zones')) view (put_reordered goings sets zones tied new one.zone made sets' zones' put ordered'))

@@ -1,22 +1,23 @@
 -- What a change makes of the list of zones, and what a zone's chains have.
-use Rattle.std.proofs.Common.{◌≡◌, ◌↔◌, ◌⊎◌, inl, inr, ◌+◌, true, false, true≢false, not, List, [], ◌∷◌, ◌++◌, length, get_or, map, Contains, Some, refl, subst, sym, ◌∙◌, ap, ⊎_elim, arith}
+use Rattle.std.proofs.Common.{◌≡◌, ◌↔◌, ◌⊎◌, inl, inr, ◌+◌, Bool, true, false, true≢false, not, List, [], ◌∷◌, ◌++◌, length, get_or, map, Contains, Some, refl, subst, sym, ◌∙◌, ap, ⊎_elim, arith}
 use Rattle.std.specs.List.{AllPairs, flat_map}
 use Rattle.std.proofs.lemmas.List.{get_or-append-add, length-append}
 use Rattle.std.proofs.lemmas.List.Elements.{All-contains, Contains-append_left, Contains-append_right, Contains-append_cases}
 use Rattle.std.proofs.lemmas.List.Prefix.{front_reads}
+use Rattle.dname.specs.Tests.{same_name}
 use Rattle.denial_records.specs.declared.record.Record.{Record}
 use Rattle.denial_records.specs.declared.record.Record.TheVariants.{Set, Nsec, Nsec3}
 use Rattle.cache_meaning.specs.Held.{ZoneChain, same_zone_chain, chain_of, displaces}
 use Rattle.held_laws.proofs.ListLemmas.{here, there, here_or_there, nothing_in}
-use Rattle.held_laws.proofs.ListedLemmas.{itself, none_some, some_same}
+use Rattle.held_laws.proofs.ListedLemmas.{itself, name_equal, name_itself, none_some, some_same}
 use Rattle.held_laws.proofs.SortLemmas.{pairs_head, pairs_tail}
 use Rattle.record_store.specs.Holding.{IsZoneOf}
 use Rattle.dname.specs.Order.{canonical_equal, canonical_same}
 use Rattle.ordered_list.specs.Order.{IsInOrder, with_entry, without_entry}
 use Rattle.std.specs.Ordering.{is_eq}
 use Rattle.ordered_list.proofs.OrderLemmas.{with_in_order, filter_in_order}
-use Rattle.ordered_list.proofs.ChangeLemmas.{with_members, without_members}
-use Rattle.zone_chains.specs.Zone.{OneChain, OneZone, chains_in, IsOfItsChain, IsOneZone, IsDenialOf}
+use Rattle.ordered_list.proofs.ChangeLemmas.{with_members, without_members, entry_is}
+use Rattle.zone_chains.specs.Zone.{OneChain, OneZone, chains_in, records_in, IsOfItsChain, IsOneZone, IsDenialOf}
 use Rattle.record_store.specs.Ranks.{apex_cmp, apexes_total}
 
 pub zones_with : (new : OneZone) (zones made : List OneZone) → made ≡ with_entry apex_cmp new zones → (each : OneZone) → Contains made each ↔ ((each ≡ new) ⊎ (Contains zones each × (each.apex ≡ new.apex → ⊥)))
@@ -38,6 +39,19 @@ zones_with_order new zones made order is = subst (IsInOrder apex_cmp) (sym is) (
 
 pub zones_without_order : (gone : OneZone) (zones made : List OneZone) → IsInOrder apex_cmp zones → made ≡ without_entry apex_cmp gone zones → IsInOrder apex_cmp made
 zones_without_order gone zones made order is = subst (IsInOrder apex_cmp) (sym is) (filter_in_order apex_cmp (λ x. not (is_eq (apex_cmp x gone))) zones order)
+
+-- a zone that is among them takes its own place
+pub zones_same : (zone : OneZone) (zones made : List OneZone) → IsInOrder apex_cmp zones → Contains zones zone → made ≡ zones → (each : OneZone) → Contains made each ↔ ((each ≡ zone) ⊎ (Contains zones each × (each.apex ≡ zone.apex → ⊥)))
+zones_same zone zones made order has is each = (
+  λ h. (let old = subst (λ l. Contains l each) is h in by old (same_name each.apex zone.apex) refl),
+  λ h. subst (λ l. Contains l each) (sym is) (⊎_elim (λ same. subst (Contains zones) (sym same) has) (λ old. old.0) h),
+)
+  where
+    by : Contains zones each → (b : Bool) → same_name each.apex zone.apex ≡ b → (each ≡ zone) ⊎ (Contains zones each × (each.apex ≡ zone.apex → ⊥))
+    by old true is' =
+        let tie = canonical_same each.apex zone.apex (name_equal each.apex zone.apex is') in
+        inl (some_same (sym (entry_is apex_cmp apexes_total zone zones order each old tie) ∙ entry_is apex_cmp apexes_total zone zones order zone has (canonical_same zone.apex zone.apex refl)))
+    by old false is' = inr (old, λ same. true≢false (sym (subst (λ z. same_name each.apex z ≡ true) same (name_itself each.apex)) ∙ is'))
 
 -- ---- the chains of a zone
 
@@ -103,6 +117,14 @@ chain_is_denial chain (Set set) is = none_some is
 chain_is_denial chain (Nsec nsec) is = ap (λ (c : ZoneChain). c.zone) (some_same is)
 chain_is_denial chain (Nsec3 nsec3) is = ap (λ (c : ZoneChain). c.zone) (some_same is)
 
+-- the zone's records of a chain are the chain's
+pub of_its_chain : (zone : OneZone) → IsOneZone zone → (each : OneChain) → Contains zone.chains each → (item : Record) → Contains (records_in zone) item → chain_of item ≡ Some each.chain → Contains each.records item
+of_its_chain zone is each listed item has of =
+    let some = some_of_flat (λ (c : OneChain). c.records) zone.chains item has in
+    let its_chain = All-contains (λ r. chain_of r ≡ Some some.0.chain) some.0.records item (All-contains IsOfItsChain zone.chains some.0 is.of_chain some.1) some.2 in
+    let one = one_chain zone.chains is.once some.0 each some.1 listed (some_same (sym its_chain ∙ of)) in
+    subst (λ (c : OneChain). Contains c.records item) one some.2
+
 module _ (goings : List Record) (zone : OneZone) (is : IsOneZone zone) (its : IsZoneOf goings zone) (each : OneChain) (listed : Contains zone.chains each) where
   pub chain_there : (item : Record) → Contains each.records item → Contains goings item
   chain_there item has = ((its item).0 (in_flat (λ (c : OneChain). c.records) zone.chains each listed item has)).0
@@ -116,7 +138,4 @@ module _ (goings : List Record) (zone : OneZone) (is : IsOneZone zone) (its : Is
   pub chain_all : (item : Record) → Contains goings item → chain_of item ≡ Some each.chain → Contains each.records item
   chain_all item has of =
       let here = All-contains (λ (chain : ZoneChain). chain.zone ≡ zone.apex) (chains_in zone) each.chain is.here (in_map kind zone.chains each listed) in
-      let some = some_of_flat (λ (c : OneChain). c.records) zone.chains item ((its item).1 (has, subst (λ a. IsDenialOf a item) here (chain_is_denial each.chain item of))) in
-      let its_chain = All-contains (λ r. chain_of r ≡ Some some.0.chain) some.0.records item (All-contains IsOfItsChain zone.chains some.0 is.of_chain some.1) some.2 in
-      let one = one_chain zone.chains is.once some.0 each some.1 listed (some_same (sym its_chain ∙ of)) in
-      subst (λ (c : OneChain). Contains c.records item) one some.2
+      of_its_chain zone is each listed item ((its item).1 (has, subst (λ a. IsDenialOf a item) here (chain_is_denial each.chain item of))) of

@@ -1,6 +1,7 @@
 -- No public clause cites this module: how the parts of a store belong together, and what its steps make of them.
-use Rattle.std.specs.Prelude.{◌≡◌, ◌<◌, ◌↔◌, ◌⊎◌, ℕ, false, List, drop, Option, None, length}
+use Rattle.std.specs.Prelude.{◌≡◌, ◌<◌, ◌≤◌, ◌↔◌, ◌⊎◌, ℕ, false, List, [], drop, get_or, Option, None, length}
 use Rattle.std.specs.List.{All, Contains, flat_map}
+use Rattle.dname.specs.Name.{Label}
 use Rattle.denial_records.specs.declared.record.Record.{Record}
 use Rattle.cache_meaning.specs.Held.{Held, ZoneChain, chain_of, zone_of, displaces, chains_held}
 use Rattle.held_laws.specs.HeldLaws.{NoneDisplaces}
@@ -56,6 +57,32 @@ AreWithout chain old left =
 abbrev pub AreWith : Record → List Record → List Record → Type 0
 AreWith new old more = (item : Record) → Contains more item ↔ ((item ≡ new) ⊎ Contains old item)
 
+-- the records that a new one leaves: it doesn't displace them, and they aren't of the chain that goes for it
+abbrev pub AreLeft : Record → Option ZoneChain → List Record → List Record → Type 0
+AreLeft new third old left =
+    (item : Record) → Contains left item
+    ↔ (Contains old item × (displaces new item ≡ false) × (is_of third item ≡ false))
+
+-- the record stands at a place from one up to another
+abbrev pub IsAt : List Record → ℕ → ℕ → Record → Type 0
+IsAt records from to item = (k : ℕ) × (from ≤ k) × (k < to) × (get_or records k item ≡ item)
+
+-- the old ones without those that stand at the places
+abbrev pub AreElsewhere : List Record → ℕ → ℕ → List Record → List Record → Type 0
+AreElsewhere records from to old left =
+    (item : Record) → Contains left item ↔ (Contains old item × (IsAt records from to item → ⊥))
+
 -- without the record
 abbrev pub AreBut : Record → List Record → List Record → Type 0
 AreBut gone old left = (item : Record) → Contains left item ↔ (Contains old item × (item ≡ gone → ⊥))
+
+-- the zones with one at the apex: one of them, or one without chains where none is
+pub record IsWithApex (name : List Label) (zones made : List OneZone) : Type 0 where
+  pub zone : OneZone
+  pub at : zone.apex ≡ name
+  pub its :
+      Contains zones zone
+      ⊎ ((zone.chains ≡ []) × ((each : OneZone) → Contains zones each → each.apex ≡ name → ⊥))
+  pub members :
+      (each : OneZone) → Contains made each
+      ↔ ((each ≡ zone) ⊎ (Contains zones each × (each.apex ≡ zone.apex → ⊥)))

@@ -1,12 +1,12 @@
 //! Records in the order in which they go, one more or one less.
-ghost use Rattle.std.specs.Prelude.{◌≡◌, ◌<◌, false, length, IfOk, Some};
+ghost use Rattle.std.specs.Prelude.{◌≡◌, ◌<◌, ◌≤◌, ◌↔◌, true, false, length, IfOk, Some};
 ghost use Rattle.std.specs.List.{AllPairs, Contains};
 ghost use Rattle.std.specs.Arc.{arc_value};
 ghost use Rattle.cache_meaning.specs.Held.{displaces};
 ghost use Rattle.held_laws.specs.HeldLaws.{NoneDisplaces};
 ghost use Rattle.zone_chains.specs.Zone.{chains_in, records_in, IsDenialOf, third_for, is_of};
 ghost use Rattle.cache_meaning.specs.Held.{chain_of};
-ghost use Rattle.record_store.specs.Holding.{IsZoneOf, AreBut, AreWith, AreCleared, AreWithout};
+ghost use Rattle.record_store.specs.Holding.{IsZoneOf, AreBut, AreWith, AreCleared, AreWithout, AreLeft, IsAt, AreElsewhere};
 
 use crate::holding::Goings;
 use denial_records::Record;
@@ -45,45 +45,53 @@ pub(crate) fn with(
     Ok(Arc::new(alloc, goings.with(alloc, new)?)?)
 }
 
-/// The records that a new denial record doesn't displace, and its zone with those of them that are its own.
-pub(crate) struct Cleared {
-    pub(crate) goings: Arc<Goings, Global>,
-    pub(crate) zone: Arc<ZoneRecords, Global>,
-}
-
-/// Takes out the records that the new denial record of the zone displaces.
-pub(crate) fn without_displaced(
+/// Without the records that go where the new denial record of the zone comes: those that it displaces, and those of the chain
+/// that goes for its own, if one does.
+pub(crate) fn without_gone(
     alloc: Global,
     goings: &Arc<Goings, Global>,
-    zone: Arc<ZoneRecords, Global>,
-    new: &Arc<Record, Global>,
-) -> Result<Cleared, OutOfMemory>
+    zone: &ZoneRecords,
+    new: &Record,
+) -> Result<Arc<Goings, Global>, OutOfMemory>
     requires apart { NoneDisplaces (arc_value goings.now) }
-    requires zone { IsZoneOf (arc_value goings.now) (arc_value zone) }
-    requires denial { IsDenialOf (arc_value zone).apex (arc_value new.now) }
-    ensures records { IfOk result (λ cleared.
-        AreCleared (arc_value new.now) (arc_value goings.now) (arc_value cleared.goings)) }
-    ensures apart { IfOk result (λ cleared. NoneDisplaces (arc_value cleared.goings)) }
-    ensures zone { IfOk result (λ cleared.
-        IsZoneOf (arc_value cleared.goings) (arc_value cleared.zone)) }
-    ensures apex { IfOk result
-        (λ cleared. (arc_value cleared.zone).apex ≡ (arc_value zone).apex) }
-    ensures chains { IfOk result (λ cleared.
-        chains_in (arc_value cleared.zone) ≡ chains_in (arc_value zone)) }
+    requires zone { IsZoneOf (arc_value goings.now) zone.now }
+    requires denial { IsDenialOf zone.now.apex new.now }
+    ensures records { IfOk result (λ left.
+        AreLeft new.now (third_for (chains_in zone.now) (chain_of new.now)) (arc_value goings.now) (arc_value left)) }
+    ensures apart { IfOk result (λ left. NoneDisplaces (arc_value left)) }
 {
-    let item: &Record = new;
-    let mut goings = Arc::try_clone(goings)?;
-    let mut zone = zone;
-    while let Some(old) = zone.displaced_by(item) {
-        let old = Arc::try_clone(old)?;
-        goings = without(alloc, &goings, &old)?;
-        zone = Arc::new(alloc, zone.without(alloc, &old)?)?;
-    }
-    Ok(Cleared { goings, zone })
+    let goings = without_third(alloc, Arc::try_clone(goings)?, zone, new)?;
+    without_displaced(alloc, goings, zone, new)
 }
 
-/// Takes out the records of the chain that goes where the new denial record of the zone comes, if one does.
-pub(crate) fn without_third(
+// Without the records that the new one displaces, which are the zone's.
+fn without_displaced(
+    alloc: Global,
+    goings: Arc<Goings, Global>,
+    zone: &ZoneRecords,
+    new: &Record,
+) -> Result<Arc<Goings, Global>, OutOfMemory>
+    requires apart { NoneDisplaces (arc_value goings) }
+    requires denial { IsDenialOf zone.now.apex new.now }
+    requires same { (old : Record) → displaces new.now old ≡ true
+        → Contains (arc_value goings) old ↔ Contains (records_in zone.now) old }
+    ensures records { IfOk result (λ left.
+        AreCleared new.now (arc_value goings) (arc_value left)) }
+    ensures apart { IfOk result (λ left. NoneDisplaces (arc_value left)) }
+{
+    // What the zone's chains have is a clause of `apex`.
+    let _apex = zone.apex();
+    match zone.met_by(new) {
+        Some((chain, met)) => {
+            let goings = without_places(alloc, goings, chain, met.from, met.to)?;
+            without_places(alloc, goings, chain, met.last, chain.len())
+        }
+        None => Ok(goings),
+    }
+}
+
+// Without the records of the chain that goes where the new denial record of the zone comes, if one does.
+fn without_third(
     alloc: Global,
     goings: Arc<Goings, Global>,
     zone: &ZoneRecords,
@@ -103,7 +111,7 @@ pub(crate) fn without_third(
     }
 }
 
-// Takes out the records of the chain.
+// Without the records of the chain.
 fn without_chain(
     alloc: Global,
     goings: Arc<Goings, Global>,
@@ -121,8 +129,29 @@ fn without_chain(
         AreWithout (Some chain.now.chain) (arc_value goings) (arc_value left)) }
     ensures apart { IfOk result (λ left. NoneDisplaces (arc_value left)) }
 {
+    without_places(alloc, goings, chain, 0, chain.len())
+}
+
+// Without the chain's records at the places from one up to another.
+fn without_places(
+    alloc: Global,
+    goings: Arc<Goings, Global>,
+    chain: &ChainRecords,
+    from: usize,
+    to: usize,
+) -> Result<Arc<Goings, Global>, OutOfMemory>
+    requires apart { NoneDisplaces (arc_value goings) }
+    requires order { from ≤ to }
+    requires in_range { to ≤ length chain.now.records }
+    requires there { (item : Record) → IsAt chain.now.records from to item
+        → Contains (arc_value goings) item }
+    requires once { AllPairs (λ one other. displaces one other ≡ false) chain.now.records }
+    ensures records { IfOk result (λ left.
+        AreElsewhere chain.now.records from to (arc_value goings) (arc_value left)) }
+    ensures apart { IfOk result (λ left. NoneDisplaces (arc_value left)) }
+{
     let mut goings = goings;
-    for i in 0..chain.len() {
+    for i in from..to {
         goings = without(alloc, &goings, chain.get(i))?;
     }
     Ok(goings)

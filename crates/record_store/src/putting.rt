@@ -6,10 +6,10 @@ ghost use Rattle.held_laws.specs.HeldLaws.{NoneDisplaces, IsReordered};
 ghost use Rattle.record_store.specs.Holding.{AreCleared};
 ghost use Rattle.record_store.specs.Putting.{IsZoneFor};
 
-use crate::goings::{Cleared, with, without, without_displaced, without_third};
+use crate::goings::{with, without, without_gone};
 use crate::holding::{Goings, Holding};
 use crate::ranks::zone_of;
-use crate::zones::{with_zone, zone_at};
+use crate::zones::{with_apex, with_zone, zone_at};
 use denial_records::Record;
 use dname::OutOfMemory;
 use std::alloc::Global;
@@ -36,8 +36,7 @@ impl Holding {
         ensures { IfOk result (λ made. IsReordered (held_with self.now (arc_value new)) made) }
     {
         let goings = self.without_set(alloc, &new)?;
-        let zone = self.zone_or_new(alloc, &new)?;
-        let zones = with_zone(alloc, &self.zones, zone)?;
+        let zones = with_apex(alloc, &self.zones, zone_of(&new))?;
         let sets = Arc::new(alloc, self.sets.with(alloc, Arc::try_clone(&new)?)?)?;
         let goings = with(alloc, &goings, new)?;
         Ok(Holding {
@@ -65,8 +64,7 @@ impl Holding {
         ensures { IfOk result (λ made. IsReordered (held_with self.now (arc_value new)) made) }
     {
         let zone = self.zone_or_new(alloc, &new)?;
-        let Cleared { goings, zone } = without_displaced(alloc, &self.goings, zone, &new)?;
-        let goings = without_third(alloc, goings, &zone, &new)?;
+        let goings = without_gone(alloc, &self.goings, &zone, &new)?;
         let zone = Arc::new(alloc, zone.with(alloc, Arc::try_clone(&new)?)?)?;
         // What its chains have is a clause of `apex`.
         let _apex = zone.apex();

@@ -6,6 +6,7 @@ ghost use Rattle.cache_meaning.specs.Held.{chain_of, zone_of};
 ghost use Rattle.denial_records.specs.declared.record.Record.{Record};
 ghost use Rattle.ordered_list.specs.Order.{IsInOrder};
 ghost use Rattle.zone_chains.specs.Zone.{OneZone};
+ghost use Rattle.record_store.specs.Holding.{IsWithApex};
 ghost use Rattle.record_store.specs.Ranks.{apex_cmp};
 
 use crate::holding::{Sets, Zones};
@@ -46,6 +47,26 @@ pub(crate) fn with_zone(
     ensures was_ordered { IsInOrder apex_cmp zones.now }
 {
     Ok(Arc::new(alloc, zones.with(alloc, zone)?)?)
+}
+
+/// With a zone at the apex: the same list where it has one, else with one that has no chain.
+pub(crate) fn with_apex(
+    alloc: Global,
+    zones: &Arc<Zones, Global>,
+    apex: &Name,
+) -> Result<Arc<Zones, Global>, OutOfMemory>
+    ensures zones { IfOk result (λ made.
+        IsWithApex apex.now (arc_value zones.now) (arc_value made)) }
+    ensures order { IfOk result (λ made. IsInOrder apex_cmp (arc_value made)) }
+    ensures was_ordered { IsInOrder apex_cmp (arc_value zones.now) }
+{
+    match zone_at(zones, apex) {
+        Some(_) => Arc::try_clone(zones),
+        None => {
+            let zone = Arc::new(alloc, ZoneRecords::of(apex.copy()))?;
+            with_zone(alloc, zones, zone)
+        }
+    }
 }
 
 /// Without the zone of that apex.

@@ -159,7 +159,7 @@ of_two_chains one other (Nsec3 nsec3) (Nsec3 nsec3') is are differ =
 
 -- ---- the records of one chain
 
-not_true : (b c : Bool) → b ≡ not c → b ≡ true → c ≡ false
+pub not_true : (b c : Bool) → b ≡ not c → b ≡ true → c ≡ false
 not_true b true is h = absurd (true≢false (sym h ∙ is))
 not_true b false is h = refl
 

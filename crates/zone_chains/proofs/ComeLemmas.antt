@@ -1,5 +1,5 @@
 -- What a zone's chains are after a record comes or goes.
-use Rattle.std.proofs.Common.{◌++◌, length, ◌+◌, arith, ◌≡◌, ◌≢◌, ◌↔◌, Bool, true, false, not, ◌||◌, true≢false, ◌⊎◌, inl, inr, ⊎_elim, List, [], ◌∷◌, cond, map, Contains, MatchOption, Option, Some, None, Result, Ok, Err, IfOk, refl, sym, ◌∙◌, ap, subst}
+use Rattle.std.proofs.Common.{◌++◌, length, get_or, ℕ, ◌<◌, ◌+◌, arith, ◌≡◌, ◌≢◌, ◌↔◌, Bool, true, false, not, ◌||◌, true≢false, ◌⊎◌, inl, inr, ⊎_elim, List, [], ◌∷◌, cond, map, Contains, MatchOption, Option, Some, None, Result, Ok, Err, IfOk, refl, sym, ◌∙◌, ap, subst}
 use Rattle.std.specs.List.{flat_map, list_any}
 use Rattle.std.specs.Option.{option_map}
 use Rattle.std.proofs.lemmas.List.{append-nil, length-append}
@@ -8,6 +8,7 @@ use Rattle.dname.specs.Name.{Label}
 use Rattle.denial_records.specs.declared.record.Record.{Record}
 use Rattle.denial_records.specs.declared.record.Record.TheVariants.{Set, Nsec, Nsec3}
 use Rattle.cache_meaning.specs.Held.{ZoneChain, same_zone_chain, is_that_chain, chain_of, is_of_chain, displaces}
+use Rattle.range_index.specs.Arcs.{FailInRuns}
 use Rattle.zone_chains.specs.Zone.{OneChain, OneZone, chains_in, records_in, IsDenialOf, chains_with, third_for, is_of}
 use Rattle.zone_chains.specs.Views.{apart_in, IsChain, IsChainOf, AreChains}
 use Rattle.zone_chains.specs.Changes.{alone, joined, parted, came, went, OneHas}
@@ -50,19 +51,19 @@ is_in_two a b r (inr h) = Contains-append_right a.records (held (b ∷ [])) r (i
 pub record HasCome (apex : List Label) (chain : ZoneChain) (new : Record) (xs made : List OneChain) : Type 0 where
   pub chains : AreChains apex made
   pub names : listed made ≡ chains_with (listed xs) (Some chain)
-  pub members : (r : Record) → Contains (held made) r ↔ ((r ≡ new) ⊎ (Contains (held xs) r × (is_of (third_for (listed xs) (Some chain)) r ≡ false)))
+  pub members : (r : Record) → Contains (held made) r ↔ ((r ≡ new) ⊎ (Contains (held xs) r × (displaces new r ≡ false) × (is_of (third_for (listed xs) (Some chain)) r ≡ false)))
 
 -- where no chain goes
-nothing_goes : {M O : Type 0} (new r : Record) (gone : Option ZoneChain) → gone ≡ None → M ↔ ((r ≡ new) ⊎ O) → M ↔ ((r ≡ new) ⊎ (O × (is_of gone r ≡ false)))
-nothing_goes {M} {O} new r gone none both = (λ m. there_too (both.0 m), λ h. both.1 (from h))
+nothing_goes : {M O D : Type 0} (new r : Record) (gone : Option ZoneChain) → gone ≡ None → M ↔ ((r ≡ new) ⊎ (O × D)) → M ↔ ((r ≡ new) ⊎ (O × D × (is_of gone r ≡ false)))
+nothing_goes {M} {O} {D} new r gone none both = (λ m. there_too (both.0 m), λ h. both.1 (from h))
   where
-    there_too : (r ≡ new) ⊎ O → (r ≡ new) ⊎ (O × (is_of gone r ≡ false))
+    there_too : (r ≡ new) ⊎ (O × D) → (r ≡ new) ⊎ (O × D × (is_of gone r ≡ false))
     there_too (inl same) = inl same
-    there_too (inr o) = inr (o, ap (λ g. is_of g r) none)
+    there_too (inr o) = inr (o.0, o.1, ap (λ g. is_of g r) none)
 
-    from : (r ≡ new) ⊎ (O × (is_of gone r ≡ false)) → (r ≡ new) ⊎ O
+    from : (r ≡ new) ⊎ (O × D × (is_of gone r ≡ false)) → (r ≡ new) ⊎ (O × D)
     from (inl same) = inl same
-    from (inr o) = inr o.0
+    from (inr o) = inr (o.0, o.1)
 
 or_it : (b : Bool) → b ≡ true → (b || false) ≡ true
 or_it b is = rw is refl
@@ -83,84 +84,92 @@ module _ (apex : List Label) (chain : ZoneChain) (new : Record) (of_it : chain_o
   joins : (each : OneChain) → IsChainOf apex each → is_of_chain each.chain new ≡ true → IsChainOf apex (joined new each)
   joins each it is = record { here = it.here; chain = joined_is each new it.chain (of_chain each.chain new is) }
 
-  has_joined : (each : OneChain) → IsChain each → is_of_chain each.chain new ≡ true → ((old : Record) → Contains each.records old → displaces new old ≡ false) → (r : Record) → Contains (joined new each).records r ↔ ((r ≡ new) ⊎ Contains each.records r)
-  has_joined each it is apart = joined_has each new it (of_chain each.chain new is) apart
+  has_joined : (each : OneChain) → IsChain each → is_of_chain each.chain new ≡ true → (r : Record) → Contains (joined new each).records r ↔ ((r ≡ new) ⊎ (Contains each.records r × (displaces new r ≡ false)))
+  has_joined each it is = joined_has each new it (of_chain each.chain new is)
+
+  -- records of another chain stay
+  spared : (each : OneChain) → IsChain each → same_zone_chain chain each.chain ≡ false → (r : Record) → Contains each.records r → displaces new r ≡ false
+  spared each it differ r has = of_two_chains chain each.chain new r of_it (its_chain each it r has) differ
+
+  -- the record's chain is the first
+  differs_from : (a b : OneChain) → same_zone_chain a.chain b.chain ≡ false → is_of_chain a.chain new ≡ true → same_zone_chain chain b.chain ≡ false
+  differs_from a b differ is = ap (λ c. same_zone_chain c b.chain) (some_same (sym of_it ∙ of_chain a.chain new is)) ∙ differ
 
   came_none : HasCome apex chain new [] (alone chain new ∷ [])
   came_none = record {
     chains = its_own;
     names = refl;
-    members = λ r. nothing_goes new r None refl ((λ h. ⊎_elim (λ same. inl same) (λ k. inr k) (here_or_there new [] r h)), λ h. ⊎_elim (λ same. subst (λ z. Contains (z ∷ []) r) same (here r [])) (λ k. absurd (nothing_in r k)) h);
+    members = λ r. nothing_goes new r None refl ((λ h. ⊎_elim (λ same. inl same) (λ k. absurd (nothing_in r k)) (here_or_there new [] r h)), λ h. ⊎_elim (λ same. subst (λ z. Contains (z ∷ []) r) same (here r [])) (λ k. absurd (nothing_in r k.0)) h);
   }
 
-  came_one : (a : OneChain) → IsChainOf apex a → ((old : Record) → Contains (held (a ∷ [])) old → displaces new old ≡ false) → (b : Bool) → is_of_chain a.chain new ≡ b → HasCome apex chain new (a ∷ []) (cond b (joined new a ∷ []) (alone chain new ∷ a ∷ []))
-  came_one a it apart true is =
+  came_one : (a : OneChain) → IsChainOf apex a → (b : Bool) → is_of_chain a.chain new ≡ b → HasCome apex chain new (a ∷ []) (cond b (joined new a ∷ []) (alone chain new ∷ a ∷ []))
+  came_one a it true is =
       let test : same_zone_chain chain a.chain ≡ true = tested a true is in
       record {
         chains = joins a it is;
         names = rw test refl;
         members = λ r. nothing_goes new r (third_for (listed (a ∷ [])) (Some chain)) (rw test refl)
-            (let has = has_joined a it.chain is (λ old h. apart old (is_in_one a old h)) r in
-            ((λ h. ⊎_elim (λ same. inl same) (λ k. inr (is_in_one a r k)) (has.0 (in_one (joined new a) r h))), λ h. is_in_one (joined new a) r (has.1 (⊎_elim (λ same. inl same) (λ k. inr (in_one a r k)) h))));
+            (let has = has_joined a it.chain is r in
+            ((λ h. ⊎_elim (λ same. inl same) (λ k. inr (is_in_one a r k.0, k.1)) (has.0 (in_one (joined new a) r h))), λ h. is_in_one (joined new a) r (has.1 (⊎_elim (λ same. inl same) (λ k. inr (in_one a r k.0, k.1)) h))));
       }
-  came_one a it apart false is =
+  came_one a it false is =
       let test : same_zone_chain chain a.chain ≡ false = tested a false is in
       record {
         chains = (its_own, it, test);
         names = rw test refl;
         members = λ r. nothing_goes new r (third_for (listed (a ∷ [])) (Some chain)) (rw test refl)
-            ((λ h. here_or_there new (held (a ∷ [])) r h), λ h. ⊎_elim (λ same. subst (λ z. Contains (z ∷ held (a ∷ [])) r) same (here r (held (a ∷ [])))) (λ k. there new (held (a ∷ [])) r k) h);
+            ((λ h. ⊎_elim (λ same. inl same) (λ k. inr (k, spared a it.chain test r (in_one a r k))) (here_or_there new (held (a ∷ [])) r h)), λ h. ⊎_elim (λ same. subst (λ z. Contains (z ∷ held (a ∷ [])) r) same (here r (held (a ∷ [])))) (λ k. there new (held (a ∷ [])) r k.0) h);
       }
 
-  came_two : (a b : OneChain) → AreChains apex (a ∷ b ∷ []) → ((old : Record) → Contains (held (a ∷ b ∷ [])) old → displaces new old ≡ false) → (t u : Bool) → is_of_chain a.chain new ≡ t → is_of_chain b.chain new ≡ u → HasCome apex chain new (a ∷ b ∷ []) (cond t (joined new a ∷ b ∷ []) (cond u (a ∷ joined new b ∷ []) (alone chain new ∷ a ∷ [])))
-  came_two a b it apart true u is are =
+  came_two : (a b : OneChain) → AreChains apex (a ∷ b ∷ []) → (t u : Bool) → is_of_chain a.chain new ≡ t → is_of_chain b.chain new ≡ u → HasCome apex chain new (a ∷ b ∷ []) (cond t (joined new a ∷ b ∷ []) (cond u (a ∷ joined new b ∷ []) (alone chain new ∷ a ∷ [])))
+  came_two a b it true u is are =
       let test : same_zone_chain chain a.chain ≡ true = tested a true is in
       record {
         chains = (joins a it.0 is, it.1, it.2);
         names = rw test refl;
         members = λ r. nothing_goes new r (third_for (listed (a ∷ b ∷ [])) (Some chain)) (rw test refl)
-            (let has = has_joined a it.0.chain is (λ old h. apart old (is_in_two a b old (inl h))) r in (
-              (λ h. ⊎_elim (λ k. ⊎_elim (λ same. inl same) (λ l. inr (is_in_two a b r (inl l))) (has.0 k)) (λ k. inr (is_in_two a b r (inr k))) (in_two (joined new a) b r h)),
-              λ h. is_in_two (joined new a) b r (⊎_elim (λ same. inl (has.1 (inl same))) (λ k. ⊎_elim (λ l. inl (has.1 (inr l))) (λ l. inr l) (in_two a b r k)) h),
+            (let has = has_joined a it.0.chain is r in (
+              (λ h. ⊎_elim (λ k. ⊎_elim (λ same. inl same) (λ l. inr (is_in_two a b r (inl l.0), l.1)) (has.0 k)) (λ k. inr (is_in_two a b r (inr k), spared b it.1.chain (differs_from a b it.2 is) r k)) (in_two (joined new a) b r h)),
+              λ h. is_in_two (joined new a) b r (⊎_elim (λ same. inl (has.1 (inl same))) (λ k. ⊎_elim (λ l. inl (has.1 (inr (l, k.1)))) (λ l. inr l) (in_two a b r k.0)) h),
             ));
       }
-  came_two a b it apart false true is are =
+  came_two a b it false true is are =
       let test : same_zone_chain chain a.chain ≡ false = tested a false is in
       let second : same_zone_chain chain b.chain ≡ true = tested b true are in
       record {
         chains = (it.0, joins b it.1 are, it.2);
         names = rw (test, second) refl;
         members = λ r. nothing_goes new r (third_for (listed (a ∷ b ∷ [])) (Some chain)) (rw (test, second) refl)
-            (let has = has_joined b it.1.chain are (λ old h. apart old (is_in_two a b old (inr h))) r in (
-              (λ h. ⊎_elim (λ k. inr (is_in_two a b r (inl k))) (λ k. ⊎_elim (λ same. inl same) (λ l. inr (is_in_two a b r (inr l))) (has.0 k)) (in_two a (joined new b) r h)),
-              λ h. is_in_two a (joined new b) r (⊎_elim (λ same. inr (has.1 (inl same))) (λ k. ⊎_elim (λ l. inl l) (λ l. inr (has.1 (inr l))) (in_two a b r k)) h),
+            (let has = has_joined b it.1.chain are r in (
+              (λ h. ⊎_elim (λ k. inr (is_in_two a b r (inl k), spared a it.0.chain test r k)) (λ k. ⊎_elim (λ same. inl same) (λ l. inr (is_in_two a b r (inr l.0), l.1)) (has.0 k)) (in_two a (joined new b) r h)),
+              λ h. is_in_two a (joined new b) r (⊎_elim (λ same. inr (has.1 (inl same))) (λ k. ⊎_elim (λ l. inl l) (λ l. inr (has.1 (inr (l, k.1)))) (in_two a b r k.0)) h),
             ));
       }
-  came_two a b it apart false false is are =
+  came_two a b it false false is are =
       let test : same_zone_chain chain a.chain ≡ false = tested a false is in
       let second : same_zone_chain chain b.chain ≡ false = tested b false are in
       record {
         chains = (its_own, it.0, test);
         names = rw (test, second) refl;
-        members = λ r. rw (test, second) ((λ h. ⊎_elim (λ same. inl same) (λ k. stays_in r (in_one a r k)) (here_or_there new (held (a ∷ [])) r h)), λ h. from r h);
+        members = λ r. rw (test, second) ((λ h. ⊎_elim (λ same. inl same) (λ k. stays_in r test (in_one a r k)) (here_or_there new (held (a ∷ [])) r h)), λ h. from r h);
       }
     where
-      stays_in : (r : Record) → Contains a.records r → (r ≡ new) ⊎ (Contains (held (a ∷ b ∷ [])) r × (is_of_chain b.chain r ≡ false))
-      stays_in r h = inr (is_in_two a b r (inl h), of_other a.chain b.chain r (its_chain a it.0.chain r h) (other_way b.chain a.chain ∙ it.2))
+      stays_in : (r : Record) → same_zone_chain chain a.chain ≡ false → Contains a.records r → (r ≡ new) ⊎ (Contains (held (a ∷ b ∷ [])) r × (displaces new r ≡ false) × (is_of_chain b.chain r ≡ false))
+      stays_in r test h = inr (is_in_two a b r (inl h), spared a it.0.chain test r h, of_other a.chain b.chain r (its_chain a it.0.chain r h) (other_way b.chain a.chain ∙ it.2))
 
       older : (r : Record) → is_of_chain b.chain r ≡ false → Contains a.records r ⊎ Contains b.records r → Contains a.records r
       older r other (inl h) = h
       older r other (inr h) = absurd (true≢false (sym (is_of_it b.chain r (its_chain b it.1.chain r h)) ∙ other))
 
-      from : (r : Record) → (r ≡ new) ⊎ (Contains (held (a ∷ b ∷ [])) r × (is_of_chain b.chain r ≡ false)) → Contains (new ∷ held (a ∷ [])) r
+      from : (r : Record) → (r ≡ new) ⊎ (Contains (held (a ∷ b ∷ [])) r × (displaces new r ≡ false) × (is_of_chain b.chain r ≡ false)) → Contains (new ∷ held (a ∷ [])) r
       from r (inl same) = subst (λ z. Contains (z ∷ held (a ∷ [])) r) same (here r (held (a ∷ [])))
-      from r (inr h) = there new (held (a ∷ [])) r (is_in_one a r (older r h.1 (in_two a b r h.0)))
+      from r (inr h) = there new (held (a ∷ [])) r (is_in_one a r (older r h.2 (in_two a b r h.0)))
 
-  pub has_come : (xs : List OneChain) → AreChains apex xs → ((old : Record) → Contains (held xs) old → displaces new old ≡ false) → HasCome apex chain new xs (came chain new xs)
-  has_come [] it apart = came_none
-  has_come (a ∷ []) it apart = came_one a it apart (is_of_chain a.chain new) refl
-  has_come (a ∷ b ∷ []) it apart = came_two a b it apart (is_of_chain a.chain new) (is_of_chain b.chain new) refl refl
-  has_come (a ∷ b ∷ c ∷ rest) it apart = absurd it
+  pub has_come : (xs : List OneChain) → AreChains apex xs → HasCome apex chain new xs (came chain new xs)
+  has_come [] it = came_none
+  has_come (a ∷ []) it = came_one a it (is_of_chain a.chain new) refl
+  has_come (a ∷ b ∷ []) it = came_two a b it (is_of_chain a.chain new) (is_of_chain b.chain new) refl refl
+  has_come (a ∷ b ∷ c ∷ rest) it = absurd it
 
 -- ---- a record goes
 
@@ -256,6 +265,21 @@ among apex (a ∷ b ∷ []) it r has =
     ⊎_elim (λ h. (a, here a (b ∷ []), it.0.chain, h)) (λ h. (b, there a (b ∷ []) b (here b []), it.1.chain, h)) (in_two a b r has)
 among apex (a ∷ b ∷ c ∷ rest) it r has = absurd it
 
+-- the places of what meets the new record's arc are those of what it displaces
+pub met_at : (each : OneChain) → IsChain each → (new : Record) → chain_of new ≡ Some each.chain → (from to last : ℕ) → FailInRuns (apart_in each.chain.chain new) each.records from to last → FailInRuns (λ old. not (displaces new old)) each.records from to last
+met_at each it new of_it from to last runs = record {
+  order = runs.order;
+  between = runs.between;
+  in_range = runs.in_range;
+  before_from = λ k d low high. sym (same k d (omega (arith, high, runs.order, runs.between, runs.in_range))) ∙ runs.before_from k d low high;
+  up_to = λ k d low high. sym (same k d (omega (arith, high, runs.between, runs.in_range))) ∙ runs.up_to k d low high;
+  before_last = λ k d low high. sym (same k d (omega (arith, high, runs.in_range))) ∙ runs.before_last k d low high;
+  from_last = λ k d low high. sym (same k d high) ∙ runs.from_last k d low high;
+}
+  where
+    same : (k : ℕ) (d : Record) → k < length each.records → apart_in each.chain.chain new (get_or each.records k d) ≡ not (displaces new (get_or each.records k d))
+    same k d within = apart_is each.chain.zone each.chain.chain new (get_or each.records k d) of_it (it.of_chain k d within)
+
 module _ (new : Record) {F : Type 0} (value : F → Record) where
   abbrev AreMet : List Record → Option F → Type 0
   AreMet records o = MatchOption o ((old : Record) → Contains records old → displaces new old ≡ false) (λ old. Contains records (value old) × (displaces new (value old) ≡ true))
@@ -324,26 +348,26 @@ none_met apex xs it new denial none old has = by new denial none
 pub record CameTo (value : OneZone) (new : Record) (apex : List Label) (made : ZoneChains) : Type 0 where
   pub chains : AreChains apex (chains_by made)
   pub names : chains_in (zone_by apex made) ≡ chains_with (chains_in value) (chain_of new)
-  pub members : (r : Record) → Contains (records_in (zone_by apex made)) r ↔ ((r ≡ new) ⊎ (Contains (records_in value) r × (is_of (third_for (chains_in value) (chain_of new)) r ≡ false)))
+  pub members : (r : Record) → Contains (records_in (zone_by apex made)) r ↔ ((r ≡ new) ⊎ (Contains (records_in value) r × (displaces new r ≡ false) × (is_of (third_for (chains_in value) (chain_of new)) r ≡ false)))
 
 abbrev HasComeBy : List Label → Record → List OneChain → List OneChain → Option ZoneChain → Type 0
 HasComeBy apex new xs made of_it =
     AreChains apex made
     × (listed made ≡ chains_with (listed xs) of_it)
-    × ((r : Record) → Contains (held made) r ↔ ((r ≡ new) ⊎ (Contains (held xs) r × (is_of (third_for (listed xs) of_it) r ≡ false))))
+    × ((r : Record) → Contains (held made) r ↔ ((r ≡ new) ⊎ (Contains (held xs) r × (displaces new r ≡ false) × (is_of (third_for (listed xs) of_it) r ≡ false))))
 
 some_chain : (apex : List Label) (new : Record) → IsDenialOf apex new → (chain : ZoneChain) × (chain_of new ≡ Some chain)
 some_chain apex (Set set) h = absurd h
 some_chain apex (Nsec nsec) h = (_, refl)
 some_chain apex (Nsec3 nsec3) h = (_, refl)
 
-pub came_by : (apex apex' : List Label) (old made : ZoneChains) (value : OneZone) (new : Record) → zone_by apex old ≡ value → AreChains apex (chains_by old) → apex' ≡ apex → IsDenialOf value.apex new → ((r : Record) → Contains (records_in value) r → displaces new r ≡ false) → ((chain : ZoneChain) → chain_of new ≡ Some chain → chains_by made ≡ came chain new (chains_by old)) → CameTo value new apex' made
-came_by apex apex' old made value new is it same = subst (λ (v : OneZone). IsDenialOf v.apex new → ((r : Record) → Contains (records_in v) r → displaces new r ≡ false) → ((chain : ZoneChain) → chain_of new ≡ Some chain → chains_by made ≡ came chain new (chains_by old)) → CameTo v new apex' made) is by
+pub came_by : (apex apex' : List Label) (old made : ZoneChains) (value : OneZone) (new : Record) → zone_by apex old ≡ value → AreChains apex (chains_by old) → apex' ≡ apex → IsDenialOf value.apex new → ((chain : ZoneChain) → chain_of new ≡ Some chain → chains_by made ≡ came chain new (chains_by old)) → CameTo value new apex' made
+came_by apex apex' old made value new is it same = subst (λ (v : OneZone). IsDenialOf v.apex new → ((chain : ZoneChain) → chain_of new ≡ Some chain → chains_by made ≡ came chain new (chains_by old)) → CameTo v new apex' made) is by
   where
-    by : IsDenialOf apex new → ((r : Record) → Contains (held (chains_by old)) r → displaces new r ≡ false) → ((chain : ZoneChain) → chain_of new ≡ Some chain → chains_by made ≡ came chain new (chains_by old)) → CameTo (zone_by apex old) new apex' made
-    by denial apart makes =
+    by : IsDenialOf apex new → ((chain : ZoneChain) → chain_of new ≡ Some chain → chains_by made ≡ came chain new (chains_by old)) → CameTo (zone_by apex old) new apex' made
+    by denial makes =
         let its = some_chain apex new denial in
-        let has = has_come apex its.0 new its.1 denial (chains_by old) it apart in
+        let has = has_come apex its.0 new its.1 denial (chains_by old) it in
         let all : HasComeBy apex' new (chains_by old) (chains_by made) (chain_of new) =
         subst (λ a. HasComeBy a new (chains_by old) (chains_by made) (chain_of new)) (sym same)
         (subst (λ m. HasComeBy apex new (chains_by old) m (chain_of new)) (sym (makes its.0 its.1))

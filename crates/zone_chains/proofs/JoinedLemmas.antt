@@ -21,7 +21,7 @@ use Rattle.zone_chains.specs.Spans.{kind_by, records_by, chain_by}
 use Rattle.zone_chains.specs.Changes.{records_with, records_without, alone, joined, parted}
 use Rattle.zone_chains.specs.declared.chain_records.ChainSpans.{ChainSpans}
 use Rattle.zone_chains.proofs.ListLemmas.{here_or_there, nothing_in, AllPairs-one, AllPairs-head, AllPairs-tail}
-use Rattle.zone_chains.proofs.ChainLemmas.{apart_is}
+use Rattle.zone_chains.proofs.ChainLemmas.{apart_is, not_true}
 
 -- ---- a record alone
 
@@ -55,23 +55,22 @@ joined_is each new it of_it = let made : List Record = records_with each.chain.c
     by r (inl same) = ap chain_of same ∙ of_it
     by r (inr old) = All-contains (λ item. chain_of item ≡ Some each.chain) each.records r it.of_chain old.0
 
-pub joined_has : (each : OneChain) (new : Record) → IsChain each → chain_of new ≡ Some each.chain → ((old : Record) → Contains each.records old → displaces new old ≡ false) → (r : Record) → Contains (joined new each).records r ↔ ((r ≡ new) ⊎ Contains each.records r)
-joined_has each new it of_it apart r = (λ h. there (has.0 h), λ h. has.1 (from h))
+pub joined_has : (each : OneChain) (new : Record) → IsChain each → chain_of new ≡ Some each.chain → (r : Record) → Contains (joined new each).records r ↔ ((r ≡ new) ⊎ (Contains each.records r × (displaces new r ≡ false)))
+joined_has each new it of_it r = (λ h. there (has.0 h), λ h. has.1 (from h))
   where
     has : Contains (records_with each.chain.chain new each.records) r ↔ ((r ≡ new) ⊎ (Contains each.records r × (apart_in each.chain.chain new r ≡ true)))
     has = with_has each.chain.chain new each.records r
 
-    there : (r ≡ new) ⊎ (Contains each.records r × (apart_in each.chain.chain new r ≡ true)) → (r ≡ new) ⊎ Contains each.records r
-    there (inl same) = inl same
-    there (inr old) = inr old.0
+    is_apart : Contains each.records r → apart_in each.chain.chain new r ≡ not (displaces new r)
+    is_apart old = apart_is each.chain.zone each.chain.chain new r of_it (All-contains (λ item. chain_of item ≡ Some each.chain) each.records r it.of_chain old)
 
-    from : (r ≡ new) ⊎ Contains each.records r → (r ≡ new) ⊎ (Contains each.records r × (apart_in each.chain.chain new r ≡ true))
+    there : (r ≡ new) ⊎ (Contains each.records r × (apart_in each.chain.chain new r ≡ true)) → (r ≡ new) ⊎ (Contains each.records r × (displaces new r ≡ false))
+    there (inl same) = inl same
+    there (inr old) = inr (old.0, not_true _ _ (is_apart old.0) old.1)
+
+    from : (r ≡ new) ⊎ (Contains each.records r × (displaces new r ≡ false)) → (r ≡ new) ⊎ (Contains each.records r × (apart_in each.chain.chain new r ≡ true))
     from (inl same) = inl same
-    from (inr old) = inr (
-      old,
-      apart_is each.chain.zone each.chain.chain new r of_it (All-contains (λ item. chain_of item ≡ Some each.chain) each.records r it.of_chain old)
-          ∙ ap not (apart r old),
-    )
+    from (inr old) = inr (old.0, is_apart old.0 ∙ ap not old.1)
 
 -- ---- one less
 

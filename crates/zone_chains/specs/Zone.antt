@@ -1,10 +1,11 @@
 -- The denial records of one zone that are held, chain by chain.
-use Rattle.std.specs.Prelude.{◌≡◌, ◌≤◌, length, nat_lt, Bool, false, not, if◌then◌else◌, List, ◌∷◌, take, map, Option, Some, None}
+use Rattle.std.specs.Prelude.{◌≡◌, ◌≤◌, ℕ, length, nat_lt, Bool, false, not, if◌then◌else◌, List, ◌∷◌, take, map, Option, Some, None}
 use Rattle.std.specs.List.{All, AllPairs, Contains, flat_map, list_any}
 use Rattle.dname.specs.Name.{Label}
 use Rattle.denial_records.specs.declared.record.Record.{Record}
 use Rattle.denial_records.specs.declared.record.Record.TheVariants.{Set, Nsec, Nsec3}
 use Rattle.cache_meaning.specs.Held.{ZoneChain, same_zone_chain, chain_of, is_of_chain, displaces, third_of}
+use Rattle.range_index.specs.Arcs.{FailInRuns}
 
 -- a chain of a zone, and its records that are held
 pub record OneChain : Type 0 where
@@ -65,6 +66,12 @@ abbrev pub third_for : List ZoneChain → Option ZoneChain → Option ZoneChain
 third_for chains None = None
 third_for chains (Some chain) =
     if list_any (same_zone_chain chain) chains then None else third_of (chain ∷ chains)
+
+-- the chain is the new record's, which displaces its records at the places from one up to another, and from the last on
+pub record DisplacesAt (new : Record) (zone : OneZone) (each : OneChain) (from to last : ℕ) : Type 0 where
+  pub listed : Contains zone.chains each
+  pub its : chain_of new ≡ Some each.chain
+  pub runs : FailInRuns (λ old. not (displaces new old)) each.records from to last
 
 -- the record is of that chain, if there is one
 abbrev pub is_of : Option ZoneChain → Record → Bool

@@ -1,10 +1,10 @@
 //! The denial records of one chain.
-ghost use Rattle.std.specs.Prelude.{◌≡◌, ◌<◌, length, slice_index_or, [], ◌∷◌, Some, IfSome, IfOk};
+ghost use Rattle.std.specs.Prelude.{◌≡◌, ◌<◌, not, length, slice_index_or, [], ◌∷◌, Some, IfSome, IfOk};
 ghost use Rattle.std.specs.Arc.{arc_value};
 ghost use Rattle.std.specs.Option.{option_map};
 ghost use Rattle.std.specs.Str.{bytes_eq};
-ghost use Rattle.cache_meaning.specs.Held.{chain_of, is_of_chain, same_parameters, zone_of};
-ghost use Rattle.range_index.specs.Arcs.{AreOfFrame};
+ghost use Rattle.cache_meaning.specs.Held.{chain_of, is_of_chain, displaces, same_parameters, zone_of};
+ghost use Rattle.range_index.specs.Arcs.{AreOfFrame, FailInRuns};
 ghost use Rattle.range_index.specs.Marks.{name_mark};
 ghost use Rattle.cache_meaning.specs.Zones.{as_nsec_at, as_nsec3_at};
 ghost use Rattle.cache_meaning.specs.Evidence.{nsec_matches};
@@ -21,7 +21,7 @@ use crate::nsec3_span::{ByHash, NO_HASH, nsec3_in};
 use cache_meaning::{Chain, Place};
 use denial_records::{HASH_OCTETS, Nsec3Rec, NsecRec, Record};
 use dname::{Name, Octets, OutOfMemory};
-use range_index::Arcs;
+use range_index::{Arcs, Met};
 use std::alloc::Global;
 use std::marker::Model;
 use std::sync::Arc;
@@ -199,6 +199,27 @@ impl ChainRecords {
             ChainSpans::Nsec(arcs) => one_met(arcs, new),
             ChainSpans::Nsec3 { arcs, .. } => one_met(arcs, new),
         }
+    }
+
+    /// The places of the records that a new one of the chain displaces.
+    pub(crate) fn met_by(&self, new: &Record) -> Met
+        requires { chain_of new.now ≡ Some self.now.chain }
+        ensures { FailInRuns (λ old. not (displaces new.now old)) self.now.records
+            result.from result.to result.last }
+    {
+        spans_met(&self.spans, new)
+    }
+}
+
+// The places of the spans that the new one meets.
+fn spans_met(spans: &ChainSpans, new: &Record) -> Met
+    requires { AreOfFrame zone_of name_mark (zone_of new.now) (records_by spans.now) }
+    ensures { FailInRuns (apart_in (kind_by spans.now) new.now) (records_by spans.now)
+        result.from result.to result.last }
+{
+    match spans {
+        ChainSpans::Nsec(arcs) => arcs.met_by(new),
+        ChainSpans::Nsec3 { arcs, .. } => arcs.met_by(new),
     }
 }
 

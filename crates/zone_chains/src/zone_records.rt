@@ -9,7 +9,7 @@ ghost use Rattle.cache_meaning.specs.Held.{chain_of, is_of_chain, displaces};
 ghost use Rattle.cache_meaning.specs.Zones.{as_nsec_at, as_nsec3_at, IsInArc};
 ghost use Rattle.cache_meaning.specs.Evidence.{nsec_matches};
 ghost use Rattle.cache_meaning.specs.Lent.{lent_chain, parameters_by, place_by};
-ghost use Rattle.zone_chains.specs.Zone.{chains_in, records_in, IsOneZone, IsChosen, IsDenialOf, is_new_to, chains_with, third_for, is_of, has_records};
+ghost use Rattle.zone_chains.specs.Zone.{chains_in, records_in, IsOneZone, IsChosen, IsDenialOf, is_new_to, chains_with, third_for, DisplacesAt, is_of, has_records};
 ghost use Rattle.zone_chains.specs.Views.{AreChains};
 
 use crate::chain_records::ChainRecords;
@@ -18,6 +18,7 @@ use crate::zone_chains::ZoneChains;
 use cache_meaning::{Chain, Place};
 use denial_records::{HASH_OCTETS, Nsec3Rec, NsecRec, Record};
 use dname::{Name, OutOfMemory};
+use range_index::Met;
 use std::alloc::Global;
 use std::marker::Model;
 use std::sync::Arc;
@@ -143,6 +144,20 @@ impl ZoneRecords {
         }
     }
 
+    /// The chain of a new record and the places of the records there that the new one displaces. None where the zone doesn't have
+    /// the chain.
+    pub fn met_by(&self, new: &Record) -> Option<(&ChainRecords, Met)>
+        requires { IsDenialOf self.now.apex new.now }
+        ensures { MatchOption result
+            ((old : Record) → Contains (records_in self.now) old → displaces new.now old ≡ false)
+            (λ met. DisplacesAt new.now self.now met.0.now met.1.from met.1.to met.1.last) }
+    {
+        match self.chain_for(new) {
+            Some(chain) => Some((chain, chain.met_by(new))),
+            None => None,
+        }
+    }
+
     /// Whether the record's chain isn't among the zone's.
     pub fn is_new(&self, item: &Record) -> bool
         ensures { result ≡ is_new_to (chains_in self.now) (chain_of item.now) }
@@ -181,16 +196,16 @@ impl ZoneRecords {
         }
     }
 
-    /// With the record, in its chain. A new chain comes first, and a third one goes with its records.
+    /// With the record in its chain, in the place of those that it displaces. A new chain comes first, and a third one goes with
+    /// its records.
     pub fn with(&self, alloc: Global, item: Arc<Record>) -> Result<ZoneRecords, OutOfMemory>
-        requires zone { IsDenialOf self.now.apex (arc_value item) }
-        requires apart { (old : Record) → Contains (records_in self.now) old
-            → displaces (arc_value item) old ≡ false }
+        requires { IsDenialOf self.now.apex (arc_value item) }
         ensures apex { IfOk result (λ made. made.apex ≡ self.now.apex) }
         ensures chains { IfOk result (λ made.
             chains_in made ≡ chains_with (chains_in self.now) (chain_of (arc_value item))) }
         ensures records { IfOk result (λ made. (each : Record) → Contains (records_in made) each
             ↔ ((each ≡ arc_value item) ⊎ (Contains (records_in self.now) each
+            × (displaces (arc_value item) each ≡ false)
             × (is_of (third_for (chains_in self.now) (chain_of (arc_value item))) each
             ≡ false)))) }
     {

@@ -1,30 +1,12 @@
-use Rattle.std.proofs.Common.{subst, sym, arith, List, Contains}
+use Rattle.std.proofs.Common.{Some, subst}
 use Rattle.std.specs.Arc.{arc_value}
-use Rattle.denial_records.specs.declared.record.Record.{Record}
-use Rattle.held_laws.specs.HeldLaws.{NoneDisplaces}
-use Rattle.record_store.specs.Holding.{AreBut}
-use Rattle.record_store.proofs.GoingLemmas.{taking_begins, taking_there, taking_goes_on, taking_ends}
+use Rattle.std.proofs.lemmas.Result.{IfOk-weaker}
+use Rattle.record_store.specs.Holding.{AreWithout, AreElsewhere}
+use Rattle.record_store.proofs.GoneLemmas.{all_gone}
 use Rattle.record_store.proofs.goings.without_chain.Goals as goal
 
-pub loop-i-init : goal.loop-i-init
-loop-i-init c = taking_begins c.args.chain.now.records (arc_value c.args.goings) c.requires.apart
-
-pub without-requires-clause-there : goal.without-requires-clause-there
-without-requires-clause-there c =
-    let records = c.args.chain.now.records in
-    let has = taking_there records (arc_value c.args.goings) (arc_value c.loop-i.goings) c.loop-i.i c.loop-i.invariant c.requires.once c.requires.there (arc_value c.get.result.now) (omega arith) c.get.ensures in
-    subst (λ (l : List Record). Contains l c.deref-in-loop-i.result.now) (sym c.deref.ensures) (subst (Contains (arc_value c.loop-i.goings)) (sym c.deref-in-loop-i.ensures) has)
-
-pub without-requires-clause-apart : goal.without-requires-clause-apart
-without-requires-clause-apart c = subst NoneDisplaces (sym c.deref.ensures) c.loop-i.invariant.apart
-
-pub loop-i-preserved : goal.loop-i-preserved
-loop-i-preserved c =
-    let but = subst (λ (l : List Record). AreBut (arc_value c.get.result.now) l (arc_value c.in_ok-goings.goings)) c.deref.ensures (subst (λ (r : Record). AreBut r c.deref.result.now (arc_value c.in_ok-goings.goings)) c.deref-in-loop-i.ensures c.in_ok-goings.ensures.records) in
-    taking_goes_on c.args.chain.now.records (arc_value c.args.goings) (arc_value c.loop-i.goings) c.loop-i.i c.loop-i.invariant (arc_value c.get.result.now) (arc_value c.in_ok-goings.goings) (omega arith) c.get.ensures but c.in_ok-goings.ensures.apart
-
 pub returns-clause-records : goal.returns-clause-records
-returns-clause-records c = taking_ends c.args.chain.now.records (arc_value c.args.goings) (arc_value c.loop-i.goings) c.loop-i.i c.loop-i.invariant (omega arith) c.args.chain.now.chain c.requires.all c.requires.its
-
-pub returns-clause-apart : goal.returns-clause-apart
-returns-clause-apart c = c.loop-i.invariant.apart
+returns-clause-records c =
+    let records = c.args.chain.now.records in
+    IfOk-weaker c.without_places.result _ (λ left. AreWithout (Some c.args.chain.now.chain) (arc_value c.args.goings) (arc_value left))
+    (λ left elsewhere. all_gone records (arc_value c.args.goings) (arc_value left) c.args.chain.now.chain (subst (λ n. AreElsewhere records 0 n (arc_value c.args.goings) (arc_value left)) c.len.ensures elsewhere) c.requires.all c.requires.its) c.without_places.ensures.records

@@ -1,4 +1,3 @@
-use Rattle.std.proofs.Common.{refl}
 use Rattle.zone_chains.proofs.ChosenLemmas.{nsec3_placed, found_nsec3}
 use Rattle.zone_chains.proofs.nsec3_span.nsec3_in.Goals as goal
 
