@@ -1,14 +1,16 @@
 -- Frames, read one by one.
-use Rattle.std.proofs.Common.{◌≡◌, ℕ, zero, suc, ◌+◌, ◌*◌, ◌<◌, ◌≤◌, Bool, true, false, List, [], ◌∷◌, ◌++◌, length, take, drop, refl, sym, ◌∙◌, ap, subst, arith, length-append, append_assoc}
+use Rattle.std.proofs.Common.{◌≡◌, ℕ, zero, suc, ◌+◌, ◌*◌, ◌<◌, ◌≤◌, Bool, true, false, Option, None, Some, List, [], ◌∷◌, ◌++◌, length, take, drop, refl, sym, ◌∙◌, ap, subst, arith, length-append, append_assoc}
 use Rattle.std.specs.List.{All}
+use Rattle.std.specs.Prelude.{MatchOption}
 use Rattle.std.specs.Bool.{◌==◌}
 use Rattle.std.proofs.lemmas.Bool.{false≢true}
 use Rattle.std.proofs.lemmas.Bool.Decides.{Decides-eqb}
 use Rattle.std.proofs.lemmas.List.{append-nil, drop_at, nil_from_length, take_at}
 use Rattle.std.proofs.lemmas.List.Elements.{All-nil, All-push, All-head, All-tail}
 use Rattle.byteorder.specs.Numbers.{big_number-reads_back}
-use Rattle.replay_meaning.specs.Frame.{Input, IsInput, input_spelling, inputs_spelling, kind_number}
+use Rattle.replay_meaning.specs.Frame.{Input, IsInput, input_of, input_spelling, inputs_spelling, kind_number}
 use Rattle.replay_meaning.specs.Replay.{AreFrames, SpellsFrames}
+use Rattle.replay_meaning.specs.declared.frame.Frame.{Frame}
 use Rattle.replay_meaning.specs.declared.frame.FrameKind.{FrameKind}
 use Rattle.replay_meaning.specs.declared.frame.FrameKind.TheVariants.{Query, Upstream}
 use Rattle.replay_meaning.proofs.FrameLemmas.{inputs_front, one_input, spelling-push}
@@ -134,6 +136,32 @@ next_left [] rest after input (here, valid) fits is = absurd (omega (arith, ap l
 next_left (x ∷ more) rest after input (here, valid) fits is =
     let one = one_input x input (inputs_spelling more) after (All-head IsInput x more valid) fits (sym here ∙ is) in
     (more, ap (λ y. y ∷ more) one.0, (sym one.1, All-tail IsInput x more valid))
+
+-- what stands at the front is passed, and read where it is the worker's
+abbrev pub IsFrontFor : ℕ → List ℕ → List ℕ → Option Frame → Type 0
+IsFrontFor worker rest after own =
+    (input : Input) (back : List ℕ) → IsInput input → rest ≡ input_spelling input ++ back
+    → (after ≡ back) × MatchOption own (input.worker ≡ worker → ⊥) (λ frame. (input_of frame ≡ input) × (input.worker ≡ worker))
+
+front_own : (left : List Input) (rest after : List ℕ) (worker : ℕ) (frame : Frame) → AreSpelled rest left → length after < length rest → IsFrontFor worker rest after (Some frame) → IsInput (input_of frame) × (rest ≡ input_spelling (input_of frame) ++ after) × (frame.worker ≡ worker)
+front_own [] rest after worker frame (here, valid) shorter front = absurd (omega (arith, shorter, ap length here))
+front_own (x ∷ more) rest after worker frame (here, valid) shorter front =
+    let fits = All-head IsInput x more valid in
+    let (after_is, (same, own)) = front x (inputs_spelling more) fits here in
+    (subst IsInput (sym same) fits, here ∙ (λ i. input_spelling (sym same i) ++ sym after_is i), ap (λ (o : Input). o.worker) same ∙ own)
+
+pub own_front : (left : List Input) (rest after : List ℕ) (worker : ℕ) (own : Option Frame) (frame : Frame) → own ≡ Some frame → AreSpelled rest left → length after < length rest → IsFrontFor worker rest after own
+    → IsInput (input_of frame) × (rest ≡ input_spelling (input_of frame) ++ after) × (frame.worker ≡ worker)
+own_front left rest after worker own frame is spelled shorter front = front_own left rest after worker frame spelled shorter (subst (IsFrontFor worker rest after) is front)
+
+pub other_front : (left : List Input) (rest after : List ℕ) (worker : ℕ) (own : Option Frame) → ((frame : Frame) → own ≡ Some frame → ⊥) → AreSpelled rest left → length after < length rest → IsFrontFor worker rest after own
+    → (input : Input) × IsInput input × (rest ≡ input_spelling input ++ after) × (input.worker ≡ worker → ⊥)
+other_front left rest after worker (Some frame) none spelled shorter front = absurd (none frame refl)
+other_front [] rest after worker None none (here, valid) shorter front = absurd (omega (arith, shorter, ap length here))
+other_front (x ∷ more) rest after worker None none (here, valid) shorter front =
+    let fits = All-head IsInput x more valid in
+    let (after_is, other) = front x (inputs_spelling more) fits here in
+    (x, fits, here ∙ ap (λ l. input_spelling x ++ l) (sym after_is), other)
 
 -- where none can be read, none are left
 pub no_left : (left : List Input) (rest : List ℕ) → AreSpelled rest left → ((input : Input) (after : List ℕ) → IsInput input → rest ≡ input_spelling input ++ after → ⊥) → left ≡ []

@@ -1,9 +1,14 @@
-ghost use Rattle.std.specs.Prelude.{◌≡◌, ◌*◌, ◌≤◌, true, false, length, IfSome, MatchOption};
+ghost use Rattle.std.specs.Prelude.{◌≡◌, ℕ, ◌*◌, ◌<◌, ◌≤◌, List, ◌++◌, true, false, length, IfSome, IsSomeAnd, MatchOption};
+ghost use Rattle.replay_meaning.specs.Frame.{Input, IsInput, input_of, input_spelling};
 ghost use Rattle.replay_meaning.specs.Replay.{AreFrames, SpellsFrames};
 ghost use Rattle.worker_seats.specs.Frames.{AreSpelled};
 
-use replay_meaning::read_frame;
+use dname::{octets_from, u16_at};
+use replay_meaning::{Frame, read_frame};
 use std::marker::Model;
+
+/// The octets of a frame before its message.
+const HEAD: usize = 8;
 
 /// Octets that spell frames, and lend their messages. It is seen as these frames, in order.
 #[derive(Drop)]
@@ -62,4 +67,43 @@ fn are_frames(octets: &[u8], workers: u8) -> bool
         rest = after;
     }
     true
+}
+
+// The frame at the front if it is the worker's, and the octets after it. Another's is passed over unread.
+pub(crate) fn frame_for(octets: &[u8], worker: usize) -> Option<(Option<Frame<'_>>, &[u8])>
+    ensures every { (input : Input) (rest : List ℕ) → IsInput input
+        → octets.now ≡ input_spelling input ++ rest → IsSomeAnd result
+        (λ read. (read.1.now ≡ rest) × MatchOption read.0 (input.worker ≡ worker → ⊥)
+        (λ frame. (input_of frame ≡ input) × (input.worker ≡ worker))) }
+    ensures shorter { IfSome result (λ read. length read.1.now < length octets.now) }
+{
+    let Some((owner, after)) = skip_frame(octets) else {
+        return None;
+    };
+    if usize::from(owner) != worker {
+        return Some((None, after));
+    }
+    let Some((frame, after)) = read_frame(octets) else {
+        return None;
+    };
+    Some((Some(frame), after))
+}
+
+// The worker of the frame at the front, and the octets after it.
+pub(crate) fn skip_frame(octets: &[u8]) -> Option<(u8, &[u8])>
+    ensures every { (input : Input) (rest : List ℕ) → IsInput input
+        → octets.now ≡ input_spelling input ++ rest → IsSomeAnd result
+        (λ read. (read.0 ≡ input.worker) × (read.1.now ≡ rest)) }
+    ensures shorter { IfSome result (λ read. length read.1.now < length octets.now) }
+{
+    if octets.len() < HEAD {
+        return None;
+    }
+    let size = usize::from(u16_at(octets, 6));
+    let rest = octets_from(octets, HEAD);
+    if rest.len() < size {
+        return None;
+    }
+    let (_, rest) = rest.split_at(size);
+    Some((octets[1], rest))
 }

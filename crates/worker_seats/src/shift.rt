@@ -3,11 +3,10 @@ ghost use Rattle.cache_versions.specs.Seats.{number_by};
 ghost use Rattle.resolver.specs.Caches.{IsSeatOf};
 ghost use Rattle.worker_seats.specs.Work.{IsWork};
 
-use crate::frames::Frames;
+use crate::frames::{Frames, frame_for, skip_frame};
 use crate::one_frame;
 use dname::OutOfMemory;
 use outside_core::{Gate, Side};
-use replay_meaning::read_frame;
 use reply_core::ReplyBuffer;
 use resolver::{CacheSeat, SharedCache};
 use std::alloc::Global;
@@ -54,8 +53,8 @@ pub(crate) fn work_shift<R: Wait, G: Gate>(
     let mut reply = ReplyBuffer::new();
     let mut call: u32 = 0;
     let mut rest = frames.octets();
-    while let Some((frame, after)) = read_frame(rest) {
-        if usize::from(frame.worker) == worker {
+    while let Some((own, after)) = frame_for(rest, worker) {
+        if let Some(frame) = own {
             gate.pass(rt, frame.worker, call, Side::Before);
             one_frame(rt, alloc, cache, &mut seat, &frame, &mut reply, &mut octets)?;
             gate.pass(rt, frame.worker, call, Side::After);
@@ -70,8 +69,8 @@ pub(crate) fn work_shift<R: Wait, G: Gate>(
 fn room_for(octets: &[u8], worker: usize) -> usize {
     let mut room: usize = 0;
     let mut rest = octets;
-    while let Some((frame, after)) = read_frame(rest) {
-        if worker == usize::from(frame.worker) {
+    while let Some((owner, after)) = skip_frame(rest) {
+        if worker == usize::from(owner) {
             room = room.saturating_add(ROOM);
         }
         rest = after;

@@ -49,7 +49,13 @@ pub fn written<R: Threads + Wait + Sync, G: Gate>(
         Ok((seats, outputs)) => {
             let closed = cache.close(rt, seats);
             let mut octets = Vec::new(alloc);
-            if write_outputs(alloc, &mut StreamSink::over(&mut octets), &frames, &outputs).is_err() {
+            if write_outputs(
+                alloc,
+                &mut StreamSink::over(&mut octets),
+                &frames,
+                &outputs,
+            ).is_err()
+            {
                 return Err("a failed write")?;
             }
             Ok((octets, closed.journal().len()))

@@ -17,4 +17,4 @@ write_outputs-requires-clause-workers g c =
 pub returns-clause-cut : goal.returns-clause-cut
 returns-clause-cut g c = λ fault.
     cut_by c.args.workers c.in-Some.frames c.in-Ok-replay.outputs c.deref.result.now c.in-Ok.input.items _ _ _ _
-    c.deref.ensures.value c.in-Ok-replay.ensures.replay c.in-Some.ensures.frames c.in-Err-write_outputs.ensures.part c.in-Ok.ensures.left (c.in-Ok.ensures.end (omega arith))
+    c.deref.ensures.value c.in-Ok-replay.ensures.replay c.in-Some.ensures.frames c.in-Err.ensures.part c.in-Ok.ensures.left (c.in-Ok.ensures.end (omega arith))

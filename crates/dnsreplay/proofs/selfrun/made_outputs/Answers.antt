@@ -8,10 +8,15 @@ use Rattle.dnsreplay.proofs.RunLemmas.{made_by_one}
 use Rattle.dnsreplay.proofs.selfrun.made_outputs.Goals as goal
 
 pub put_frames-requires : goal.put_frames-requires
-put_frames-requires g c = λ κs outlives. subst (All FitsAFrame) (sym c.in_ok-made.ensures.messages) (messages_fit c.args.seed c.args.names)
+put_frames-requires g c = subst (All FitsAFrame) (sym c.in_ok-made.ensures.messages) (messages_fit c.args.seed c.args.names)
 
-pub put_frames-2-requires : goal.put_frames-2-requires
-put_frames-2-requires g c = λ κs outlives. subst (All FitsAFrame) (sym c.in_ok-asked.ensures) (queries_fit c.args.seed c.args.names c.args.queries)
+pub put_frames-requires-2 : goal.put_frames-requires-2
+put_frames-requires-2 g c = subst (All FitsAFrame) (sym c.in_ok-asked.ensures) (queries_fit c.args.seed c.args.names c.args.queries)
+
+pub unreachable-requires : goal.unreachable-requires
+unreachable-requires g c =
+    let is = both_put c.args.seed c.args.names c.args.queries _ _ _ _ _ c.new-octets.ensures.items c.in_ok-put_frames.ensures c.in_ok-put_frames-2.ensures c.in_ok-made.ensures.messages c.in_ok-asked.ensures in
+    c.in_default.ensures.frames (are_made c.args.seed c.args.names c.args.queries _ (c.deref.ensures.value ∙ is))
 
 pub replay-requires-clause-few : goal.replay-requires-clause-few
 replay-requires-clause-few g c = λ κs outlives.

@@ -4,12 +4,12 @@ use Rattle.resolver.specs.Caches.{IsSeatOf}
 use Rattle.worker_seats.proofs.ShiftLemmas.{IsUnderWay}
 use Rattle.worker_seats.proofs.shift.work_shift.Given as goal
 
-abbrev pub invariant-loop-frame : goal.invariant-loop-frame
-invariant-loop-frame g l = record {
+abbrev pub invariant-loop-own : goal.invariant-loop-own
+invariant-loop-own g l = record {
   object : IsSeatOf l.cache l.seat;
   number : number_by l.seat ≡ number_by l.fn.job.seat;
   way : IsUnderWay l.fn.job.worker l.fn.job.seat l.seat l.frames l.rest l.call l.octets.items;
 }
 
-abbrev pub decreases-loop-frame : goal.decreases-loop-frame
-decreases-loop-frame g l = length l.rest
+abbrev pub decreases-loop-own : goal.decreases-loop-own
+decreases-loop-own g l = length l.rest
