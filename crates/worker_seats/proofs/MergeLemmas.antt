@@ -14,7 +14,7 @@ use Rattle.replay_meaning.proofs.FrameLemmas.{spelling-push}
 use Rattle.worker_seats.specs.Frames.{AreSpelled}
 use Rattle.worker_seats.specs.Gather.{Gathers, IsPartWritten}
 use Rattle.worker_seats.specs.Merge.{AreMerged, AreWritten, AreWrittenInPart, BeginsWithFrame, CanBeMerged}
-use Rattle.worker_seats.specs.Workers.{HasSameWorker, inputs_of, outputs_of}
+use Rattle.worker_seats.specs.Workers.{HasSameWorker, outputs_of}
 use Rattle.worker_seats.proofs.FramesLemmas.{next_left, no_left}
 use Rattle.worker_seats.proofs.GatherLemmas.{part_within, told_none}
 use Rattle.worker_seats.proofs.OwnLemmas.{own_here, own_push, own_push_other}

@@ -1,4 +1,4 @@
-use Rattle.std.proofs.Common.{◌∙◌, refl, subst, sym, ◌<◌, length, arith, length-set, replicate}
+use Rattle.std.proofs.Common.{◌∙◌, refl, arith, length-set, replicate}
 use Rattle.worker_seats.proofs.GatherLemmas.{err_to, ok_to}
 use Rattle.worker_seats.proofs.MergeLemmas.{zeros_at, merging_first, mine, frame_within, frame_begins, frame_more, frame_cut, merging_all, merging_end_cut, at_end}
 use Rattle.worker_seats.proofs.merge.write_in_turn.Goals as goal

@@ -1,4 +1,4 @@
-use Rattle.std.proofs.Common.{◌∙◌, refl, sym}
+use Rattle.std.proofs.Common.{◌∙◌, refl}
 use Rattle.worker_seats.proofs.FramesLemmas.{other_front, own_front}
 use Rattle.worker_seats.proofs.ShiftLemmas.{frame_own, frame_other, shift_done, under_way_none}
 use Rattle.worker_seats.proofs.shift.work_shift.Goals as goal

@@ -1,4 +1,4 @@
-use Rattle.std.proofs.Common.{◌≡◌, ◌<◌, [], Ok, length, map, sym, ap, subst, ◌∙◌, arith, get_or}
+use Rattle.std.proofs.Common.{◌≡◌, ◌<◌, Ok, length, map, sym, ap, subst, ◌∙◌, arith, get_or}
 use Rattle.std.specs.List.{All}
 use Rattle.std.proofs.lemmas.List.{length-map}
 use Rattle.replay_meaning.specs.Frame.{Input}
