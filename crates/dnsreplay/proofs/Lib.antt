@@ -1,5 +1,4 @@
 pub mod CountLemmas
-pub mod FramesLemmas
 pub mod GivenLemmas
 pub mod MadeLemmas
 pub mod RunLemmas

@@ -3,6 +3,7 @@ use Rattle.std.proofs.Common.{◌≡◌, ℕ, zero, suc, ◌+◌, ◌*◌, ◌/�
 use Rattle.std.specs.Prelude.{if◌then◌else◌, ◌==◌, Result, Ok, Err, IfOk}
 use Rattle.std.specs.List.{All, AllZip, range_with_len}
 use Rattle.std.proofs.lemmas.List.{length-map, map-append, append-nil, take_more, take_all}
+use Rattle.std.proofs.lemmas.List.Concat.{flat_map-append}
 use Rattle.std.proofs.lemmas.List.Elements.{All-nil, All-cons, All-head, All-tail, All-append, All-map}
 use Rattle.std.proofs.lemmas.List.FromFn.{length-map-range_with_len, map-range_with_len_more}
 use Rattle.byteorder.specs.Endian.{big_bytes}
@@ -11,17 +12,14 @@ use Rattle.dname.specs.declared.types.TheConstants.{A_TYPE, IN_CLASS, NSEC_TYPE,
 use Rattle.zone_maker.specs.Made.{Turn, Host, Above, Cut, Wild, turn_at, name_at, owner_in, made_owner, next_owner, made_example, soa_data, address_at}
 use Rattle.zone_maker.specs.Messages.{header_octets, question_octets, record_octets, signature_data, signed_octets, answer_in, answer_of, answers_of, nsec_data, type_map, first_of, message_flags, message_at, messages_of}
 use Rattle.zone_maker.specs.Questions.{asked_first, asked_second, asked_at, asked_number, opt_octets, query_at}
-use Rattle.replay_meaning.specs.Frame.{Input, IsInput, input_of, inputs_spelling}
+use Rattle.replay_meaning.specs.Frame.{Input, IsInput, input_spelling, inputs_spelling}
 use Rattle.replay_meaning.specs.OutFrame.{Output, IsOutput, outputs_spelling}
 use Rattle.replay_meaning.specs.Fits.{Fits}
 use Rattle.replay_meaning.specs.Sound.{IsSoundReply}
-use Rattle.replay_meaning.specs.Replay.{SpellsFrames, IsReplay}
-use Rattle.replay_meaning.specs.declared.frame.Frame.{Frame}
+use Rattle.replay_meaning.specs.Replay.{AreFrames, SpellsFrames, IsReplay}
 use Rattle.replay_meaning.specs.declared.frame.FrameKind.{FrameKind}
 use Rattle.replay_meaning.specs.declared.frame.FrameKind.TheVariants.{Query, Upstream}
-use Rattle.replay_meaning.proofs.FrameLemmas.{inputs_have_one}
-use Rattle.dnsreplay.proofs.FramesLemmas.{frames_below}
-use Rattle.dnsreplay.specs.Frames.{AreFramesOf}
+use Rattle.replay_meaning.proofs.FrameLemmas.{inputs_have_one, spelling-push}
 use Rattle.dnsreplay.specs.Made.{made_input, made_inputs, queries_of, AreMadeOutputs}
 use Rattle.dnsreplay.specs.Summary.{IsMadeSummary, summary}
 
@@ -139,13 +137,13 @@ all_from : (P : List ℕ → Type 0) (f : ℕ → List ℕ) → ((k : ℕ) → P
 all_from P f each from zero = All-nil P
 all_from P f each from (suc n) = All-cons P (f from) (map f (range_with_len (from + 1) n)) (each from) (all_from P f each (from + 1) n)
 
-abbrev FitsAFrame : List ℕ → Type 0
+abbrev pub FitsAFrame : List ℕ → Type 0
 FitsAFrame octets = length octets < 2 ^ 16
 
-messages_fit : (seed names : ℕ) → All FitsAFrame (messages_of seed names)
+pub messages_fit : (seed names : ℕ) → All FitsAFrame (messages_of seed names)
 messages_fit seed names = all_from FitsAFrame (message_at seed names) (message_fits seed names) 0 (names + 1)
 
-queries_fit : (seed names queries : ℕ) → All FitsAFrame (queries_of seed names queries)
+pub queries_fit : (seed names queries : ℕ) → All FitsAFrame (queries_of seed names queries)
 unfolding queries_of
 queries_fit seed names queries = all_from FitsAFrame (query_at seed names) (query_fits seed names) 0 queries
 
@@ -177,15 +175,12 @@ made_first seed names queries =
     All-append IsFirst (map (made_input Upstream 1000000000) (messages_of seed names)) (map (made_input Query 1000000100) (queries_of seed names queries))
     (first_inputs Upstream 1000000000 (messages_of seed names)) (first_inputs Query 1000000100 (queries_of seed names queries))
 
--- frames that were made are those of the octets that they spell
-pub made_frames : (seed names queries : ℕ) (frames : List Frame) → map input_of frames ≡ made_inputs seed names queries → AreFramesOf 1 (inputs_spelling (made_inputs seed names queries)) frames
-made_frames seed names queries frames is =
-    subst (SpellsFrames 1 (inputs_spelling (made_inputs seed names queries))) (sym is)
-    (record { spelled = refl; valid = made_valid seed names queries; below = made_first seed names queries })
+-- the octets of the made frames spell these
+made_frames : (seed names queries : ℕ) → SpellsFrames 1 (inputs_spelling (made_inputs seed names queries)) (made_inputs seed names queries)
+made_frames seed names queries = record { spelled = refl; valid = made_valid seed names queries; below = made_first seed names queries }
 
--- they are for the one worker
-pub first_frames : (seed names queries : ℕ) (frames : List Frame) → map input_of frames ≡ made_inputs seed names queries → All (λ frame. frame.worker < 1) frames
-first_frames seed names queries frames is = frames_below 1 _ frames (made_frames seed names queries frames is)
+pub are_made : (seed names queries : ℕ) (octets : List ℕ) → octets ≡ inputs_spelling (made_inputs seed names queries) → AreFrames 1 octets
+are_made seed names queries octets is = (made_inputs seed names queries, subst (λ o. SpellsFrames 1 o (made_inputs seed names queries)) (sym is) (made_frames seed names queries))
 
 inputs_many : (seed names queries : ℕ) → length (made_inputs seed names queries) ≡ names + 1 + queries
 unfolding made_inputs queries_of
@@ -201,27 +196,30 @@ inputs_many seed names queries =
       length-map-range_with_len (query_at seed names) 0 queries,
     )
 
-pub few_made : (seed names queries : ℕ) (frames : List Frame) → map input_of frames ≡ made_inputs seed names queries → names ≤ 10000 → queries ≤ 100000 → length frames < 2 ^ 32
-few_made seed names queries frames is small few = omega (arith, length-map frames input_of, ap length is, inputs_many seed names queries, small, few)
+pub few_made : (seed names queries : ℕ) (octets : List ℕ) (frames : List Input) → octets ≡ inputs_spelling (made_inputs seed names queries) → SpellsFrames 1 octets frames → names ≤ 10000 → queries ≤ 100000 → length frames < 2 ^ 32
+few_made seed names queries octets frames is are small few =
+    let same = inputs_have_one.whole frames (made_inputs seed names queries) are.valid (made_valid seed names queries) (sym are.spelled ∙ is) in
+    omega (arith, ap length same, inputs_many seed names queries, small, few)
 
 -- both kinds were put, one after the other
-pub both_put : (seed names queries : ℕ) (none one both : List Frame) (messages asked : List (List ℕ)) → none ≡ [] → map input_of one ≡ map input_of none ++ map (made_input Upstream 1000000000) messages → map input_of both ≡ map input_of one ++ map (made_input Query 1000000100) asked → messages ≡ messages_of seed names → asked ≡ queries_of seed names queries → map input_of both ≡ made_inputs seed names queries
+pub both_put : (seed names queries : ℕ) (none one both : List ℕ) (messages asked : List (List ℕ)) → none ≡ [] → one ≡ none ++ inputs_spelling (map (made_input Upstream 1000000000) messages) → both ≡ one ++ inputs_spelling (map (made_input Query 1000000100) asked) → messages ≡ messages_of seed names → asked ≡ queries_of seed names queries → both ≡ inputs_spelling (made_inputs seed names queries)
 unfolding made_inputs
 both_put seed names queries none one both messages asked empty first second messages_is asked_is =
     second
-    ∙ ap (λ l. l ++ map (made_input Query 1000000100) asked) (first ∙ ap (λ (l : List Frame). map input_of l ++ map (made_input Upstream 1000000000) messages) empty)
-    ∙ ap (λ l. map (made_input Upstream 1000000000) l ++ map (made_input Query 1000000100) asked) messages_is
-    ∙ ap (λ l. map (made_input Upstream 1000000000) (messages_of seed names) ++ map (made_input Query 1000000100) l) asked_is
+    ∙ ap (λ l. l ++ inputs_spelling (map (made_input Query 1000000100) asked)) (first ∙ ap (λ l. l ++ inputs_spelling (map (made_input Upstream 1000000000) messages)) empty)
+    ∙ ap (λ l. inputs_spelling (map (made_input Upstream 1000000000) l) ++ inputs_spelling (map (made_input Query 1000000100) asked)) messages_is
+    ∙ ap (λ l. inputs_spelling (map (made_input Upstream 1000000000) (messages_of seed names)) ++ inputs_spelling (map (made_input Query 1000000100) l)) asked_is
+    ∙ sym (flat_map-append input_spelling (map (made_input Upstream 1000000000) (messages_of seed names)) (map (made_input Query 1000000100) (queries_of seed names queries)))
 
 -- one more frame is put
-pub one_put : (f : List ℕ → Input) (start : List Input) (messages : List (List ℕ)) (i : ℕ) (before after : List Frame) (frame : Frame) (message : List ℕ) → i < length messages → message ≡ get_or messages i message → map input_of before ≡ start ++ map f (take i messages) → input_of frame ≡ f message → after ≡ before ++ frame ∷ [] → map input_of after ≡ start ++ map f (take (i + 1) messages)
-one_put f start messages i before after frame message within at so_far is push =
-    ap (map input_of) push ∙ map-append input_of before (frame ∷ [])
-    ∙ ap (λ l. l ++ input_of frame ∷ []) so_far
-    ∙ append_assoc start (map f (take i messages)) (input_of frame ∷ [])
-    ∙ ap (λ x. start ++ (map f (take i messages) ++ x ∷ [])) (is ∙ ap f at)
-    ∙ ap (λ l. start ++ l) (sym (map-append f (take i messages) (get_or messages i message ∷ [])))
-    ∙ ap (λ l. start ++ map f l) (sym (take_more messages i message within))
+pub one_put : (f : List ℕ → Input) (start : List ℕ) (messages : List (List ℕ)) (i : ℕ) (before after message : List ℕ) → i < length messages → message ≡ get_or messages i message → before ≡ start ++ inputs_spelling (map f (take i messages)) → after ≡ before ++ input_spelling (f message) → after ≡ start ++ inputs_spelling (map f (take (i + 1) messages))
+one_put f start messages i before after message within at so_far push =
+    let more : inputs_spelling (map f (take (i + 1) messages)) ≡ inputs_spelling (map f (take i messages)) ++ input_spelling (f message) =
+    ap (λ l. inputs_spelling (map f l)) (take_more messages i message within)
+    ∙ ap inputs_spelling (map-append f (take i messages) (get_or messages i message ∷ []))
+    ∙ spelling-push input_spelling (map f (take i messages)) (f (get_or messages i message))
+    ∙ ap (λ m. inputs_spelling (map f (take i messages)) ++ input_spelling (f m)) (sym at) in
+    push ∙ ap (λ l. l ++ input_spelling (f message)) so_far ∙ append_assoc start (inputs_spelling (map f (take i messages))) (input_spelling (f message)) ∙ ap (λ l. start ++ l) (sym more)
 
 -- one more query
 pub one_question : (seed names j : ℕ) (before after : List (List ℕ)) (item octets : List ℕ) → before ≡ queries_of seed names j → octets ≡ query_at seed names j → item ≡ octets → after ≡ before ++ item ∷ [] → after ≡ queries_of seed names (j + 1)

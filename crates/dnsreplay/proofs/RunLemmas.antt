@@ -1,15 +1,13 @@
 -- What a source that was read whole had left; what was written of a replay; and how a run of `selfrun` ends.
-use Rattle.std.proofs.Common.{◌≡◌, ◌<◌, ◌⊎◌, List, [], ◌++◌, ℕ, Option, None, Some, inl, inr, length, map, get_or, sym, ◌∙◌, ap, subst}
+use Rattle.std.proofs.Common.{◌≡◌, ◌<◌, ◌⊎◌, List, [], ◌++◌, ℕ, Option, None, Some, inl, inr, length, get_or, sym, ◌∙◌, ap, subst}
 use Rattle.std.specs.Prelude.{IfOk, IfSome, Result, Ok, Err}
 use Rattle.std.specs.List.{All}
 use Rattle.std.proofs.lemmas.List.{append-nil}
 use Rattle.outside_core.specs.Told.{prepend_told}
-use Rattle.replay_meaning.specs.Frame.{Input, input_of}
-use Rattle.replay_meaning.specs.Replay.{IsReplay}
-use Rattle.replay_meaning.specs.declared.frame.Frame.{Frame}
+use Rattle.replay_meaning.specs.Frame.{Input}
+use Rattle.replay_meaning.specs.Replay.{IsReplay, SpellsFrames}
 use Rattle.worker_seats.specs.Merge.{AreMerged, AreWritten, AreWrittenInPart, CanBeMerged}
-use Rattle.worker_seats.proofs.MergeLemmas.{below_inputs, merged_by_one}
-use Rattle.dnsreplay.specs.Frames.{AreFramesOf}
+use Rattle.worker_seats.proofs.MergeLemmas.{merged_by_one}
 use Rattle.dnsreplay.specs.Run.{IsCutShort, IsOfSelfrun, IsReplayed}
 use Rattle.dnsreplay.specs.Status.{status_number}
 use Rattle.dnsreplay.specs.declared.status.Status.{Status}
@@ -39,28 +37,26 @@ selfrun_complete Failed status (inr memory) cause calm = inr memory
 
 -- ---- what was written of a replay
 
-module _ (workers : ℕ) (frames : List Frame) (outputs : List (List ℕ)) (goes : (octets output : List ℕ) → AreFramesOf workers octets frames → AreMerged outputs (map input_of frames) output → IsReplay workers octets output) where
-  pub replayed_of : (input : List ℕ) (before after : Option (List ℕ)) → AreFramesOf workers input frames → AreWritten outputs (map input_of frames) before after → IsReplayed workers input before after
+module _ (workers : ℕ) (frames : List Input) (outputs : List (List ℕ)) (goes : (octets output : List ℕ) → SpellsFrames workers octets frames → AreMerged outputs frames output → IsReplay workers octets output) where
+  pub replayed_of : (input : List ℕ) (before after : Option (List ℕ)) → SpellsFrames workers input frames → AreWritten outputs frames before after → IsReplayed workers input before after
   replayed_of input before after are w = record { output = w.octets; replay = goes input w.octets are w.merged; written = w.written }
 
-  pub cut_of : (input : List ℕ) (before after : Option (List ℕ)) → AreFramesOf workers input frames → AreWrittenInPart outputs (map input_of frames) before after → IsCutShort workers input before after
+  pub cut_of : (input : List ℕ) (before after : Option (List ℕ)) → SpellsFrames workers input frames → AreWrittenInPart outputs frames before after → IsCutShort workers input before after
   cut_of input before after are w =
       record { output = w.octets; replay = goes input w.octets are w.merged; size = w.part.size; strict = w.part.strict; written = w.part.written }
 
--- where the frames and the input are lent
-pub cut_by : (workers : ℕ) (frames lent lent' : List Frame) (outputs : List (List ℕ)) (octets input : List ℕ) (left rest before after : Option (List ℕ)) → lent ≡ frames → lent' ≡ frames → octets ≡ input
-    → ((octets output : List ℕ) → AreFramesOf workers octets lent → AreMerged outputs (map input_of lent) output → IsReplay workers octets output)
-    → AreFramesOf workers octets frames → AreWrittenInPart outputs (map input_of lent') before after → left ≡ prepend_told input rest → IfSome rest (λ r. r ≡ []) → IfSome left (λ input. IsCutShort workers input before after)
-cut_by workers frames lent lent' outputs octets input left rest before after same same' is goes are w told end =
+-- where the input is lent
+pub cut_by : (workers : ℕ) (frames : List Input) (outputs : List (List ℕ)) (octets input : List ℕ) (left rest before after : Option (List ℕ)) → octets ≡ input
+    → ((octets output : List ℕ) → SpellsFrames workers octets frames → AreMerged outputs frames output → IsReplay workers octets output)
+    → SpellsFrames workers octets frames → AreWrittenInPart outputs frames before after → left ≡ prepend_told input rest → IfSome rest (λ r. r ≡ []) → IfSome left (λ input. IsCutShort workers input before after)
+cut_by workers frames outputs octets input left rest before after is goes are w told end =
     told_whole (λ i. IsCutShort workers i before after) left rest input told end
-    (cut_of workers frames outputs
-    (λ o output fits m. goes o output (subst (AreFramesOf workers o) (sym same) fits) (subst (λ l. AreMerged outputs (map input_of l) output) (sym same) m))
-    input before after (subst (λ o. AreFramesOf workers o frames) is are) (subst (λ l. AreWrittenInPart outputs (map input_of l) before after) same' w))
+    (cut_of workers frames outputs goes input before after (subst (λ o. SpellsFrames workers o frames) is are) w)
 
 -- one worker's octets are the output
-pub made_by_one : {E : Type 0} (r : Result (List (List ℕ)) E) (frames : List Frame) (octets : List ℕ) → IfOk r (λ outputs. length outputs ≡ 1) → IfOk r (λ outputs. CanBeMerged outputs (map input_of frames))
-    → IfOk r (λ outputs. (octets output : List ℕ) → AreFramesOf 1 octets frames → AreMerged outputs (map input_of frames) output → IsReplay 1 octets output)
-    → All (λ frame. frame.worker < 1) frames → AreFramesOf 1 octets frames → IfOk r (λ outputs. (d : List ℕ) → IsReplay 1 octets (get_or outputs 0 d))
-made_by_one (Ok outputs) frames octets one (whole, m) goes below are = λ d.
-    subst (IsReplay 1 octets) (merged_by_one outputs (map input_of frames) d whole one (subst (λ n. All (λ (input : Input). input.worker < n) (map input_of frames)) (sym one) (below_inputs 1 frames below)) m) (goes octets whole are m)
-made_by_one (Err e) frames octets one merge goes below are = tt
+pub made_by_one : {E : Type 0} (r : Result (List (List ℕ)) E) (frames : List Input) (octets : List ℕ) → IfOk r (λ outputs. length outputs ≡ 1) → IfOk r (λ outputs. CanBeMerged outputs frames)
+    → IfOk r (λ outputs. (octets output : List ℕ) → SpellsFrames 1 octets frames → AreMerged outputs frames output → IsReplay 1 octets output)
+    → SpellsFrames 1 octets frames → IfOk r (λ outputs. (d : List ℕ) → IsReplay 1 octets (get_or outputs 0 d))
+made_by_one (Ok outputs) frames octets one (whole, m) goes are = λ d.
+    subst (IsReplay 1 octets) (merged_by_one outputs frames d whole one (subst (λ n. All (λ (input : Input). input.worker < n) frames) (sym one) are.below) m) (goes octets whole are m)
+made_by_one (Err e) frames octets one merge goes are = tt

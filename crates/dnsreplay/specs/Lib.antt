@@ -1,4 +1,3 @@
-pub mod Frames
 pub mod Made
 pub mod Run
 pub mod Serve

@@ -1,9 +1,8 @@
 //! `dnsreplay`: frames of queries and upstream answers in, frames of what becomes of them out; or datagrams on loopback. `run`
 //! carries the headline; read `specs/Run.antt`, `Serve` and `Status`, then `Words` of `command_line`, and then the specs of
-//! `replay_meaning` and `server`. `Frames` are the words of its parts.
+//! `replay_meaning` and `server`.
 #![tactic(auto)]
 
-mod frames;
 mod reading;
 mod replay;
 mod run;

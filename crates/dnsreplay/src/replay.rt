@@ -1,34 +1,31 @@
-ghost use Rattle.std.specs.Prelude.{ℕ, List, ◌<◌, ◌≤◌, ◌≡◌, ◌^◌, length, map, All, IfOk};
-ghost use Rattle.replay_meaning.specs.Frame.{input_of};
-ghost use Rattle.replay_meaning.specs.Replay.{IsReplay};
+ghost use Rattle.std.specs.Prelude.{ℕ, List, ◌<◌, ◌≤◌, ◌≡◌, ◌^◌, length, All, IfOk};
+ghost use Rattle.replay_meaning.specs.Replay.{IsReplay, SpellsFrames};
 ghost use Rattle.worker_seats.specs.Merge.{AreMerged, CanBeMerged};
-ghost use Rattle.dnsreplay.specs.Frames.{AreFramesOf};
 
 use dname::OutOfMemory;
 use outside_core::Gate;
-use replay_meaning::Frame;
 use resolver::SharedCache;
 use std::alloc::Global;
 use std::sync::Wait;
 use std::thread::Threads;
-use worker_seats::{Outputs, run_workers};
+use worker_seats::{Frames, Outputs, run_workers};
 
 /// What so many workers write of the frames, each on a thread of its own, over a cache that holds nothing at first.
 pub fn replay<R: Threads + Wait + Sync, G: Gate>(
     rt: &R,
     alloc: Global,
     workers: u8,
-    frames: &[Frame<'_>],
+    frames: &Frames<'_>,
     gate: &G,
 ) -> Result<Outputs, OutOfMemory>
     requires workers { (1 ≤ workers) × (workers ≤ 32) }
     requires below { All (λ frame. frame.worker < workers) frames.now }
     requires few { length frames.now < 2 ^ 32 }
     ensures all { IfOk result (λ outputs. length outputs ≡ workers) }
-    ensures merge { IfOk result (λ outputs. CanBeMerged outputs (map input_of frames.now)) }
+    ensures merge { IfOk result (λ outputs. CanBeMerged outputs frames.now) }
     ensures replay { IfOk result (λ outputs. (octets output : List ℕ)
-        → AreFramesOf workers octets frames.now
-        → AreMerged outputs (map input_of frames.now) output → IsReplay workers octets output) }
+        → SpellsFrames workers octets frames.now
+        → AreMerged outputs frames.now output → IsReplay workers octets output) }
 {
     let (cache, seats) = SharedCache::with_seats(rt, alloc, workers)?;
     match run_workers(rt, alloc, &cache, seats, frames, gate) {

@@ -8,7 +8,6 @@ ghost use Rattle.command_line.specs.declared.command.Command.TheVariants.{Replay
 ghost use Rattle.server.specs.Back.{CameBack, AllServedWhole};
 ghost use Rattle.dnsreplay.specs.Serve.{service_of, IsOfServe, ServedInPart};
 
-use crate::frames::read_frames;
 use crate::reading::{MAX_INPUT, ReadError, read_whole};
 use crate::replay::replay;
 use crate::selfrun::selfrun;
@@ -19,7 +18,7 @@ use server::{ServeError, Service, serve};
 use std::alloc::Global;
 use std::sync::Wait;
 use std::thread::Threads;
-use worker_seats::{write_outputs, write_whole};
+use worker_seats::{Frames, write_outputs, write_whole};
 
 /// Runs the words, those after the program's name: replays over the source and the sink, and serves over the harbor at the
 /// moments that the clock tells. Workers of a replay pass the gate.
@@ -282,10 +281,8 @@ fn run_replay<R: Threads + Wait + Sync, S: Source, K: Sink, G: Gate>(
     if input.len() > MAX_INPUT {
         return Status::InputTooLong;
     }
-    let frames = match read_frames(alloc, &input, workers) {
-        Ok(Some(frames)) => frames,
-        Ok(None) => return Status::BadFrame,
-        Err(_) => return Status::OutOfMemory,
+    let Some(frames) = Frames::of(&input, workers) else {
+        return Status::BadFrame;
     };
     let Ok(outputs) = replay(rt, alloc, workers, &frames, gate) else {
         return Status::OutOfMemory;
@@ -304,6 +301,8 @@ mod hostile_tests;
 mod life_tests;
 #[cfg(test)]
 mod message_tests;
+#[cfg(test)]
+mod port_tests;
 #[cfg(test)]
 mod selfrun_tests;
 #[cfg(test)]

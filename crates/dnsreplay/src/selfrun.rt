@@ -1,6 +1,6 @@
-ghost use Rattle.std.specs.Prelude.{◌≡◌, ℕ, ◌≤◌, List, ◌++◌, length, map, slice_index_or, IfOk, OnOk};
+ghost use Rattle.std.specs.Prelude.{◌≡◌, ℕ, ◌<◌, ◌≤◌, ◌^◌, List, ◌++◌, All, length, map, slice_index_or, IfOk, OnOk};
 ghost use Rattle.std.specs.String.{string_bytes};
-ghost use Rattle.replay_meaning.specs.Frame.{input_of, inputs_spelling};
+ghost use Rattle.replay_meaning.specs.Frame.{input_spelling, inputs_spelling, kind_number};
 ghost use Rattle.replay_meaning.specs.Replay.{IsReplay};
 ghost use Rattle.dnsreplay.specs.Made.{made_input, made_inputs, queries_of};
 ghost use Rattle.dnsreplay.specs.Summary.{IsMadeSummary};
@@ -9,12 +9,12 @@ use crate::replay::replay;
 use crate::summary::summary;
 use dname::{Octets, OctetsList, OutOfMemory};
 use outside_core::Gate;
-use replay_meaning::{Frame, FrameKind};
+use replay_meaning::FrameKind;
 use reply_core::ReplyBuffer;
 use std::alloc::Global;
 use std::sync::Wait;
 use std::thread::Threads;
-use worker_seats::Outputs;
+use worker_seats::{Frames, Outputs};
 use zone_maker::{make, question};
 
 /// When the messages come, in seconds.
@@ -57,14 +57,17 @@ fn made_outputs<R: Threads + Wait + Sync, G: Gate>(
 {
     let made = make(alloc, seed, names)?;
     let asked = questions(alloc, seed, names, queries)?;
-    let mut frames = Vec::new(alloc);
+    let mut octets = Vec::new(alloc);
     put_frames(
-        &mut frames,
+        &mut octets,
         FrameKind::Upstream,
         MESSAGES_AT,
         &made.messages,
     )?;
-    put_frames(&mut frames, FrameKind::Query, QUERIES_AT, &asked)?;
+    put_frames(&mut octets, FrameKind::Query, QUERIES_AT, &asked)?;
+    let Some(frames) = Frames::of(&octets, 1) else {
+        unreachable!()
+    };
     replay(rt, alloc, 1, &frames, gate)
 }
 
@@ -81,23 +84,47 @@ fn questions(alloc: Global, seed: u32, names: u32, queries: u32) -> Result<Octet
     Ok(questions)
 }
 
-// Puts a frame for each message last.
-fn put_frames<'a>(
-    frames: &mut Vec<Frame<'a>>,
+// Puts the octets of a frame for each message last.
+fn put_frames(
+    octets: &mut Vec<u8>,
     kind: FrameKind,
     now: u32,
-    messages: &'a OctetsList,
+    messages: &OctetsList,
 ) -> Result<(), OutOfMemory>
-    ensures { OnOk result (map input_of frames.new.items
-        ≡ map input_of frames.old.items ++ map (made_input kind now) messages.now) }
+    requires { All (λ message. length message < 2 ^ 16) messages.now }
+    ensures { OnOk result (octets.new.items
+        ≡ octets.old.items ++ inputs_spelling (map (made_input kind now) messages.now)) }
 {
     for message in messages.as_slice() {
-        frames.push(Frame {
-            kind,
-            worker: 0,
-            now,
-            message: message.as_slice(),
-        })?;
+        put_frame(octets, kind, now, message.as_slice())?;
     }
     Ok(())
+}
+
+// For the one worker.
+fn put_frame(
+    octets: &mut Vec<u8>,
+    kind: FrameKind,
+    now: u32,
+    message: &[u8],
+) -> Result<(), OutOfMemory>
+    requires { length message.now < 2 ^ 16 }
+    ensures { OnOk result (octets.new.items
+        ≡ octets.old.items ++ input_spelling (made_input kind now message.now)) }
+{
+    let size = message.len() as u16;
+    octets.push(number_of(kind))?;
+    octets.push(0)?;
+    octets.extend_from_slice(&now.to_be_bytes())?;
+    octets.extend_from_slice(&size.to_be_bytes())?;
+    octets.extend_from_slice(message)
+}
+
+fn number_of(kind: FrameKind) -> u8
+    ensures { result ≡ kind_number kind }
+{
+    match kind {
+        FrameKind::Query => 1,
+        FrameKind::Upstream => 2,
+    }
 }

@@ -1,3 +1,4 @@
+pub mod FramesLemmas
 pub mod OwnLemmas
 pub mod AnswerLemmas
 pub mod LawLemmas

@@ -1,20 +1,21 @@
 -- The outputs of all workers, written in the order of the inputs.
-use Rattle.std.proofs.Common.{◌≡◌, ℕ, zero, suc, ◌+◌, ◌<◌, ◌≤◌, Bool, true, false, ◌&&◌, ◌==◌, List, [], ◌∷◌, ◌++◌, length, map, drop, get_or, set, Option, refl, sym, ◌∙◌, ap, subst, arith, append_assoc, length-append}
+use Rattle.std.proofs.Common.{◌≡◌, ℕ, zero, suc, ◌+◌, ◌<◌, ◌≤◌, Bool, true, false, ◌&&◌, ◌==◌, List, [], ◌∷◌, ◌++◌, length, drop, get_or, set, Option, refl, sym, ◌∙◌, ap, subst, arith, append_assoc, length-append}
 use Rattle.std.specs.List.{All, AllZip, list_all}
 use Rattle.std.proofs.lemmas.Bool.{false≢true}
 use Rattle.std.proofs.lemmas.Bool.Decides.{Decides-eqb}
-use Rattle.std.proofs.lemmas.List.{append-nil, drop_at, drop_more, drop_all, get_or-set_same, get_or-set_other}
+use Rattle.std.proofs.lemmas.List.{append-nil, drop_at, get_or-set_same, get_or-set_other}
 use Rattle.std.proofs.lemmas.List.Concat.{flat_map-append}
-use Rattle.std.proofs.lemmas.List.Elements.{All-nil, All-cons, All-head, All-tail, filter-append}
+use Rattle.std.proofs.lemmas.List.Elements.{All-head, All-tail, filter-append}
 use Rattle.outside_core.specs.Told.{append_told}
 use Rattle.outside_core.proofs.ToldLemmas.{append_told-append_told}
-use Rattle.replay_meaning.specs.Frame.{Input, input_of}
+use Rattle.replay_meaning.specs.Frame.{Input, IsInput, input_spelling}
 use Rattle.replay_meaning.specs.OutFrame.{Output, IsOutput, output_spelling, outputs_spelling}
-use Rattle.replay_meaning.specs.declared.frame.Frame.{Frame}
 use Rattle.replay_meaning.proofs.FrameLemmas.{spelling-push}
+use Rattle.worker_seats.specs.Frames.{AreSpelled}
 use Rattle.worker_seats.specs.Gather.{Gathers, IsPartWritten}
 use Rattle.worker_seats.specs.Merge.{AreMerged, AreWritten, AreWrittenInPart, BeginsWithFrame, CanBeMerged}
-use Rattle.worker_seats.specs.Workers.{HasSameWorker, inputs_of, outputs_of}
+use Rattle.worker_seats.specs.Workers.{HasSameWorker, outputs_of}
+use Rattle.worker_seats.proofs.FramesLemmas.{next_left, no_left}
 use Rattle.worker_seats.proofs.GatherLemmas.{part_within, told_none}
 use Rattle.worker_seats.proofs.OwnLemmas.{own_here, own_push, own_push_other}
 
@@ -59,13 +60,6 @@ none_left (output ∷ rest) same = absurd same
 first_after : {X : Type 0} (P : X → Type 0) (front : List X) (x : X) (back : List X) → All P (front ++ x ∷ back) → P x
 first_after P [] x back all = All-head P x back all
 first_after P (y ∷ front) x back all = first_after P front x back (All-tail P y (front ++ x ∷ back) all)
-
-pub below_inputs : (n : ℕ) (frames : List Frame) → All (λ frame. frame.worker < n) frames → All (λ input. input.worker < n) (map input_of frames)
-below_inputs n [] all = All-nil (λ (input : Input). input.worker < n)
-below_inputs n (frame ∷ frames) all =
-    All-cons (λ (input : Input). input.worker < n) (input_of frame) (map input_of frames)
-    (All-head (λ (f : Frame). f.worker < n) frame frames all)
-    (below_inputs n frames (All-tail (λ (f : Frame). f.worker < n) frame frames all))
 
 -- ---- the next output
 
@@ -187,62 +181,77 @@ module _ (parts : List (List ℕ)) (all : List Input) (places gathered : List �
 
 -- ---- over frames
 
-module _ (parts : List (List ℕ)) (frames : List Frame) (places gathered : List ℕ) (before now : Option (List ℕ)) where
-  abbrev pub MergingFrom : ℕ → Type 0
-  MergingFrom i = Merging parts (map input_of frames) (map input_of (drop i frames)) places gathered before now
+-- the rest spells the frames that are left
+pub record MergingAt (parts : List (List ℕ)) (inputs : List Input) (rest places gathered : List ℕ) (before now : Option (List ℕ)) : Type 0 where
+  pub left : List Input
+  pub spelled : AreSpelled rest left
+  pub below : All (λ input. input.worker < length parts) left
+  pub merging : Merging parts inputs left places gathered before now
 
-  pub at_frame : (i : ℕ) (d : Frame) → i < length frames → MergingFrom i → Merging parts (map input_of frames) (input_of (get_or frames i d) ∷ map input_of (drop (i + 1) frames)) places gathered before now
-  at_frame i d lt m = subst (λ l. Merging parts (map input_of frames) (map input_of l) places gathered before now) (drop_more frames i d lt) m
+pub merging_first : (parts : List (List ℕ)) (inputs : List Input) (rest places gathered : List ℕ) (told : Option (List ℕ)) → AreSpelled rest inputs → All (λ input. input.worker < length parts) inputs → CanBeMerged parts inputs → ((worker : ℕ) → get_or places worker 0 ≡ 0) → gathered ≡ [] → MergingAt parts inputs rest places gathered told told
+merging_first parts inputs rest places gathered told spelled below can zeros none =
+    record { left = inputs; spelled = spelled; below = below; merging = merging_none parts inputs places gathered told can zeros none }
 
-  pub at_end : (i : ℕ) → length frames ≤ i → MergingFrom i → Merging parts (map input_of frames) [] places gathered before now
-  at_end i all m = subst (λ l. Merging parts (map input_of frames) (map input_of l) places gathered before now) (drop_all i frames all) m
+-- none are left
+pub at_end : (parts : List (List ℕ)) (inputs : List Input) (rest places gathered : List ℕ) (before now : Option (List ℕ)) → MergingAt parts inputs rest places gathered before now
+    → ((input : Input) (after : List ℕ) → IsInput input → rest ≡ input_spelling input ++ after → ⊥) → Merging parts inputs [] places gathered before now
+at_end parts inputs rest places gathered before now m none = subst (λ l. Merging parts inputs l places gathered before now) (no_left m.left rest m.spelled none) m.merging
 
-module _ (parts : List (List ℕ)) (frames : List Frame) (places gathered : List ℕ) (before now : Option (List ℕ)) (i : ℕ) (d : Frame) (lt : i < length frames) (m : MergingFrom parts frames places gathered before now i) (below : (get_or frames i d).worker < length parts) (w : ℕ) (is : w ≡ (get_or frames i d).worker) (octets : List ℕ) (part : (e : List ℕ) → octets ≡ get_or parts w e) where
-  place_is : get_or places w 0 ≡ get_or places (get_or frames i d).worker 0
-  place_is = ap (λ v. get_or places v 0) is
+module _ (parts : List (List ℕ)) (inputs : List Input) (rest after places gathered : List ℕ) (before now : Option (List ℕ)) (input : Input) (at : MergingAt parts inputs rest places gathered before now) (fits : IsInput input) (read : rest ≡ input_spelling input ++ after) where
+  abbrev next : (more : List Input) × (at.left ≡ input ∷ more) × AreSpelled after more
+  next = next_left at.left rest after input at.spelled fits read
 
-  octets_is : (e : List ℕ) → octets ≡ get_or parts (get_or frames i d).worker e
-  octets_is e = part e ∙ ap (λ v. get_or parts v e) is
+  all_below : All (λ i. i.worker < length parts) (input ∷ next.0)
+  all_below = subst (All (λ (i : Input). i.worker < length parts)) next.1 at.below
 
-  abbrev its_output : Output
-  its_output = output parts (map input_of frames) (map input_of (drop (i + 1) frames)) (input_of (get_or frames i d)) places gathered before now (at_frame parts frames places gathered before now i d lt m) below
+  pub mine : input.worker < length parts
+  mine = All-head (λ (i : Input). i.worker < length parts) input next.0 all_below
 
-  abbrev its_later : List ℕ
-  its_later = later parts (map input_of frames) (map input_of (drop (i + 1) frames)) (input_of (get_or frames i d)) places gathered before now (at_frame parts frames places gathered before now i d lt m) below
+  m : Merging parts inputs (input ∷ next.0) places gathered before now
+  m = subst (λ l. Merging parts inputs l places gathered before now) next.1 at.merging
 
-  its_valid : IsOutput its_output
-  its_valid = valid parts (map input_of frames) (map input_of (drop (i + 1) frames)) (input_of (get_or frames i d)) places gathered before now (at_frame parts frames places gathered before now i d lt m) below
+  module _ (w : ℕ) (is : w ≡ input.worker) (octets : List ℕ) (part : (e : List ℕ) → octets ≡ get_or parts w e) where
+    place_is : get_or places w 0 ≡ get_or places input.worker 0
+    place_is = ap (λ v. get_or places v 0) is
 
-  its_front : drop (get_or places w 0) octets ≡ output_spelling its_output ++ its_later
-  its_front =
-      ap (λ p. drop p octets) place_is ∙ ap (drop (get_or places (get_or frames i d).worker 0)) (octets_is [])
-      ∙ front parts (map input_of frames) (map input_of (drop (i + 1) frames)) (input_of (get_or frames i d)) places gathered before now (at_frame parts frames places gathered before now i d lt m) below []
+    octets_is : (e : List ℕ) → octets ≡ get_or parts input.worker e
+    octets_is e = part e ∙ ap (λ v. get_or parts v e) is
 
-  pub frame_within : get_or places w 0 ≤ length octets
-  frame_within =
-      omega (
-        arith,
-        place_is,
-        ap length (octets_is []),
-        within parts (map input_of frames) (map input_of (drop (i + 1) frames)) (input_of (get_or frames i d)) places gathered before now (at_frame parts frames places gathered before now i d lt m) below [],
-      )
+    abbrev its_output : Output
+    its_output = output parts inputs next.0 input places gathered before now m mine
 
-  pub frame_begins : BeginsWithFrame (drop (get_or places w 0) octets)
-  frame_begins = record { output = its_output; rest = its_later; valid = its_valid; is = its_front }
+    abbrev its_later : List ℕ
+    its_later = later parts inputs next.0 input places gathered before now m mine
 
-  pub frame_more : (next : ℕ) (gathered' : List ℕ) (now' : Option (List ℕ)) → w < length places
-      → ((o : Output) (rest : List ℕ) → IsOutput o → drop (get_or places w 0) octets ≡ output_spelling o ++ rest → (next ≡ get_or places w 0 + length (output_spelling o)) × Gathers gathered (output_spelling o) gathered' now now')
-      → MergingFrom parts frames (set places w next) gathered' before now' (i + 1)
-  frame_more next gathered' now' room put =
-      let took = put its_output its_later its_valid its_front in
-      subst (λ v. Merging parts (map input_of frames) (map input_of (drop (i + 1) frames)) (set places v next) gathered' before now') (sym is)
-      (merging_more parts (map input_of frames) (map input_of (drop (i + 1) frames)) (input_of (get_or frames i d)) places gathered before now (at_frame parts frames places gathered before now i d lt m) below
-      next gathered' now' (omega (arith, is, room)) (omega (arith, took.0, place_is)) took.1)
+    its_valid : IsOutput its_output
+    its_valid = valid parts inputs next.0 input places gathered before now m mine
 
-  pub frame_cut : (now' : Option (List ℕ)) → ((o : Output) (rest : List ℕ) → IsOutput o → drop (get_or places w 0) octets ≡ output_spelling o ++ rest → IsPartWritten (gathered ++ output_spelling o) now now') → AreWrittenInPart parts (map input_of frames) before now'
-  frame_cut now' cut =
-      merging_cut parts (map input_of frames) (map input_of (drop (i + 1) frames)) (input_of (get_or frames i d)) places gathered before now (at_frame parts frames places gathered before now i d lt m) below
-      now' (cut its_output its_later its_valid its_front)
+    its_front : drop (get_or places w 0) octets ≡ output_spelling its_output ++ its_later
+    its_front =
+        ap (λ p. drop p octets) place_is ∙ ap (drop (get_or places input.worker 0)) (octets_is [])
+        ∙ front parts inputs next.0 input places gathered before now m mine []
+
+    pub frame_within : get_or places w 0 ≤ length octets
+    frame_within = omega (arith, place_is, ap length (octets_is []), within parts inputs next.0 input places gathered before now m mine [])
+
+    pub frame_begins : BeginsWithFrame (drop (get_or places w 0) octets)
+    frame_begins = record { output = its_output; rest = its_later; valid = its_valid; is = its_front }
+
+    pub frame_more : (place : ℕ) (gathered' : List ℕ) (now' : Option (List ℕ)) → w < length places
+        → ((o : Output) (rest : List ℕ) → IsOutput o → drop (get_or places w 0) octets ≡ output_spelling o ++ rest → (place ≡ get_or places w 0 + length (output_spelling o)) × Gathers gathered (output_spelling o) gathered' now now')
+        → MergingAt parts inputs after (set places w place) gathered' before now'
+    frame_more place gathered' now' room put =
+        let took = put its_output its_later its_valid its_front in
+        record {
+          left = next.0;
+          spelled = next.2;
+          below = All-tail (λ (i : Input). i.worker < length parts) input next.0 all_below;
+          merging = subst (λ v. Merging parts inputs next.0 (set places v place) gathered' before now') (sym is)
+              (merging_more parts inputs next.0 input places gathered before now m mine place gathered' now' (omega (arith, is, room)) (omega (arith, took.0, place_is)) took.1);
+        }
+
+    pub frame_cut : (now' : Option (List ℕ)) → ((o : Output) (rest : List ℕ) → IsOutput o → drop (get_or places w 0) octets ≡ output_spelling o ++ rest → IsPartWritten (gathered ++ output_spelling o) now now') → AreWrittenInPart parts inputs before now'
+    frame_cut now' cut = merging_cut parts inputs next.0 input places gathered before now m mine now' (cut its_output its_later its_valid its_front)
 
 -- ---- one worker
 
@@ -258,7 +267,5 @@ pub merged_by_one : (parts : List (List ℕ)) (inputs : List Input) (d octets : 
 merged_by_one parts inputs d octets one below m =
     m.written ∙ ap outputs_spelling (sym (all_own inputs m.outputs m.same (subst (λ (n : ℕ). All (λ (i : Input). i.worker < n) inputs) one below))) ∙ sym (m.each 0 d (omega (arith, one)))
 
-pub one_can : (parts : List (List ℕ)) (frames : List Frame) (octets : List ℕ) → length parts ≡ 1 → All (λ frame. frame.worker < length parts) frames → CanBeMerged parts (map input_of frames)
-    → ((d : List ℕ) → octets ≡ get_or parts 0 d) → AreMerged parts (map input_of frames) octets
-one_can parts frames octets one below (whole, m) is =
-    subst (AreMerged parts (map input_of frames)) (merged_by_one parts (map input_of frames) [] whole one (below_inputs (length parts) frames below) m ∙ sym (is [])) m
+pub one_can : (parts : List (List ℕ)) (inputs : List Input) (octets : List ℕ) → length parts ≡ 1 → All (λ input. input.worker < length parts) inputs → CanBeMerged parts inputs → ((d : List ℕ) → octets ≡ get_or parts 0 d) → AreMerged parts inputs octets
+one_can parts inputs octets one below (whole, m) is = subst (AreMerged parts inputs) (merged_by_one parts inputs [] whole one below m ∙ sym (is [])) m

@@ -1,5 +1,5 @@
 -- Outputs of each worker, one for each of its inputs, can be merged.
-use Rattle.std.proofs.Common.{◌≡◌, ℕ, zero, suc, ◌+◌, ◌<◌, Bool, true, false, ◌==◌, cond, List, [], ◌∷◌, length, get_or, refl, sym, ◌∙◌, ap, subst, arith}
+use Rattle.std.proofs.Common.{◌≡◌, ℕ, zero, suc, ◌<◌, Bool, true, false, ◌==◌, cond, List, [], ◌∷◌, length, get_or, refl, sym, ◌∙◌, ap, subst, arith}
 use Rattle.std.specs.List.{All, AllZip}
 use Rattle.std.proofs.lemmas.Bool.{false≢true}
 use Rattle.std.proofs.lemmas.Bool.Decides.{Decides-eqb}
@@ -7,7 +7,7 @@ use Rattle.std.proofs.lemmas.List.{nil_from_length}
 use Rattle.std.proofs.lemmas.List.Elements.{All-nil, All-cons, All-head, All-tail}
 use Rattle.replay_meaning.specs.Frame.{Input}
 use Rattle.replay_meaning.specs.OutFrame.{Output, IsOutput, outputs_spelling}
-use Rattle.worker_seats.specs.Merge.{AreMerged, AreOutputsOf, CanBeMerged}
+use Rattle.worker_seats.specs.Merge.{AreOutputsOf, CanBeMerged}
 use Rattle.worker_seats.specs.Workers.{HasSameWorker, inputs_of, outputs_of}
 use Rattle.worker_seats.proofs.OwnLemmas.{own_here, own_other}
 

@@ -1,8 +1,8 @@
 -- One worker's shift, frame by frame.
-use Rattle.std.proofs.Common.{◌≡◌, ℕ, zero, suc, ◌+◌, ◌<◌, ◌≤◌, ◌⊎◌, inl, inr, Bool, true, false, cond, ◌==◌, List, [], ◌∷◌, ◌++◌, length, map, take, get_or, Option, None, Some, slice_get, refl, sym, ◌∙◌, ap, subst, arith, append_assoc}
+use Rattle.std.proofs.Common.{◌≡◌, ℕ, zero, suc, ◌+◌, ◌^◌, ◌<◌, ◌≤◌, ◌⊎◌, inl, inr, Bool, true, false, cond, ◌==◌, List, [], ◌∷◌, ◌++◌, length, take, get_or, Option, None, Some, slice_get, refl, sym, ◌∙◌, ap, subst, arith, append_assoc, length-append}
 use Rattle.std.specs.List.{AllZip}
 use Rattle.std.proofs.lemmas.Bool.{false≢true}
-use Rattle.std.proofs.lemmas.List.{append-nil, map-append, take_more}
+use Rattle.std.proofs.lemmas.List.{append-nil}
 use Rattle.std.proofs.lemmas.List.Elements.{All-nil, All-push, filter-append}
 use Rattle.std.proofs.lemmas.List.Quantifiers.{all_pairs_push}
 use mathlib.Core.List.{IsPrefix}
@@ -13,22 +13,23 @@ use Rattle.cache_versions.specs.declared.seat.Seat.{Seat}
 use Rattle.cache_versions.specs.Seats.{places_by, seen_by}
 use Rattle.cache_versions.proofs.Fronts.{prefix_self, prefix_trans, prefix_length}
 use Rattle.reply_core.specs.Answered.{reply_in}
-use Rattle.replay_meaning.specs.Frame.{Input, input_of}
+use Rattle.replay_meaning.specs.Frame.{Input, IsInput, input_spelling}
 use Rattle.replay_meaning.specs.OutFrame.{Output, IsOutput, output_spelling}
 use Rattle.replay_meaning.specs.Step.{Step, Query, Insert, Tell}
 use Rattle.replay_meaning.specs.Fits.{IsOutputOf, is_call, is_placed, query_output}
 use Rattle.replay_meaning.specs.Sound.{IsSoundReply}
-use Rattle.replay_meaning.specs.declared.frame.Frame.{Frame}
 use Rattle.replay_meaning.specs.declared.out_frame.OutKind.{OutKind}
 use Rattle.replay_meaning.specs.declared.out_frame.OutKind.TheVariants.{Reply, Forward, Stored, Refused, Dropped, Error}
 use Rattle.replay_meaning.proofs.FrameLemmas.{spelling-push}
 use Rattle.replay_meaning.proofs.StepLemmas.{TellsNoCall, tells_no_call}
 use Rattle.worker_seats.specs.Answer.{IsSpent, IsAnswered}
+use Rattle.worker_seats.specs.Frames.{AreSpelled}
 use Rattle.worker_seats.specs.OneFrame.{IsCall, IsDone, DoesOneFrame, places_of}
 use Rattle.worker_seats.specs.Shift.{TellsCall, IsInTurn, IsShift}
 use Rattle.worker_seats.specs.Work.{IsWork}
 use Rattle.worker_seats.specs.Workers.{HasWorked, inputs_of}
 use Rattle.worker_seats.proofs.AnswerLemmas.{answered_more}
+use Rattle.worker_seats.proofs.FramesLemmas.{Walks, next_left, split_next, walk_all}
 use Rattle.worker_seats.proofs.LawLemmas.{zip_weaker}
 use Rattle.worker_seats.proofs.OwnLemmas.{equal_test, unequal_test}
 use Rattle.worker_seats.proofs.TurnLemmas.{answered_sound}
@@ -129,10 +130,6 @@ placed_calls Refused placed = placed
 placed_calls Dropped placed = placed
 placed_calls Error placed = placed
 
--- one more of the frames
-pub inputs_more : (frames : List Frame) (i : ℕ) (d : Frame) → i < length frames → map input_of (take (i + 1) frames) ≡ map input_of (take i frames) ++ input_of (get_or frames i d) ∷ []
-inputs_more frames i d within = ap (map input_of) (take_more frames i d within) ∙ map-append input_of (take i frames) (get_or frames i d ∷ [])
-
 -- ---- a shift
 
 module _ {g : Ghosts Held Batch (Unit {0})} where
@@ -200,13 +197,36 @@ module _ {g : Ghosts Held Batch (Unit {0})} where
         });
       }
 
-  pub frame_other : (worker : ℕ) (before after : Seat Held Batch (Unit {0}) g) (frames : List Frame) (i : ℕ) (d : Frame) (octets : List ℕ) → i < length frames → ((get_or frames i d).worker ≡ worker → ⊥)
-      → IsWork worker before after (map input_of (take i frames)) octets → IsWork worker before after (map input_of (take (i + 1) frames)) octets
-  frame_other worker before after frames i d octets within other work =
-      subst (λ l. IsWork worker before after l octets) (sym (inputs_more frames i d within)) (work_other worker before after (map input_of (take i frames)) (input_of (get_or frames i d)) octets other work)
+  -- some of the frames are done, the worker's own by so many calls, and the rest spells the others
+  pub record IsUnderWay (worker : ℕ) (before now : Seat Held Batch (Unit {0}) g) (inputs : List Input) (rest : List ℕ) (calls : ℕ) (octets : List ℕ) : Type 0 where
+    pub walk : Walks inputs rest
+    pub few : calls ≤ length walk.done
+    pub work : IsWork worker before now walk.done octets
 
-  pub frame_own : (worker : ℕ) (before now after : Seat Held Batch (Unit {0}) g) (frames : List Frame) (i : ℕ) (d : Frame) (octets octets' : List ℕ) → i < length frames → (get_or frames i d).worker ≡ worker
-      → IsPrefix (seen_by now) (seen_by after) → DoesOneFrame now after (input_of (get_or frames i d)) octets octets'
-      → IsWork worker before now (map input_of (take i frames)) octets → IsWork worker before after (map input_of (take (i + 1) frames)) octets'
-  frame_own worker before now after frames i d octets octets' within same begins does work =
-      subst (λ l. IsWork worker before after l octets') (sym (inputs_more frames i d within)) (work_own worker before now after (map input_of (take i frames)) (input_of (get_or frames i d)) octets octets' same begins does work)
+  pub under_way_none : (worker : ℕ) (seat : Seat Held Batch (Unit {0}) g) (inputs : List Input) (rest octets : List ℕ) → AreSpelled rest inputs → octets ≡ [] → IsUnderWay worker seat seat inputs rest 0 octets
+  under_way_none worker seat inputs rest octets spelled none = record { walk = record { done = []; left = inputs; split = refl; spelled = spelled }; few = omega arith; work = work_none worker seat octets none }
+
+  module _ (worker : ℕ) (before now : Seat Held Batch (Unit {0}) g) (inputs : List Input) (rest after : List ℕ) (input : Input) (calls : ℕ) (octets : List ℕ) (way : IsUnderWay worker before now inputs rest calls octets) (fits : IsInput input) (is : rest ≡ input_spelling input ++ after) where
+    abbrev next : (more : List Input) × (way.walk.left ≡ input ∷ more) × AreSpelled after more
+    next = next_left way.walk.left rest after input way.walk.spelled fits is
+
+    pub calls_few : length inputs < 2 ^ 32 → calls + 1 < 2 ^ 32
+    calls_few few = omega (arith, few, way.few, ap length (split_next inputs rest way.walk input next.0 next.1), length-append (way.walk.done ++ input ∷ []) next.0, length-append way.walk.done (input ∷ []))
+
+    pub frame_other : (input.worker ≡ worker → ⊥) → IsUnderWay worker before now inputs after calls octets
+    frame_other other = record {
+      walk = record { done = way.walk.done ++ input ∷ []; left = next.0; split = split_next inputs rest way.walk input next.0 next.1; spelled = next.2 };
+      few = omega (arith, way.few, length-append way.walk.done (input ∷ []));
+      work = work_other worker before now way.walk.done input octets other way.work;
+    }
+
+    pub frame_own : (seat : Seat Held Batch (Unit {0}) g) (octets' : List ℕ) → input.worker ≡ worker → IsPrefix (seen_by now) (seen_by seat) → DoesOneFrame now seat input octets octets' → IsUnderWay worker before seat inputs after (calls + 1) octets'
+    frame_own seat octets' same begins does = record {
+      walk = record { done = way.walk.done ++ input ∷ []; left = next.0; split = split_next inputs rest way.walk input next.0 next.1; spelled = next.2 };
+      few = omega (arith, way.few, length-append way.walk.done (input ∷ []));
+      work = work_own worker before now seat way.walk.done input octets octets' same begins does way.work;
+    }
+
+  pub shift_done : (worker : ℕ) (before now : Seat Held Batch (Unit {0}) g) (inputs : List Input) (rest : List ℕ) (calls : ℕ) (octets : List ℕ) → IsUnderWay worker before now inputs rest calls octets
+      → ((input : Input) (after : List ℕ) → IsInput input → rest ≡ input_spelling input ++ after → ⊥) → IsWork worker before now inputs octets
+  shift_done worker before now inputs rest calls octets way none = subst (λ l. IsWork worker before now l octets) (walk_all inputs rest way.walk none) way.work

@@ -31,7 +31,7 @@ use Rattle.replay_meaning.specs.declared.out_frame.OutKind.TheVariants.{Reply, S
 use Rattle.replay_meaning.proofs.SoundLemmas.{replies_are_sound}
 use Rattle.replay_meaning.proofs.StepLemmas.{tells_no_call}
 use Rattle.worker_seats.specs.Answer.{LAST, IsSpent, IsAnswered}
-use Rattle.worker_seats.specs.OneFrame.{DoesOneFrame, HasAtMostOneMore, Writes, places_of}
+use Rattle.worker_seats.specs.OneFrame.{DoesOneFrame, Writes, places_of}
 
 pub on_ok : {T E P Q : Type 0} (r : Result T E) → (P → Q) → OnOk r P → OnOk r Q
 on_ok (Ok x) f p = f p
@@ -65,12 +65,6 @@ no_place output none = ap (λ (b : Bool). cond b ((output.version - 1) ∷ []) [
 
 same_places : (places : List ℕ) (output : Output) → is_placed output.kind ≡ false → places ≡ places ++ places_of output
 same_places places output none = sym (append-nil places) ∙ ap (λ l. places ++ l) (sym (no_place output none))
-
-pub none_more : (before after : List ℕ) → after ≡ before → HasAtMostOneMore before after
-none_more before after same = record { more = []; few = omega arith; places = same ∙ sym (append-nil before) }
-
-pub one_more : (before after : List ℕ) (place : ℕ) → after ≡ before ++ place ∷ [] → HasAtMostOneMore before after
-one_more before after place is = record { more = place ∷ []; few = omega arith; places = is }
 
 -- ---- steps
 

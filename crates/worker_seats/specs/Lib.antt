@@ -1,4 +1,5 @@
 pub mod Answer
+pub mod Frames
 pub mod Gather
 pub mod Laws
 pub mod Merge

@@ -1,5 +1,5 @@
 -- What one frame does over its worker's seat, and writes at the end of the output.
-use Rattle.std.specs.Prelude.{◌≡◌, ℕ, ◌-◌, ◌<◌, ◌≤◌, ◌⊎◌, true, cond, List, [], ◌∷◌, ◌++◌, length}
+use Rattle.std.specs.Prelude.{◌≡◌, ℕ, ◌-◌, ◌<◌, ◌⊎◌, true, cond, List, [], ◌∷◌, ◌++◌, length}
 use mathlib.Core.List.{IsPrefix}
 use Rattle.denial_records.specs.declared.batch.Batch.{Batch}
 use Rattle.intake.specs.Batch.{IsTaken}
@@ -74,9 +74,3 @@ module _ {g : Ghosts Held Batch (Unit {0})} where
   -- the seat has placed nothing, or the frame's own batch
   abbrev pub HasPlacedAtMost : Seat Held Batch (Unit {0}) g → Seat Held Batch (Unit {0}) g → Input → Type 0
   HasPlacedAtMost before after input = (places_by after ≡ places_by before) ⊎ HasPlaced before after input
-
--- one place more at most
-pub record HasAtMostOneMore (before after : List ℕ) : Type 0 where
-  pub more : List ℕ
-  pub few : length more ≤ 1
-  pub places : after ≡ before ++ more

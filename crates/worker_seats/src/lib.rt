@@ -1,10 +1,12 @@
 //! Workers on threads: each answers its own frames over its own seat of one cache, and the outputs stand in the order of the
 //! inputs.
 //!
-//! Of this crate's specs read `specs/Answer.antt`, `OneFrame`, `Shift`, `Workers`, `Merge` and `Laws`, in this order.
+//! Of this crate's specs read `specs/Answer.antt`, `OneFrame`, `Shift`, `Workers`, `Merge` and `Laws`, in this order, and
+//! `Frames`.
 #![tactic(auto)]
 
 mod answering;
+mod frames;
 mod gather;
 mod laws;
 mod merge;
@@ -14,6 +16,7 @@ mod workers;
 mod writing;
 
 pub use answering::one_frame;
+pub use frames::Frames;
 pub use laws::shifts_fit;
 pub use merge::write_outputs;
 pub use outputs::Outputs;

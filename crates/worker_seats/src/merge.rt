@@ -1,16 +1,16 @@
-ghost use Rattle.std.specs.Prelude.{◌≡◌, ℕ, ◌+◌, ◌<◌, ◌≤◌, List, ◌++◌, All, IfOk, OnOk, OnErr, length, drop, map};
+ghost use Rattle.std.specs.Prelude.{◌≡◌, ℕ, ◌+◌, ◌<◌, ◌≤◌, List, ◌++◌, All, IfOk, OnOk, OnErr, length, drop};
 ghost use Rattle.outside_core.specs.Fault.{Rose};
-ghost use Rattle.replay_meaning.specs.Frame.{input_of};
 ghost use Rattle.replay_meaning.specs.OutFrame.{Output, IsOutput, output_spelling};
 ghost use Rattle.worker_seats.specs.Gather.{Gathers, IsPartWritten};
 ghost use Rattle.worker_seats.specs.Merge.{AreWritten, AreWrittenInPart, BeginsWithFrame, CanBeMerged};
 
+use crate::frames::Frames;
 use crate::gather::{flush, put};
 use crate::outputs::Outputs;
 use crate::writing::write_whole;
 use dname::{octets_from, u16_at};
 use outside_core::{Failed, Sink};
-use replay_meaning::Frame;
+use replay_meaning::read_frame;
 use std::alloc::Global;
 
 /// The octets of an output frame before its body.
@@ -24,15 +24,15 @@ const WORKERS: usize = 256;
 pub fn write_outputs<K: Sink>(
     alloc: Global,
     sink: &mut K,
-    frames: &[Frame<'_>],
+    frames: &Frames<'_>,
     outputs: &Outputs,
 ) -> Result<(), Failed>
     requires workers { All (λ frame. frame.worker < length outputs.now) frames.now }
-    requires merge { CanBeMerged outputs.now (map input_of frames.now) }
-    ensures written { OnOk result (AreWritten outputs.now (map input_of frames.now)
+    requires merge { CanBeMerged outputs.now frames.now }
+    ensures written { OnOk result (AreWritten outputs.now frames.now
         (K.written sink.old) (K.written sink.new)) }
     ensures faults { OnOk result (K.faults sink.new ≡ K.faults sink.old) }
-    ensures part { OnErr result (AreWrittenInPart outputs.now (map input_of frames.now)
+    ensures part { OnErr result (AreWrittenInPart outputs.now frames.now
         (K.written sink.old) (K.written sink.new)) }
     ensures failed { OnErr result (Rose (K.faults sink.old) (K.faults sink.new)) }
 {
@@ -46,27 +46,29 @@ pub fn write_outputs<K: Sink>(
 fn write_in_turn<K: Sink>(
     alloc: Global,
     sink: &mut K,
-    frames: &[Frame<'_>],
+    frames: &Frames<'_>,
     outputs: &Outputs,
 ) -> Result<(), Failed>
     requires workers { All (λ frame. frame.worker < length outputs.now) frames.now }
-    requires merge { CanBeMerged outputs.now (map input_of frames.now) }
-    ensures written { OnOk result (AreWritten outputs.now (map input_of frames.now)
+    requires merge { CanBeMerged outputs.now frames.now }
+    ensures written { OnOk result (AreWritten outputs.now frames.now
         (K.written sink.old) (K.written sink.new)) }
     ensures faults { OnOk result (K.faults sink.new ≡ K.faults sink.old) }
-    ensures part { OnErr result (AreWrittenInPart outputs.now (map input_of frames.now)
+    ensures part { OnErr result (AreWrittenInPart outputs.now frames.now
         (K.written sink.old) (K.written sink.new)) }
     ensures failed { OnErr result (Rose (K.faults sink.old) (K.faults sink.new)) }
 {
     let mut gathered = Vec::new(alloc);
     let mut places = [0usize; WORKERS];
-    for frame in frames {
+    let mut rest = frames.octets();
+    while let Some((frame, after)) = read_frame(rest) {
         let worker = usize::from(frame.worker);
         let octets = outputs.of_worker(worker);
         match put_frame(sink, &mut gathered, octets, places[worker]) {
             Ok(next) => places[worker] = next,
             Err(failed) => return Err(failed),
         }
+        rest = after;
     }
     flush(sink, &mut gathered)
 }

@@ -1,17 +1,16 @@
 ghost use Rattle.std.specs.Prelude.{◌≡◌, ℕ, List, ◌<◌, ◌^◌, All, IfOk, Ok, length, map, slice_index_or};
 ghost use Rattle.cache_versions.specs.Rows.{AreNumbered};
 ghost use Rattle.resolver.specs.Caches.{IsSeatOf};
-ghost use Rattle.replay_meaning.specs.Frame.{input_of};
 ghost use Rattle.worker_seats.specs.declared.shift.Job.{Job};
 ghost use Rattle.worker_seats.specs.Merge.{AreMerged, CanBeMerged};
 ghost use Rattle.worker_seats.specs.Work.{ArePlaced, IsShiftOf};
 ghost use Rattle.worker_seats.specs.Workers.{HaveWorked};
 
+use crate::frames::Frames;
 use crate::outputs::Outputs;
 use crate::shift::{Job, Shift, work_shift};
 use dname::OutOfMemory;
 use outside_core::Gate;
-use replay_meaning::Frame;
 use resolver::{CacheSeat, SharedCache};
 use std::alloc::Global;
 use std::sync::Wait;
@@ -26,7 +25,7 @@ pub fn run_workers<R: Threads + Wait + Sync, G: Gate>(
     alloc: Global,
     cache: &SharedCache,
     seats: Vec<CacheSeat>,
-    frames: &[Frame<'_>],
+    frames: &Frames<'_>,
     gate: &G,
 ) -> Result<(Vec<CacheSeat>, Outputs), OutOfMemory>
     requires object { All (IsSeatOf cache.now) seats.items }
@@ -37,10 +36,10 @@ pub fn run_workers<R: Threads + Wait + Sync, G: Gate>(
     ensures object { IfOk result (λ done. All (IsSeatOf cache.now) done.0.items) }
     ensures numbers { IfOk result (λ done. AreNumbered done.0.items) }
     ensures each { IfOk result (λ done. length done.1 ≡ length seats.items) }
-    ensures merge { IfOk result (λ done. CanBeMerged done.1 (map input_of frames.now)) }
+    ensures merge { IfOk result (λ done. CanBeMerged done.1 frames.now) }
     ensures worked { IfOk result (λ done. (octets : List ℕ)
-        → AreMerged done.1 (map input_of frames.now) octets
-        → HaveWorked seats.items done.0.items (map input_of frames.now) octets) }
+        → AreMerged done.1 frames.now octets
+        → HaveWorked seats.items done.0.items frames.now octets) }
 {
     let results = work_all(rt, alloc, cache, seats, frames, gate)?;
     let shifts = all_shifts(alloc, results)?;
@@ -53,7 +52,7 @@ fn work_all<R: Threads + Wait + Sync, G: Gate>(
     alloc: Global,
     cache: &SharedCache,
     seats: Vec<CacheSeat>,
-    frames: &[Frame<'_>],
+    frames: &Frames<'_>,
     gate: &G,
 ) -> Result<Vec<Result<Shift, OutOfMemory>>, OutOfMemory>
     requires object { All (IsSeatOf cache.now) seats.items }
@@ -63,7 +62,7 @@ fn work_all<R: Threads + Wait + Sync, G: Gate>(
         → worker < length seats.items
         → IfOk (slice_index_or results.items worker d) (IsShiftOf cache.now
         (record { worker = worker; seat = slice_index_or seats.items worker e })
-        (map input_of frames.now))) }
+        frames.now)) }
 {
     let jobs = jobs_of(alloc, seats)?;
     do_jobs(rt, alloc, cache, jobs, frames, gate)
@@ -74,7 +73,7 @@ fn do_jobs<R: Threads + Wait + Sync, G: Gate>(
     alloc: Global,
     cache: &SharedCache,
     jobs: Vec<Job>,
-    frames: &[Frame<'_>],
+    frames: &Frames<'_>,
     gate: &G,
 ) -> Result<Vec<Result<Shift, OutOfMemory>>, OutOfMemory>
     requires object { All (λ job. IsSeatOf cache.now job.seat) jobs.items }
@@ -83,12 +82,12 @@ fn do_jobs<R: Threads + Wait + Sync, G: Gate>(
     ensures each { IfOk result (λ results. (place : ℕ) (d : _) (e : Job)
         → place < length jobs.items
         → IfOk (slice_index_or results.items place d) (IsShiftOf cache.now
-        (slice_index_or jobs.items place e) (map input_of frames.now))) }
+        (slice_index_or jobs.items place e) frames.now)) }
 {
     let work = |job: Job| -> Result<Shift, OutOfMemory>
         requires { IsSeatOf cache.now job.seat × (length frames.now < 2 ^ 32) }
         ensures { IfOk result
-            (IsShiftOf cache.entry.now job (map input_of frames.entry.now)) }
+            (IsShiftOf cache.entry.now job frames.entry.now) }
     { work_shift(rt, alloc, cache, job, frames, gate) };
     thread::map_vec(rt, jobs, &work)
 }

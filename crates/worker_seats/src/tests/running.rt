@@ -1,25 +1,30 @@
 //! A run of workers over a new cache.
-ghost use Rattle.std.specs.Prelude.{◌≡◌, ◌<◌, ◌≤◌, ◌^◌, All, IsTrue, length};
+ghost use Rattle.std.specs.Prelude.{◌≡◌, ◌≤◌};
 
-use crate::{run_workers, write_outputs};
+use crate::{Frames, run_workers, write_outputs};
 use outside_core::{Gate, StreamSink};
-use replay_meaning::Frame;
+use replay_meaning::{Frame, FrameKind};
 use resolver::SharedCache;
 use std::alloc::Global;
 use std::sync::Wait;
 use std::test::Fail;
 use std::thread::Threads;
 
-// Whether each frame is for one of so many workers.
-fn fit(frames: &[Frame<'_>], workers: usize) -> bool
-    ensures { IsTrue result → All (λ frame. frame.worker < workers) frames.now }
-{
+// The octets of the frames.
+fn spelled(alloc: Global, frames: &[Frame<'_>]) -> Result<Vec<u8>, Fail> {
+    let mut octets = Vec::new(alloc);
     for frame in frames {
-        if usize::from(frame.worker) >= workers {
-            return false;
-        }
+        octets.push(match frame.kind {
+            FrameKind::Query => 1,
+            FrameKind::Upstream => 2,
+        })?;
+        octets.push(frame.worker)?;
+        octets.extend_from_slice(&frame.now.to_be_bytes())?;
+        let size = (frame.message.len() % 0x1_0000) as u16;
+        octets.extend_from_slice(&size.to_be_bytes())?;
+        octets.extend_from_slice(frame.message)?;
     }
-    true
+    Ok(octets)
 }
 
 /// What the workers write of the frames, and how many batches they place.
@@ -32,16 +37,25 @@ pub fn written<R: Threads + Wait + Sync, G: Gate>(
 ) -> Result<(Vec<u8>, usize), Fail>
     requires { (1 ≤ workers) × (workers ≤ 32) }
 {
-    let (cache, seats) = SharedCache::with_seats(rt, alloc, workers)?;
-    if frames.len() >= 1_000_000 || !fit(frames, usize::from(workers)) {
-        cache.give_up(rt);
-        return Err("a frame of another worker")?;
+    let input = spelled(alloc, frames)?;
+    if input.len() >= 1_000_000 {
+        return Err("too many frames")?;
     }
-    match run_workers(rt, alloc, &cache, seats, frames, gate) {
+    let Some(frames) = Frames::of(&input, workers) else {
+        return Err("a frame of another worker")?;
+    };
+    let (cache, seats) = SharedCache::with_seats(rt, alloc, workers)?;
+    match run_workers(rt, alloc, &cache, seats, &frames, gate) {
         Ok((seats, outputs)) => {
             let closed = cache.close(rt, seats);
             let mut octets = Vec::new(alloc);
-            if write_outputs(alloc, &mut StreamSink::over(&mut octets), frames, &outputs).is_err() {
+            if write_outputs(
+                alloc,
+                &mut StreamSink::over(&mut octets),
+                &frames,
+                &outputs,
+            ).is_err()
+            {
                 return Err("a failed write")?;
             }
             Ok((octets, closed.journal().len()))

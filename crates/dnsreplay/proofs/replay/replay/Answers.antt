@@ -1,7 +1,5 @@
-use Rattle.std.proofs.Common.{map, sym, subst, arith}
-use Rattle.std.proofs.lemmas.List.{length-map}
+use Rattle.std.proofs.Common.{sym, subst}
 use Rattle.cache_versions.specs.Closes.{journal_at}
-use Rattle.replay_meaning.specs.Frame.{input_of}
 use Rattle.replay_meaning.specs.Replay.{SpellsFrames, IsReplay}
 use Rattle.worker_seats.proofs.LawLemmas.{replay_of}
 use Rattle.dnsreplay.proofs.replay.replay.Goals as goal
@@ -11,9 +9,9 @@ returns-in-Ok-clause-replay g c octets output are merged =
     let frames = c.args.frames.now in
     let all = c.in_ok-cache.ensures.all.1 in
     subst (λ n. IsReplay n octets output) all
-    (replay_of c.in_ok-cache.seats.items c.in-Ok.seats.items (journal_at c.close.result) octets output (map input_of frames)
-    (subst (λ n. SpellsFrames n octets (map input_of frames)) (sym all) are)
-    (omega (arith, c.requires.few, length-map frames input_of))
+    (replay_of c.in_ok-cache.seats.items c.in-Ok.seats.items (journal_at c.close.result) octets output frames
+    (subst (λ n. SpellsFrames n octets frames) (sym all) are)
+    c.requires.few
     c.in-Ok.ensures.all
     (λ k d within. (c.in_ok-cache.ensures.fresh k d within).2)
     c.close.ensures.seen

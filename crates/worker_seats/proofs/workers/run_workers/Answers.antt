@@ -1,7 +1,7 @@
-use Rattle.std.proofs.Common.{◌≡◌, ◌<◌, [], Ok, length, map, sym, ap, subst, ◌∙◌, arith, get_or}
+use Rattle.std.proofs.Common.{◌≡◌, ◌<◌, Ok, length, map, sym, ap, subst, ◌∙◌, arith, get_or}
 use Rattle.std.specs.List.{All}
 use Rattle.std.proofs.lemmas.List.{length-map}
-use Rattle.replay_meaning.specs.Frame.{Input, input_of}
+use Rattle.replay_meaning.specs.Frame.{Input}
 use Rattle.resolver.specs.Caches.{IsSeatOf}
 use Rattle.cache_versions.specs.Rows.{AreNumbered}
 use Rattle.cache_versions.specs.Seats.{number_by}
@@ -9,7 +9,6 @@ use Rattle.worker_seats.specs.Merge.{AreOutputsOf, AreMerged, CanBeMerged}
 use Rattle.worker_seats.specs.Work.{IsShiftOf, IsWork}
 use Rattle.worker_seats.specs.Workers.{HaveWorked}
 use Rattle.worker_seats.proofs.LawLemmas.{map_at, some_of}
-use Rattle.worker_seats.proofs.MergeLemmas.{below_inputs}
 use Rattle.worker_seats.proofs.MergeableLemmas.{can_merge}
 use Rattle.worker_seats.proofs.WorkersLemmas.{if_ok_weaker, if_ok_from, if_ok_both, shift_at, results_length, outputs_at, worked_all, numbers_all, all_map}
 use Rattle.worker_seats.proofs.workers.run_workers.Goals as goal
@@ -38,7 +37,7 @@ returns-clause-object g c =
     (all_map (λ s. IsSeatOf c.args.cache.now s) (λ shift. shift.seat) shifts
     (λ worker d lt. shift_at (λ shift. IsSeatOf c.args.cache.now shift.seat) c.in_ok-results.results.items shifts worker d c.in_ok-shifts.ensures lt
     (let e = some_of seats worker (omega (arith, lt, same)) in
-    if_ok_weaker (IsShiftOf c.args.cache.now (record { worker = worker; seat = get_or seats worker e }) (map input_of c.args.frames.now)) (λ shift. IsSeatOf c.args.cache.now shift.seat) _ (c.in_ok-results.ensures.each worker (Ok d) e (omega (arith, lt, same))) (λ shift is. is.object)))))
+    if_ok_weaker (IsShiftOf c.args.cache.now (record { worker = worker; seat = get_or seats worker e }) c.args.frames.now) (λ shift. IsSeatOf c.args.cache.now shift.seat) _ (c.in_ok-results.ensures.each worker (Ok d) e (omega (arith, lt, same))) (λ shift is. is.object)))))
 
 pub returns-clause-numbers : goal.returns-clause-numbers
 returns-clause-numbers g c =
@@ -49,17 +48,17 @@ returns-clause-numbers g c =
     (λ done is. subst AreNumbered (sym is)
     (numbers_all (λ shift. shift.seat) (λ shift. shift.octets.items) seats shifts same c.requires.numbers
     (λ worker e d lt. shift_at (λ shift. number_by shift.seat ≡ number_by (get_or seats worker e)) c.in_ok-results.results.items shifts worker d c.in_ok-shifts.ensures lt
-    (if_ok_weaker (IsShiftOf c.args.cache.now (record { worker = worker; seat = get_or seats worker e }) (map input_of c.args.frames.now)) (λ shift. number_by shift.seat ≡ number_by (get_or seats worker e)) _ (c.in_ok-results.ensures.each worker (Ok d) e (omega (arith, lt, same))) (λ shift is. is.number)))))
+    (if_ok_weaker (IsShiftOf c.args.cache.now (record { worker = worker; seat = get_or seats worker e }) c.args.frames.now) (λ shift. number_by shift.seat ≡ number_by (get_or seats worker e)) _ (c.in_ok-results.ensures.each worker (Ok d) e (omega (arith, lt, same))) (λ shift is. is.number)))))
 
 pub returns-clause-merge : goal.returns-clause-merge
 returns-clause-merge g c =
     let shifts = c.in_ok-shifts.shifts.items in
     let seats = c.args.seats.items in
-    let inputs = map input_of c.args.frames.now in
+    let inputs = c.args.frames.now in
     let parts = map (λ shift. shift.octets.items) shifts in
     let same : length shifts ≡ length seats = results_length c.in_ok-results.results.items shifts c.in_ok-shifts.ensures ∙ c.in_ok-results.ensures.all in
     let many : length parts ≡ length shifts = length-map shifts (λ shift. shift.octets.items) in
-    let below = subst (λ n. All (λ (input : Input). input.worker < n) inputs) (sym same ∙ sym many) (below_inputs (length seats) c.args.frames.now c.requires.workers) in
+    let below = subst (λ n. All (λ (input : Input). input.worker < n) inputs) (sym same ∙ sym many) c.requires.workers in
     if_ok_from c.split.result (λ done. done.1 ≡ map (λ shift. shift.octets.items) shifts) (λ done. CanBeMerged done.1 inputs) c.split.ensures.parts
     (λ done is. subst (λ l. CanBeMerged l inputs) (sym is)
     (can_merge parts inputs below
@@ -76,7 +75,7 @@ pub returns-clause-worked : goal.returns-clause-worked
 returns-clause-worked g c =
     let shifts = c.in_ok-shifts.shifts.items in
     let seats = c.args.seats.items in
-    let inputs = map input_of c.args.frames.now in
+    let inputs = c.args.frames.now in
     let same : length shifts ≡ length seats = results_length c.in_ok-results.results.items shifts c.in_ok-shifts.ensures ∙ c.in_ok-results.ensures.all in
     if_ok_both c.split.result (λ done. done.0.items ≡ map (λ shift. shift.seat) shifts) (λ done. done.1 ≡ map (λ shift. shift.octets.items) shifts)
     (λ done. (octets : _) → AreMerged done.1 inputs octets → HaveWorked seats done.0.items inputs octets) c.split.ensures.seats c.split.ensures.parts

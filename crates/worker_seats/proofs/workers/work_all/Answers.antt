@@ -1,6 +1,5 @@
-use Rattle.std.proofs.Common.{◌≡◌, ◌<◌, length, map, subst, arith, get_or}
+use Rattle.std.proofs.Common.{◌≡◌, ◌<◌, length, subst, arith, get_or}
 use Rattle.std.specs.Prelude.{IfOk}
-use Rattle.replay_meaning.specs.Frame.{input_of}
 use Rattle.resolver.specs.Caches.{IsSeatOf}
 use Rattle.worker_seats.specs.declared.shift.Job.{Job}
 use Rattle.worker_seats.specs.Work.{IsShiftOf}
@@ -15,7 +14,7 @@ pub returns-clause-each : goal.returns-clause-each
 returns-clause-each g c = if_ok_weaker _ _ c.do_jobs.result c.do_jobs.ensures.each
     (λ results each worker d e lt.
     let jobs = c.in_ok-jobs.jobs.items in
-    let inputs = map input_of c.args.frames.now in
+    let inputs = c.args.frames.now in
     let many = jobs_length (λ j. j.seat) jobs c.args.seats.items c.in_ok-jobs.ensures.seats in
     let lt' : worker < length jobs = omega (arith, lt, many) in
     let first = some_of jobs worker lt' in
