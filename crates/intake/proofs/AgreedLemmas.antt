@@ -1,5 +1,5 @@
 -- What the signatures of a group agree in.
-use Rattle.std.proofs.Common.{◌≡◌, ℕ, zero, suc, ◌+◌, ◌-◌, ◌%◌, ◌^◌, ◌<◌, ◌≤◌, min, List, [], ◌∷◌, ◌++◌, length, take, get_or, map, fold, refl, sym, ◌∙◌, ap, subst, arith}
+use Rattle.std.proofs.Common.{◌≡◌, ℕ, zero, suc, ◌+◌, ◌-◌, ◌^◌, ◌<◌, ◌≤◌, min, List, [], ◌∷◌, ◌++◌, length, get_or, map, fold, refl, sym, ◌∙◌, ap, subst, arith}
 use Rattle.std.specs.List.{All, AllZip}
 use Rattle.std.proofs.Math.Nat.{min-eq_right}
 use Rattle.std.proofs.lemmas.List.{map-append, length-append}
@@ -12,7 +12,7 @@ use Rattle.denial_records.specs.Rrsig.{IsRrsig}
 use Rattle.denial_records.specs.declared.rrsig.Rrsig.{Rrsig}
 use Rattle.denial_records.proofs.PartsLemmas.{one_rrsig}
 use Rattle.intake.specs.Group.{seconds_to}
-use Rattle.intake.specs.Signed.{Agree, Says, least_of}
+use Rattle.intake.specs.Signed.{Agree, Says}
 use Rattle.intake.specs.SignedGroup.{IsAgreed, IsSaid, SaySame}
 use Rattle.intake.specs.declared.agreed.Agreed.{Agreed}
 

@@ -1,19 +1,9 @@
 -- What octets give at a moment is one.
-use Rattle.std.proofs.Common.{◌≡◌, ◌≢◌, ◌⊎◌, inl, inr, ℕ, zero, suc, ◌+◌, ◌*◌, ◌^◌, ◌<◌, ◌≤◌, ◌==◌, Bool, true, false, if◌then◌else◌, List, [], ◌∷◌, ◌++◌, length, drop, get_or, map, Option, Some, None, Result, Ok, Err, IfOk, IfErr, is_none, refl, sym, ◌∙◌, ap, subst, arith}
-use Rattle.std.specs.List.{All, AllZip, filter, count_by, flat_map}
+use Rattle.std.proofs.Common.{◌≡◌, ◌⊎◌, inl, inr, ℕ, zero, suc, ◌+◌, ◌==◌, Bool, true, false, List, [], ◌∷◌, ◌++◌, length, Option, Some, None, Result, Ok, Err, IfOk, IfErr, is_none, refl, sym, ◌∙◌, ap, subst, arith}
+use Rattle.std.specs.List.{AllZip, count_by, flat_map}
 use Rattle.std.specs.Option.{option_to_list}
-use Rattle.std.proofs.lemmas.List.{append-nil, length-append, length-map, get_or-drop}
-use Rattle.std.proofs.lemmas.List.Elements.{filter-append, All-cons, All-nil}
-use Rattle.std.proofs.lemmas.List.Sums.{length-filter, count_by-le-length}
-use Rattle.std.proofs.lemmas.Grind.{flat_map-append}
-use Rattle.std.proofs.lemmas.Slice.Zip.{all_zipped_more, AllZip-long}
-use Rattle.byteorder.specs.Endian.{big_number}
 use Rattle.dname.specs.Name.{Label}
-use Rattle.dname.specs.declared.types.TheConstants.{RRSIG_TYPE}
-use Rattle.dnswire.specs.Header.{IsHeader}
-use Rattle.dnswire.specs.Data.{layout_of, IsData}
-use Rattle.dnswire.specs.Message.{IsMessage, IsFaultOf}
-use Rattle.dnswire.specs.declared.rr.Rr.{Rr}
+use Rattle.dnswire.specs.Message.{IsFaultOf}
 use Rattle.dnswire.specs.declared.message.Message.{Message}
 use Rattle.dnswire.specs.declared.wire_fault.WireFault.{WireFault}
 use Rattle.intake.proofs.MessageLemmas.{one_message, no_message, one_fault}
@@ -28,16 +18,13 @@ use Rattle.denial_records.specs.declared.record.Record.TheVariants.{Set, Nsec, N
 use Rattle.denial_records.specs.NsecParts.{IsNsec}
 use Rattle.denial_records.specs.Nsec3Parts.{IsNsec3}
 use Rattle.denial_records.proofs.PartsLemmas.{one_nsec3}
-use Rattle.intake.specs.Group.{Group, groups_of, each_once, is_together, is_rrsig}
+use Rattle.intake.specs.Group.{Group, groups_of}
 use Rattle.intake.specs.Stored.{is_denial_type, IsStored, IsStoredSet, IsStoredNsec, IsStoredNsec3}
 use Rattle.intake.specs.Batch.{header_fault, IsTakenAs, Brings, IsAccepted, IsRefused, IsTaken, IsFault, Gives}
-use Rattle.intake.specs.Pile.{HasFixedPart, IsPileOf, piles_in, is_live}
-use Rattle.intake.specs.declared.pile.Pile.{Pile}
 use Rattle.intake.specs.declared.taken.Taken.{Taken}
 use Rattle.intake.specs.declared.intake_fault.IntakeFault.{IntakeFault}
 use Rattle.intake.specs.declared.intake_fault.IntakeFault.TheVariants.{Malformed, NotResponse, Truncated, Rcode, NotAuthentic, Nothing, OutOfMemory}
 use Rattle.intake.proofs.StoredLemmas.{kept_same, nsec_same, one_item}
-use Rattle.intake.proofs.GroupLemmas.{groups_piled}
 
 -- ---- a group is stored as one record
 

@@ -1,5 +1,5 @@
 -- The faults of octets that are no message, and of headers.
-use Rattle.std.proofs.Common.{◌≡◌, ◌⊎◌, inl, inr, ℕ, Bool, true, false, if◌then◌else◌, List, Option, Some, None, Result, Ok, Err, IfOk, IfErr, IsErrAnd, refl, sym, ◌∙◌, ap, subst}
+use Rattle.std.proofs.Common.{◌≡◌, ◌⊎◌, inl, inr, ℕ, Bool, true, false, if◌then◌else◌, List, Option, Some, None, Result, Ok, Err, IfOk, IfErr, IsErrAnd, refl, sym, subst}
 use Rattle.dnswire.specs.Message.{IsMessage, IsFaultOf}
 use Rattle.dnswire.specs.declared.message.Message.{Message}
 use Rattle.dnswire.specs.declared.wire_fault.WireFault.{WireFault}

@@ -1,5 +1,5 @@
 -- The piles of all records are those of the groups.
-use Rattle.std.proofs.Common.{◌≡◌, ℕ, ◌+◌, ◌^◌, ◌<◌, ◌≤◌, min, Bool, true, false, not, ◌&&◌, ◌||◌, ◌==◌, if◌then◌else◌, List, [], ◌∷◌, ◌++◌, map, nat_lt, inl, inr, arith, refl, sym, ◌∙◌, ap, subst}
+use Rattle.std.proofs.Common.{◌≡◌, ℕ, ◌+◌, ◌^◌, ◌≤◌, min, Bool, true, false, not, ◌&&◌, ◌||◌, ◌==◌, if◌then◌else◌, List, [], ◌∷◌, ◌++◌, map, nat_lt, inl, inr, arith, refl, sym, ◌∙◌, ap, subst}
 use Rattle.std.specs.List.{AllZip, filter, fold, list_any}
 use Rattle.std.specs.Bool.{Decides}
 use Rattle.std.proofs.lemmas.Bool.{cases_lt, lt-ltb, le-ltb}
@@ -10,13 +10,13 @@ use Rattle.std.proofs.lemmas.List.Elements.{filter-append}
 use Rattle.std.proofs.lemmas.List.Sums.{fold-append}
 use Rattle.dname.specs.declared.types.TheConstants.{RRSIG_TYPE, IN_CLASS}
 use Rattle.dnswire.specs.declared.rr.Rr.{Rr}
-use Rattle.intake.specs.Group.{Group, each_once, same_name, same_octets, is_together, is_rrsig, covered_type, expiration_of, seconds_to, is_ahead, covers, group_of, groups_of}
+use Rattle.intake.specs.Group.{each_once, same_name, same_octets, is_together, is_rrsig, covered_type, expiration_of, seconds_to, is_ahead, covers, group_of, groups_of}
 use Rattle.intake.specs.Signed.{counted_ttl, least_of}
 use Rattle.intake.specs.Pile.{begun, joined, with_signature, has_key, changed_first, key_of, covered_key, with_record, with_data, with_covering, is_live, piles_in, least_ttl, IsPileOf}
 use Rattle.intake.specs.declared.key.Key.{Key}
 use Rattle.intake.specs.declared.pile.Pile.{Pile}
-use Rattle.intake.proofs.OnceLemmas.{IsByKey, alike-sym, alike_both, any_less, any_head, any_tail, any_once, filter_none, once_more, new_in, AreApart, apart_once, true_or_false}
-use Rattle.intake.proofs.TableLemmas.{if_true, if_false, same_key, key_decides, same_key-sym}
+use Rattle.intake.proofs.OnceLemmas.{IsByKey, alike-sym, alike_both, any_less, any_head, any_tail, any_once, filter_none, once_more, AreApart, apart_once}
+use Rattle.intake.proofs.TableLemmas.{if_true, if_false, same_key, key_decides}
 
 -- ---- filters and tests
 

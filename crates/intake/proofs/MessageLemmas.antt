@@ -1,11 +1,11 @@
 -- Octets have one reading as a message.
-use Rattle.std.proofs.Common.{◌≡◌, ◌⊎◌, inl, inr, ℕ, List, Result, Ok, Err, IfOk, IfErr, refl, sym}
+use Rattle.std.proofs.Common.{◌≡◌, inl, inr, ℕ, List, Result, Ok, Err}
 use Rattle.dnswire.specs.Message.{IsMessage, IsFaultOf, HasRrFault}
 use Rattle.dnswire.specs.Message.IsFaultOf.{no_header, not_one, no_name, no_fields, among}
 use Rattle.dnswire.specs.Message.HasRrFault.{no_owner, truncated, no_data}
 use Rattle.dnswire.specs.declared.message.Message.{Message}
 use Rattle.dnswire.specs.declared.wire_fault.WireFault.{WireFault}
-use Rattle.dnswire.specs.declared.wire_fault.WireFault.TheVariants.{Short, BadCount, BadName, BadData, OutOfMemory}
+use Rattle.dnswire.specs.declared.wire_fault.WireFault.TheVariants.{OutOfMemory}
 use Rattle.dnswire.proofs.MessageLemmas.{every_message, every_fault}
 
 pub one_message : (octets : List ℕ) (m m' : Message) → IsMessage octets m → IsMessage octets m' → m ≡ m'

@@ -1,35 +1,28 @@
 -- A signed group that passes is kept, and only such a one.
-use Rattle.std.proofs.Common.{◌≡◌, ◌≢◌, ℕ, ◌+◌, ◌-◌, ◌^◌, ◌<◌, ◌≤◌, min, Bool, true, false, ◌==◌, if◌then◌else◌, List, [], ◌∷◌, ◌++◌, length, drop, map, fold, Option, Some, None, IsTrue, nat_lt, refl, sym, ◌∙◌, ap, subst, arith}
-use Rattle.std.specs.List.{AllZip}
+use Rattle.std.proofs.Common.{◌≡◌, ℕ, ◌+◌, ◌-◌, ◌^◌, ◌<◌, ◌≤◌, min, Bool, true, false, if◌then◌else◌, List, [], ◌∷◌, ◌++◌, length, drop, map, fold, None, nat_lt, refl, sym, ◌∙◌, ap, subst, arith}
 use Rattle.std.proofs.lemmas.Bool.{le-ltb}
 use Rattle.std.proofs.Math.Nat.{min-eq_left, min-le_left}
 use Rattle.std.proofs.lemmas.List.Sums.{fold-append}
 use Rattle.dname.specs.Name.{Label, IsUnder}
 use Rattle.dname.specs.declared.types.TheConstants.{NSEC_TYPE, NSEC3_TYPE}
 use Rattle.dname.proofs.ReadLemmas.{one_name}
-use Rattle.nsec3_hash.specs.Base32Hex.{text_of}
-use Rattle.nsec3_hash.proofs.TextLemmas.{same_from_text_of}
 use Rattle.denial_records.specs.NsecParts.{IsNsec}
 use Rattle.denial_records.specs.TypeSet.{IsTypeMap}
 use Rattle.denial_records.specs.Nsec3Parts.{IsNsec3}
 use Rattle.denial_records.specs.declared.nsec_parts.NsecParts.{NsecParts}
-use Rattle.denial_records.specs.declared.nsec3_parts.Nsec3Parts.{Nsec3Parts}
-use Rattle.denial_records.specs.declared.set_rec.SetRec.{SetRec}
 use Rattle.denial_records.specs.declared.nsec_rec.NsecRec.{NsecRec}
 use Rattle.denial_records.specs.declared.nsec3_rec.Nsec3Rec.{Nsec3Rec}
 use Rattle.denial_records.specs.declared.record.Record.{Record}
 use Rattle.denial_records.specs.declared.record.Record.TheVariants.{Set, Nsec, Nsec3}
-use Rattle.denial_records.proofs.PartsLemmas.{one_nsec3}
 use Rattle.denial_records.proofs.TypeSetLemmas.{one_meaning}
 use Rattle.dname.specs.declared.types.TheConstants.{IN_CLASS}
 use Rattle.intake.specs.Group.{Group, each_once, same_octets}
 use Rattle.intake.specs.Signed.{Agree, counted_ttl, least_of, life_of}
-use Rattle.intake.specs.Stored.{is_kept_type, is_single_type, is_own_type, is_denial_type, limit_of, owner_labels, signed_name, IsInside, IsHashedOwner, IsKept, IsStored, IsStoredSet, IsStoredNsec, IsStoredNsec3}
-use Rattle.intake.specs.Batch.{IsTakenAs}
+use Rattle.intake.specs.Stored.{is_own_type, is_denial_type, limit_of, owner_labels, signed_name, IsInside, IsHashedOwner, IsKept, IsStored, IsStoredNsec, IsStoredNsec3}
 use Rattle.intake.specs.Pile.{least_ttl, IsPileOf}
 use Rattle.intake.specs.declared.pile.Pile.{Pile}
 use Rattle.intake.specs.declared.agreed.Agreed.{Agreed}
-use Rattle.intake.specs.SignedGroup.{IsAgreed, Passes, HasLabels, life_in, IsGroupOf, IsTakenOf}
+use Rattle.intake.specs.SignedGroup.{IsAgreed, Passes, life_in, IsGroupOf, IsTakenOf}
 use Rattle.intake.specs.declared.signed_group.SignedGroup.{SignedGroup}
 use Rattle.intake.proofs.AgreedLemmas.{agree_same}
 use Rattle.intake.proofs.TableLemmas.{if_false}

@@ -1,13 +1,13 @@
 -- A table that takes in records one after the other, and then the signatures.
-use Rattle.std.proofs.Common.{◌≡◌, ◌≢◌, ℕ, ◌+◌, ◌<◌, ◌≤◌, Bool, true, false, ◌&&◌, ◌==◌, if◌then◌else◌, List, [], ◌∷◌, ◌++◌, length, get_or, refl, sym, ◌∙◌, ap, subst}
+use Rattle.std.proofs.Common.{◌≡◌, ℕ, ◌+◌, ◌<◌, ◌≤◌, Bool, true, false, ◌&&◌, if◌then◌else◌, List, [], ◌∷◌, ◌++◌, length, get_or, refl, sym, ◌∙◌, ap, subst}
 use Rattle.std.specs.List.{All, filter, fold}
 use Rattle.std.proofs.lemmas.Bool.Decides.{Decides-eqb}
 use Rattle.std.proofs.lemmas.List.{append_assoc, append-nil}
-use Rattle.std.proofs.lemmas.List.Elements.{filter-append, filter_passes, All-filter, All-append}
+use Rattle.std.proofs.lemmas.List.Elements.{filter-append, filter_passes, All-filter}
 use Rattle.std.proofs.lemmas.List.Sums.{fold-append}
 use Rattle.dnswire.specs.declared.rr.Rr.{Rr}
 use Rattle.intake.specs.Group.{is_rrsig}
-use Rattle.intake.specs.Pile.{IsTable, HasFixedPart, is_live, covered_key, signed, with_record, with_data, with_covering, piles_in}
+use Rattle.intake.specs.Pile.{IsTable, HasFixedPart, is_live, covered_key, signed, with_record, with_data, with_covering}
 use Rattle.intake.specs.declared.pile.Pile.{Pile}
 use Rattle.intake.specs.declared.table.Table.{Table}
 use Rattle.intake.proofs.TableLemmas.{if_true, if_false}

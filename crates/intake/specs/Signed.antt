@@ -1,5 +1,5 @@
 -- What the signatures of a group say together, and how long they let it live.
-use Rattle.std.specs.Prelude.{◌≡◌, ℕ, ◌<◌, ◌≤◌, ◌^◌, min, nat_lt, if◌then◌else◌, List, ◌∷◌, ◌++◌, length, map, fold}
+use Rattle.std.specs.Prelude.{◌≡◌, ℕ, ◌≤◌, ◌^◌, min, nat_lt, if◌then◌else◌, List, ◌∷◌, ◌++◌, length, map, fold}
 use Rattle.std.specs.List.{All, AllZip}
 use Rattle.dname.specs.Name.{Label}
 use Rattle.denial_records.specs.Rrsig.{IsRrsig}

@@ -1,6 +1,5 @@
 -- A group with what its signatures say, and when it is kept.
 use Rattle.std.specs.Prelude.{◌≡◌, ℕ, ◌<◌, ◌≤◌, ◌^◌, min, List, length, IsTrue, Option}
-use Rattle.dname.specs.Name.{Label}
 use Rattle.dname.specs.declared.types.TheConstants.{IN_CLASS}
 use Rattle.denial_records.specs.Rrsig.{IsRrsig}
 use Rattle.denial_records.specs.declared.rrsig.Rrsig.{Rrsig}

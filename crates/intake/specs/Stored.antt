@@ -1,5 +1,5 @@
 -- Which groups of a validated answer are stored, and as what record.
-use Rattle.std.specs.Prelude.{◌≡◌, ◌≢◌, ℕ, ◌+◌, ◌-◌, ◌<◌, ◌≤◌, Bool, true, false, not, ◌&&◌, ◌||◌, ◌==◌, nat_lt, nat_le, if◌then◌else◌, List, [], ◌∷◌, length, drop, IsTrue}
+use Rattle.std.specs.Prelude.{◌≡◌, ◌≢◌, ℕ, ◌+◌, ◌-◌, ◌<◌, ◌≤◌, Bool, false, not, ◌&&◌, ◌||◌, ◌==◌, nat_lt, nat_le, if◌then◌else◌, List, [], ◌∷◌, length, drop, IsTrue}
 use Rattle.std.specs.List.{list_any}
 use Rattle.dname.specs.Name.{Label, IsUnder, asterisk, without_asterisk}
 use Rattle.dname.specs.declared.types.TheConstants.{NS_TYPE, MD_TYPE, MF_TYPE, CNAME_TYPE, SOA_TYPE, MB_TYPE, MG_TYPE, MR_TYPE, MINFO_TYPE, RP_TYPE, AFSDB_TYPE, RT_TYPE, SIG_TYPE, PX_TYPE, NXT_TYPE, NAPTR_TYPE, KX_TYPE, DNAME_TYPE, OPT_TYPE, DS_TYPE, RRSIG_TYPE, NSEC_TYPE, NSEC3_TYPE, IN_CLASS}

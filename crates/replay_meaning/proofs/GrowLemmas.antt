@@ -4,17 +4,14 @@ use Rattle.std.specs.List.{fold}
 use Rattle.std.proofs.Math.Seq.{take-append_seam}
 use Rattle.std.proofs.lemmas.List.{append-nil}
 use Rattle.std.proofs.lemmas.List.Sums.{fold-append}
-use Rattle.dnswire.specs.declared.question.Question.{Question}
 use Rattle.denial_records.specs.declared.batch.Batch.{Batch}
-use Rattle.intake.specs.declared.taken.Taken.{Taken}
 use Rattle.cache_meaning.specs.Held.{held_after, held_of, nothing_held}
 use Rattle.replay_meaning.specs.Frame.{Input}
 use Rattle.replay_meaning.specs.OutFrame.{Output}
 use Rattle.reply_core.specs.Answered.{reply_in}
 use Rattle.replay_meaning.specs.Step.{Step, Query, Insert, Tell, Does}
-use Rattle.replay_meaning.specs.Fits.{IsOutputOf, IsFor, Fits, is_placed, query_output}
-use Rattle.replay_meaning.specs.Version.{Version, version_of, output_at, version_after}
-use Rattle.replay_meaning.specs.declared.out_frame.OutKind.{OutKind}
+use Rattle.replay_meaning.specs.Fits.{IsOutputOf, IsFor, Fits, query_output}
+use Rattle.replay_meaning.specs.Version.{version_of, output_at, version_after}
 use Rattle.replay_meaning.proofs.HistoryLemmas.{GoesOn, IsTurn, goes_none, goes_more, fits_whole}
 use Rattle.replay_meaning.proofs.StepLemmas.{TellsNoCall, tells_no_call}
 

@@ -1,6 +1,6 @@
 -- For one worker an input has one output.
-use Rattle.std.proofs.Common.{◌≡◌, ℕ, zero, suc, ◌+◌, ◌<◌, ◌≤◌, Bool, true, false, ◌&&◌, ◌==◌, List, [], ◌∷◌, ◌++◌, length, take, Option, None, Some, slice_get, refl, sym, ◌∙◌, ap, subst, arith, add-one}
-use Rattle.std.specs.List.{All, AllZip, count_by}
+use Rattle.std.proofs.Common.{◌≡◌, ℕ, zero, suc, ◌+◌, ◌<◌, ◌≤◌, true, false, List, [], ◌∷◌, ◌++◌, length, take, Option, None, Some, slice_get, refl, sym, ◌∙◌, ap, subst, arith, add-one}
+use Rattle.std.specs.List.{All, AllZip}
 use Rattle.std.proofs.lemmas.Bool.{false≢true}
 use Rattle.std.proofs.lemmas.List.Elements.{All-nil, All-cons, All-head, All-tail}
 use Rattle.std.proofs.lemmas.Option.{none-some}
@@ -10,9 +10,8 @@ use Rattle.cache_meaning.specs.Held.{held_of}
 use Rattle.replay_meaning.specs.Frame.{Input}
 use Rattle.replay_meaning.specs.OutFrame.{Output}
 use Rattle.reply_core.specs.Answered.{reply_in}
-use Rattle.replay_meaning.specs.Step.{Step, Query, Insert, Tell, Does}
-use Rattle.replay_meaning.specs.Fits.{IsOutputOf, IsFor, IsInOrder, Fits, is_call, is_placed, places, query_output, insert_output, told_output}
-use Rattle.replay_meaning.specs.Replay.{IsReplay}
+use Rattle.replay_meaning.specs.Step.{Step, Query, Insert, Tell}
+use Rattle.replay_meaning.specs.Fits.{IsOutputOf, IsFor, Fits, is_call, is_placed, places, query_output, insert_output}
 use Rattle.replay_meaning.specs.Laws.{HasOneOutput, HasOneReplay}
 use Rattle.replay_meaning.specs.OutFrame.{outputs_spelling}
 use Rattle.replay_meaning.specs.declared.out_frame.OutKind.{OutKind}

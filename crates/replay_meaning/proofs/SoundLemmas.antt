@@ -14,7 +14,7 @@ use Rattle.intake.specs.declared.intake_fault.IntakeFault.{IntakeFault}
 use Rattle.cache_meaning.specs.Held.{held_of}
 use Rattle.soundness.proofs.QueryLemmas.{outcome_sound}
 use Rattle.replay_meaning.specs.Frame.{Input}
-use Rattle.replay_meaning.specs.OutFrame.{Output, out_number}
+use Rattle.replay_meaning.specs.OutFrame.{Output}
 use Rattle.reply_core.specs.Answered.{proof_in, proof_octets}
 use Rattle.replay_meaning.specs.Step.{Step, Query, Insert, Tell, query_step, answer_step, DoesBy, Does}
 use Rattle.replay_meaning.specs.Fits.{IsOutputOf, IsFor, is_call, is_placed, query_output}

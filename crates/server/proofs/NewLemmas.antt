@@ -1,5 +1,5 @@
 -- New links, one after another.
-use Rattle.std.proofs.Common.{◌≡◌, ℕ, ◌+◌, ◌<◌, List, [], ◌∷◌, ◌++◌, length, sym, subst, arith}
+use Rattle.std.proofs.Common.{◌≡◌, ℕ, ◌+◌, List, [], ◌∷◌, ◌++◌, length, sym, subst, arith}
 use Rattle.cache_versions.proofs.Rows.{each_snoc}
 use Rattle.server.specs.Sight.{Sight, AreNew, IsNew}
 

@@ -4,7 +4,6 @@ use Rattle.std.specs.Prelude.{Result, Ok, Err, IfSome, MatchBool}
 use Rattle.std.specs.List.{All, AllZip, flat_map, sum_by}
 use Rattle.std.proofs.Math.Nat.{suc-mul}
 use Rattle.std.proofs.lemmas.List.{length-map}
-use Rattle.std.proofs.lemmas.List.Elements.{All-nil, All-cons}
 use Rattle.std.proofs.lemmas.List.Sums.{sum_by-cons}
 use Rattle.std.proofs.lemmas.Slice.Zip.{AllZip-long}
 use mathlib.Core.List.{IsPrefix}
@@ -17,7 +16,7 @@ use Rattle.cache_versions.specs.Seats.{places_by, seen_by}
 use Rattle.resolver.specs.declared.shared_cache.SharedCache.{SharedCache}
 use Rattle.outside_core.specs.Datagram.{TellsNone}
 use Rattle.outside_core.specs.Fault.{Rose}
-use Rattle.outside_core.specs.Returned.{Returned, unused}
+use Rattle.outside_core.specs.Returned.{Returned}
 use Rattle.outside_core.specs.declared.datagram.Datagram.{Datagram}
 use Rattle.serving.specs.Links.{IsShift, LinksServe, Shift}
 use Rattle.serving.specs.Turn.{Turn}
@@ -30,7 +29,7 @@ use Rattle.server.specs.Back.{AllServed, AllServedWhole, CameBack, EndsEarly, Is
 use Rattle.server.specs.declared.serve_error.ServeError.TheVariants.{Harbor}
 use Rattle.server.specs.Sight.{Sight, AreBack, AreNew, IsCounted, IsNew, faults_of, returned}
 use Rattle.server.specs.Watch.{HasWatched, HaveEnded, HaveServed}
-use Rattle.server.proofs.BackLemmas.{IsShown, all_unfailed, came_weaker, faults_back, none_some, rose_counted, shown, some_same}
+use Rattle.server.proofs.BackLemmas.{all_unfailed, came_weaker, faults_back, none_some, rose_counted, shown, some_same}
 use Rattle.server.proofs.EndedLemmas.{some_of}
 
 -- ---- lists

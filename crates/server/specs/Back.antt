@@ -1,5 +1,5 @@
 -- What comes back to a harbor from a forwarder that has ended.
-use Rattle.std.specs.Prelude.{◌≡◌, ℕ, ◌+◌, ◌<◌, ◌≤◌, ◌⊎◌, List, [], ◌++◌, length, slice_index_or, Option, Some, IfSome}
+use Rattle.std.specs.Prelude.{◌≡◌, ℕ, ◌+◌, ◌<◌, ◌≤◌, ◌⊎◌, List, ◌++◌, length, slice_index_or, Option, Some, IfSome}
 use Rattle.std.specs.List.{All, sum_by}
 use Rattle.denial_records.specs.declared.batch.Batch.{Batch}
 use Rattle.outside_core.specs.Fault.{Rose}

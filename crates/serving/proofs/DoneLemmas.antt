@@ -1,5 +1,5 @@
 -- What one datagram does, case by case.
-use Rattle.std.proofs.Common.{◌≡◌, ℕ, ◌+◌, ◌*◌, ◌%◌, ◌⊎◌, inl, inr, List, [], length, Option, None, Some, refl, sym, ◌∙◌, ap, subst, arith}
+use Rattle.std.proofs.Common.{◌≡◌, ℕ, ◌+◌, ◌*◌, ◌%◌, ◌⊎◌, inl, inr, List, [], Option, None, Some, sym, ◌∙◌, ap}
 use Rattle.dnswire.specs.declared.message.Message.{Message}
 use Rattle.dnswire.specs.declared.wire_fault.WireFault.{WireFault}
 use Rattle.dnswire.specs.declared.wire_fault.WireFault.TheVariants as wire_faults
@@ -13,7 +13,6 @@ use Rattle.reply_core.specs.Error.{plain_octets}
 use Rattle.reply_core.specs.Relay.{relay_octets}
 use Rattle.reply_core.specs.declared.rcode.TheConstants.{SERVER_FAILURE}
 use Rattle.resolver.specs.Pending.{Entry, Slot, entry_of, least_free, relayed_of, sent_from, table_at, turn_at, with_entry, without_entry}
-use Rattle.resolver.specs.declared.action.Action.{Action}
 use Rattle.resolver.specs.declared.action.Action.TheVariants.{Send, ServFail, Relay, Ignored}
 use Rattle.serving.specs.declared.deed.Deed.TheVariants as deeds
 use Rattle.serving.specs.declared.why.Why.TheVariants as whys

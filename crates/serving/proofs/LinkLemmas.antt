@@ -1,6 +1,6 @@
 -- The shifts of all workers are those of links that serve.
-use Rattle.std.proofs.Common.{◌≡◌, ℕ, zero, suc, ◌+◌, ◌-◌, ◌*◌, ◌<◌, ◌≤◌, ◌^◌, ◌⊎◌, inl, inr, Bool, true, false, not, ◌==◌, cond, List, [], ◌∷◌, ◌++◌, length, map, get_or, is_none, Option, None, Some, refl, sym, ◌∙◌, ap, subst, arith, length-append, zero-add}
-use Rattle.std.specs.List.{All, AllZip, flat_map, count_by, sum_by}
+use Rattle.std.proofs.Common.{◌≡◌, ℕ, zero, suc, ◌+◌, ◌-◌, ◌*◌, ◌<◌, ◌≤◌, ◌^◌, ◌⊎◌, inl, inr, Bool, true, false, not, ◌==◌, cond, List, [], ◌∷◌, ◌++◌, length, map, is_none, Option, None, Some, refl, sym, ◌∙◌, ap, subst, arith, length-append, zero-add}
+use Rattle.std.specs.List.{All, AllZip, flat_map, sum_by}
 use Rattle.std.proofs.Math.Nat.{suc-mul}
 use Rattle.std.proofs.lemmas.Bool.Decides.{nat_tests}
 use Rattle.std.specs.Prelude.{Result, Ok, Err}
@@ -22,7 +22,7 @@ use Rattle.serving.specs.declared.serve_fault.ServeFault.{ServeFault}
 use Rattle.serving.specs.declared.serve_fault.ServeFault.TheVariants.{Link, OutOfMemory}
 use Rattle.serving.specs.Worker.{Ends, HasFaults, HasServed}
 use Rattle.serving.specs.Serves.{LAST}
-use Rattle.serving.specs.Turn.{Turn, AreTurns, AreTurnsOf, IsKeptAt, IsTurn, places_of, sent_of}
+use Rattle.serving.specs.Turn.{Turn, AreTurns, AreTurnsOf, IsKeptAt, places_of, sent_of}
 use Rattle.serving.specs.Links.{HasSent, IsServed, IsShift, LinksServe, Shift}
 use Rattle.serving.proofs.TurnLemmas.{turns_more}
 

@@ -1,6 +1,6 @@
 -- The turns of a worker, one after the other.
-use Rattle.std.proofs.Common.{◌≡◌, ℕ, zero, suc, ◌+◌, ◌-◌, ◌<◌, ◌≤◌, ◌⊎◌, inl, inr, Bool, true, false, cond, List, [], ◌∷◌, ◌++◌, length, take, get_or, Option, None, Some, slice_get, refl, sym, ◌∙◌, ap, subst, arith, append_assoc, length-append}
-use Rattle.std.specs.List.{All, AllPairs, flat_map}
+use Rattle.std.proofs.Common.{◌≡◌, ℕ, zero, suc, ◌+◌, ◌-◌, ◌<◌, ◌≤◌, inl, inr, Bool, true, false, cond, List, [], ◌∷◌, ◌++◌, length, take, get_or, Option, None, Some, slice_get, refl, sym, ◌∙◌, ap, subst, arith, length-append}
+use Rattle.std.specs.List.{All, flat_map}
 use Rattle.std.proofs.lemmas.Bool.{false≢true}
 use Rattle.std.proofs.lemmas.Grind.{flat_map-append}
 use Rattle.std.proofs.lemmas.List.{append-nil, take_all, take-append-le}
@@ -16,7 +16,7 @@ use Rattle.cache_versions.proofs.Fronts.{prefix_get, prefix_length}
 use Rattle.resolver.specs.Pending.{Slot, empty_table}
 use Rattle.outside_core.specs.declared.datagram.Datagram.{Datagram}
 use Rattle.serving.specs.Done.{Done, IsDone}
-use Rattle.serving.specs.Serves.{LAST, IsKept, IsPlaced, IsSpent, Serves}
+use Rattle.serving.specs.Serves.{IsKept, IsPlaced, Serves}
 use Rattle.serving.specs.Turn.{Turn, AreTurns, AreTurnsOf, IsInTurn, IsKeptAt, IsTurn, places_of}
 
 -- ---- more batches

@@ -6,7 +6,6 @@ use Rattle.denial_records.specs.declared.batch.Batch.{Batch}
 use Rattle.cache_versions.specs.Hands.{AreAllBelow}
 use Rattle.resolver.specs.Pending.{empty_table}
 use Rattle.outside_core.specs.Returned.{Returned}
-use Rattle.outside_core.specs.declared.datagram.Datagram.{Datagram}
 use Rattle.serving.specs.Turn.{Turn, AreTurns, AreTurnsOf, IsInTurn, places_of, sent_of}
 
 -- ---- one link

@@ -1,5 +1,5 @@
 -- What one datagram does over its worker's seat.
-use Rattle.std.specs.Prelude.{◌≡◌, ℕ, ◌≤◌, ◌%◌, ◌⊎◌, List, [], ◌∷◌, ◌++◌, length, Option, Some, None, Result}
+use Rattle.std.specs.Prelude.{◌≡◌, ℕ, ◌%◌, ◌⊎◌, List, [], ◌∷◌, ◌++◌, length, Option, Some, None, Result}
 use mathlib.Core.List.{IsPrefix}
 use Rattle.dnswire.specs.declared.message.Message.{Message}
 use Rattle.denial_records.specs.declared.batch.Batch.{Batch}
@@ -12,7 +12,6 @@ use Rattle.intake.specs.declared.taken.Taken.{Taken}
 use Rattle.intake.specs.declared.intake_fault.IntakeFault.{IntakeFault}
 use Rattle.resolver.specs.Pending.{Slot, without_entry}
 use Rattle.outside_core.specs.declared.datagram.Datagram.{Datagram}
-use Rattle.outside_core.specs.declared.datagram.Peer.TheVariants.{Upstream}
 use Rattle.serving.specs.declared.deed.Deed.{Deed}
 use Rattle.serving.specs.Done.{Done, IsAnswer, IsDone, awaited, batch_in, done_as}
 

@@ -1,5 +1,4 @@
-use Rattle.std.proofs.Common.{sym, subst, ap, refl, List, Bool, ◌∙◌}
-use Rattle.intake.proofs.GroupLemmas.{pile_at}
+use Rattle.std.proofs.Common.{sym, subst}
 use Rattle.intake.proofs.NewLemmas.{HasLooked, looked_none, looked_more, looked_all}
 use Rattle.intake.proofs.each_once.are_new.Goals as goal
 

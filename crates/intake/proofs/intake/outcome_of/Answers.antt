@@ -1,4 +1,4 @@
-use Rattle.std.proofs.Common.{◌≡◌, inl, inr, refl, sym, ap, ◌∙◌, subst, arith}
+use Rattle.std.proofs.Common.{inr, sym, arith}
 use Rattle.intake.specs.Batch.{IsTaken}
 use Rattle.intake.proofs.BringLemmas.{rrs_long, few_rrs}
 use Rattle.intake.proofs.FaultLemmas.{no_taken, wire_told, header_refused}

@@ -1,4 +1,4 @@
-use Rattle.std.proofs.Common.{◌≡◌, ◌+◌, refl, sym, ap, ◌∙◌, subst, arith}
+use Rattle.std.proofs.Common.{refl, sym, ap, ◌∙◌, subst}
 use Rattle.dname.specs.Name.{IsUnder}
 use Rattle.denial_records.specs.NsecParts.{IsNsec}
 use Rattle.denial_records.specs.declared.nsec_parts.NsecParts.{NsecParts}

@@ -1,9 +1,6 @@
-use Rattle.std.proofs.Common.{◌≡◌, ℕ, ◌<◌, Bool, true, false, not, List, ◌∷◌, length, slice_index_or, refl, sym, ap, ◌∙◌, subst, arith, rules}
-use Rattle.std.specs.List.{All}
+use Rattle.std.proofs.Common.{◌≡◌, true, false, not, ◌∷◌, slice_index_or, sym, ap, ◌∙◌}
 use Rattle.std.specs.Cmp.Lexicographic.{pointwise_decides, bytes_decides}
 use Rattle.dname.specs.Name.{wire_of, lowered}
-use Rattle.nsec3_hash.specs.Base32Hex.{text_of}
-use Rattle.intake.specs.Stored.{IsHashedOwner}
 use Rattle.intake.proofs.OnceLemmas.{true_or_false}
 use Rattle.intake.proofs.NameLemmas.{hashed, unhashed, hashed_label, not_false}
 use Rattle.intake.proofs.nsec3.owner_hash.Goals as goal

@@ -1,6 +1,4 @@
-use Rattle.std.proofs.Common.{◌≡◌, List, length, refl, sym, ap, ◌∙◌, subst, arith}
-use Rattle.intake.specs.Group.{each_once, same_octets}
-use Rattle.intake.specs.SignedGroup.{IsAgreed}
+use Rattle.std.proofs.Common.{refl}
 use Rattle.intake.proofs.StoredLemmas.{not_stored, group_of_pile, stored_class, stored_agreed}
 use Rattle.intake.proofs.OnceLemmas.{true_or_false}
 use Rattle.intake.proofs.stored.stored.Goals as goal

@@ -1,4 +1,4 @@
-use Rattle.std.proofs.Common.{rules, ◌≡◌, ◌+◌, length, length-append, List, [], ◌∷◌, ◌++◌, sym, ap, subst, ◌∙◌, arith}
+use Rattle.std.proofs.Common.{rules, ◌≡◌, ◌+◌, length, length-append, [], ◌∷◌, ◌++◌, sym, ap, subst, ◌∙◌, arith}
 use Rattle.server.specs.Sight.{AreNew, IsNew}
 use Rattle.server.proofs.NewLemmas.{one_new}
 use Rattle.server.proofs.binding.bind_all.Goals as goal

@@ -1,4 +1,4 @@
-use Rattle.std.proofs.Common.{rules, ◌≡◌, true, false, length, subst}
+use Rattle.std.proofs.Common.{rules, ◌≡◌, true, false}
 use Rattle.server.proofs.ServedLemmas.{all_whole, failed_early, is_off, is_on, unbound_early}
 use Rattle.server.proofs.forwarder.serve.Goals as goal
 

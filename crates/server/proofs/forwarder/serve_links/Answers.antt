@@ -1,4 +1,4 @@
-use Rattle.std.proofs.Common.{rules, ◌≡◌, ◌<◌, ◌^◌, length, subst, sym, ap, arith, ◌∙◌}
+use Rattle.std.proofs.Common.{rules, ◌<◌, ◌^◌, subst}
 use Rattle.cache_versions.specs.Closes.{journal_at}
 use Rattle.server.specs.Watch.{HaveEnded}
 use Rattle.server.proofs.ServedLemmas.{have_served}

@@ -1,7 +1,5 @@
-use Rattle.std.proofs.Common.{rules, ◌≡◌, ◌∷◌, [], ◌++◌, length, refl, sym, ap, ◌∙◌, arith, append_assoc, subst}
+use Rattle.std.proofs.Common.{rules, ◌≡◌, ◌∷◌, [], ◌++◌, length, refl, sym, ap, ◌∙◌, arith, append_assoc}
 use Rattle.std.specs.Vec.Iter.{into_iter_items}
-use Rattle.server.specs.Back.{CameBack}
-use Rattle.server.specs.Sight.{AreBack, IsCounted, faults_of}
 use Rattle.server.proofs.BackLemmas.{counted_more, counted_none, none_back, one_back}
 use Rattle.server.proofs.parting.part_all.Goals as goal
 

@@ -1,4 +1,3 @@
-use Rattle.std.proofs.Common.{◌≡◌, ◌<◌, length, map}
 use Rattle.resolver.specs.Caches.{IsSeatOf}
 use Rattle.server.proofs.EndedLemmas.{all_ended, all_of_map, if_ok_weaker}
 use Rattle.server.proofs.watches.keep_watches.Goals as goal

@@ -1,5 +1,5 @@
-use Rattle.std.proofs.Common.{◌≡◌, refl, sym, ap, ◌∙◌, List, ◌++◌, ◌∷◌, [], set, arith}
-use Rattle.intake.specs.Pile.{IsTable, has_key, key_of, joined, begun, changed_first, with_record}
+use Rattle.std.proofs.Common.{refl, sym, ap, ◌∙◌, ◌++◌, ◌∷◌, [], set, arith}
+use Rattle.intake.specs.Pile.{has_key, key_of, joined, begun, changed_first}
 use Rattle.intake.specs.declared.pile.Pile.{Pile}
 use Rattle.intake.proofs.TableLemmas.{on_ok, if_true, if_false, place_below, place_changed, place_any, place_none, table_with}
 use Rattle.intake.proofs.table.Table.add.Goals as goal

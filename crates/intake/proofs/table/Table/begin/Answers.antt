@@ -2,7 +2,6 @@ use Rattle.std.proofs.Common.{◌≡◌, ◌&&◌, ◌==◌, sym, ap, subst, ari
 use Rattle.std.specs.BTreeMap.{get}
 use Rattle.intake.specs.Group.{same_name}
 use Rattle.intake.specs.Pile.{has_key, place_of, key_cmp}
-use Rattle.intake.specs.declared.key.Key.{Key}
 use Rattle.intake.specs.declared.pile.Pile.{Pile}
 use Rattle.intake.proofs.TableLemmas.{table_more}
 use Rattle.intake.proofs.table.Table.begin.Goals as goal

@@ -1,4 +1,4 @@
-use Rattle.std.proofs.Common.{◌≡◌, refl, sym, ap, ◌∙◌, set, arith}
+use Rattle.std.proofs.Common.{refl, sym, ap, ◌∙◌, set, arith}
 use Rattle.intake.specs.Pile.{has_key, with_signature}
 use Rattle.intake.specs.declared.pile.Pile.{Pile}
 use Rattle.intake.proofs.TableLemmas.{on_ok, place_below, place_changed, place_unchanged, table_with}
