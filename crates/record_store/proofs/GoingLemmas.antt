@@ -1,5 +1,5 @@
 -- What changes make of the records in the order in which they go.
-use Rattle.std.proofs.Common.{◌≡◌, ◌≢◌, ◌⊎◌, ◌↔◌, inl, inr, ⊎_elim, ℕ, ◌+◌, ◌<◌, ◌≤◌, Bool, true, false, true≢false, not, List, [], ◌∷◌, length, get_or, Contains, refl, sym, ◌∙◌, ap, subst, arith}
+use Rattle.std.proofs.Common.{◌≡◌, ◌≢◌, ◌⊎◌, inl, inr, ⊎_elim, ℕ, ◌+◌, ◌<◌, ◌≤◌, Bool, true, false, true≢false, not, List, length, get_or, Contains, refl, sym, ◌∙◌, ap, subst, arith}
 use Rattle.std.specs.List.{AllPairs}
 use Rattle.std.specs.Option.{MatchOption}
 use Rattle.std.specs.Ordering.{is_eq, ordering_then}
@@ -151,4 +151,3 @@ module _ (records goings left : List Record) (from n : ℕ) (now : IsTakingOut r
       by : (item : Record) → (IsAt records from n item → ⊥) → (item ≡ x → ⊥) → (at : IsAt records from (n + 1) item) → (at.0 < n) ⊎ (n ≤ at.0) → ⊥
       by item earlier other at (inl before) = earlier (at.0, at.1, before, at.3)
       by item earlier other at (inr later) = other (at_last item at.0 (omega (arith, at.2)) at.3)
-

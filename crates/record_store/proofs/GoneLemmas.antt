@@ -4,7 +4,6 @@ use Rattle.std.specs.List.{AllPairs, list_any}
 use Rattle.std.proofs.lemmas.Bool.Decides.{leb_tells}
 use Rattle.denial_records.specs.declared.record.Record.{Record}
 use Rattle.cache_meaning.specs.Held.{ZoneChain, same_zone_chain, chain_of, is_that_chain, is_of_chain, displaces, third_of}
-use Rattle.held_laws.specs.HeldLaws.{NoneDisplaces}
 use Rattle.held_laws.proofs.ApartLemmas.{displaces_either_way}
 use Rattle.held_laws.proofs.ListedLemmas.{none_some, some_same, chain_displaced, of_chain, is_of as has_chain}
 use Rattle.zone_chains.specs.Zone.{OneChain, OneZone, chains_in, records_in, IsOneZone, IsDenialOf, DisplacesAt, third_for, is_of}
