@@ -57,7 +57,8 @@ pub(crate) fn without_gone(
     requires zone { IsZoneOf (arc_value goings.now) zone.now }
     requires denial { IsDenialOf zone.now.apex new.now }
     ensures records { IfOk result (λ left.
-        AreLeft new.now (third_for (chains_in zone.now) (chain_of new.now)) (arc_value goings.now) (arc_value left)) }
+        AreLeft new.now (third_for (chains_in zone.now) (chain_of new.now))
+        (arc_value goings.now) (arc_value left)) }
     ensures apart { IfOk result (λ left. NoneDisplaces (arc_value left)) }
 {
     let goings = without_third(alloc, Arc::try_clone(goings)?, zone, new)?;
