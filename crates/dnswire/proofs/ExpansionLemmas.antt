@@ -164,7 +164,7 @@ kept_next message kept at size next place labels k stands fits points =
     let whole : octets_in kept place ≡ written labels ++ wire_of s.0 = w.wire ∙ ap wire_of s.1 ∙ wire-append labels s.0 in
     record {
       within = omega (arith, k.within, fits);
-      small = subst (λ n. n < 2 ^ 64) (omega (arith, fits)) k.small;
+      small = subst (λ n. n < 2 ^ 32) (omega (arith, fits)) k.small;
       octets = (
         a.stop,
         record {

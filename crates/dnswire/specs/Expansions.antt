@@ -31,7 +31,7 @@ octets_in kept place = take place.size (drop place.start kept)
 -- the place has octets, and they are what is read from the offset on
 pub record IsKept (message kept : List ℕ) (at : ℕ) (place : Place) : Type 0 where
   pub within : place.start + place.size ≤ length kept
-  pub small : place.start + place.size < 2 ^ 64
+  pub small : place.start + place.size < 2 ^ 32
   pub octets : HasOctets message at (octets_in kept place)
 
 -- by the offset, the places of what is kept; one without octets is none

@@ -30,8 +30,8 @@ pub(crate) struct NameTable {
 /// Where octets are kept; a place without octets is none.
 #[derive(Clone, Copy, Debug)]
 pub(crate) struct Place {
-    start: usize,
-    size: usize,
+    start: u32,
+    size: u32,
 }
 
 const NOWHERE: Place = Place { start: 0, size: 0 };
@@ -81,11 +81,8 @@ impl NameTable {
         requires { place.start + place.size ≤ length self.now.octets.items }
         ensures { result.now ≡ octets_in self.now.octets.items place }
     {
-        octets_between(
-            self.octets.as_slice(),
-            place.start,
-            place.start + place.size,
-        )
+        let start = place.start as usize;
+        octets_between(self.octets.as_slice(), start, start + place.size as usize)
     }
 
     fn keep(&mut self, at: usize, place: Place)
@@ -97,37 +94,24 @@ impl NameTable {
         self.places[at] = place;
     }
 
-    // The run of labels at the offset, as `run_at` gives it.
-    fn run(&mut self, message: &[u8], at: usize, room: usize) -> Option<Run>
-        requires room { room ≤ 255 }
-        requires table { IsTableOf message.now self.old }
-        ensures read { IfSome result (IsRunAt message.now at) }
-        ensures labels { IfSome result (λ run. (labels : List Label)
-            × Stand message.now at labels (at + run.size)) }
-        ensures room { IfSome result (λ run. run.size < room) }
-        ensures within { IfSome result (λ run. at + run.size ≤ length message.now) }
-        ensures none { IfNone result (HasNoRoom message.now at room) }
-        ensures octets { self.new.octets.items ≡ self.old.octets.items }
-        ensures places { self.new.places.items ≡ self.old.places.items }
-        ensures table { IsTableOf message.now self.new }
-    {
-        run_by(message, at, room, self.runs.as_mut_slice())
-    }
-
     fn add(&mut self, piece: &[u8]) -> Result<Place, AllocError>
         ensures octets { IfOk result (λ place.
             (place.start + place.size ≤ length self.new.octets.items)
             × (octets_in self.new.octets.items place ≡ piece.now) × (place.size ≡ length piece.now)
-            × (place.start + place.size < 2 ^ 64)) }
+            × (place.start + place.size < 2 ^ 32)) }
         ensures table { (message : List ℕ) → IsTableOf message self.old
             → IsTableOf message self.new }
     {
         let start = self.octets.len();
         self.octets.extend_from_slice(piece)?;
         let end = self.octets.len();
+        // At most 16,384 names of 255 octets are kept, so it always fits.
+        if end > u32::MAX as usize {
+            return Err(AllocError);
+        }
         Ok(Place {
-            start,
-            size: end - start,
+            start: start as u32,
+            size: (end - start) as u32,
         })
     }
 }
@@ -147,7 +131,7 @@ pub(crate) fn place_of(
     ensures table { IsTableOf message.now table.new }
 {
     let known = table.place_at(at);
-    if known.size > room {
+    if known.size as usize > room {
         return Err(NotRead::Faulty);
     }
     if known.size > 0 {
@@ -184,7 +168,7 @@ fn rest_at(
     let mut last_run = at;
     loop {
         let known = table.place_at(start);
-        if known.size > room - octets.len() {
+        if known.size as usize > room - octets.len() {
             return None;
         }
         if known.size > 0 {
@@ -192,7 +176,7 @@ fn rest_at(
             return Some(last_run);
         }
         last_run = start;
-        let Some(run) = table.run(message, start, room - octets.len()) else {
+        let Some(run) = run_by(message, start, room - octets.len(), &mut table.runs) else {
             return None;
         };
         append_from(octets, message, start, run.size);
@@ -219,7 +203,7 @@ fn remember(message: &[u8], at: usize, whole: Place, last_run: usize, table: &mu
         if start == last_run {
             return;
         }
-        let Some(run) = table.run(message, start, place.size) else {
+        let Some(run) = run_by(message, start, place.size as usize, &mut table.runs) else {
             return;
         };
         let Some(next) = run.next else {
@@ -227,8 +211,8 @@ fn remember(message: &[u8], at: usize, whole: Place, last_run: usize, table: &mu
         };
         start = next;
         place = Place {
-            start: place.start + run.size,
-            size: place.size - run.size,
+            start: place.start + run.size as u32,
+            size: place.size - run.size as u32,
         };
     }
 }

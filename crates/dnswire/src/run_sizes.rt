@@ -9,18 +9,18 @@ use crate::name_skip::known_size;
 
 /// The run at the offset, as `run_at` gives it. The sizes of runs are kept by their offsets, so that no label is passed over
 /// twice.
-pub(crate) fn run_by(message: &[u8], at: usize, room: usize, sizes: &mut [u8]) -> Option<Run>
+pub(crate) fn run_by(message: &[u8], at: usize, room: usize, sizes: &mut Vec<u8>) -> Option<Run>
     requires room { room ≤ 255 }
-    requires sizes { AreRunSizes message.now sizes.old }
+    requires sizes { AreRunSizes message.now sizes.old.items }
     ensures read { IfSome result (IsRunAt message.now at) }
     ensures labels { IfSome result (λ run. (labels : List Label)
         × Stand message.now at labels (at + run.size)) }
     ensures room { IfSome result (λ run. run.size < room) }
     ensures within { IfSome result (λ run. at + run.size ≤ length message.now) }
     ensures none { IfNone result (HasNoRoom message.now at room) }
-    ensures sizes { AreRunSizes message.now sizes.new }
+    ensures sizes { AreRunSizes message.now sizes.new.items }
 {
-    let Some(last) = end_by(message, at, room, sizes) else {
+    let Some(last) = end_by(message, at, room, sizes.as_mut_slice()) else {
         return None;
     };
     let size = last - at;

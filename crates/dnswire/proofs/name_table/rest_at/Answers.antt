@@ -29,6 +29,9 @@ returns-in_default-next-clause-read c =
     let fits : length c.append-in_default-next.new.octets.items ≤ c.args.room = omega (arith, c.append-in_default-next.ensures.size, c.append_from.ensures.size, c.in-Some.ensures.room, c.len-in-loop-known.ensures.value, inv.within) in
     (expands_end _ _ c.loop-known.start c.in-Some.run'.size _ _ _ run.0 inv.expands run.1 ends c.append_from.ensures.octets c.append-in_default-next.ensures.octets (omega (arith, fits, c.requires.room)), fits)
 
+pub returns-in_default-next-clause-table : goal.returns-in_default-next-clause-table
+returns-in_default-next-clause-table c = record { kept = c.loop-known.invariant.table.kept; runs = c.run_by.ensures.sizes }
+
 pub loop-known-preserved : goal.loop-known-preserved
 loop-known-preserved c =
     let inv = c.loop-known.invariant in
@@ -37,5 +40,5 @@ loop-known-preserved c =
     record {
       expands = expands_on _ _ c.loop-known.start c.in-Some.run'.size _ _ _ run.0 inv.expands run.1 ends.0 ends.1 c.append_from.ensures.octets;
       within = omega (arith, c.append_from.ensures.size, c.in-Some.ensures.room, c.len-in-loop-known.ensures.value, inv.within);
-      table = c.run.ensures.table;
+      table = record { kept = inv.table.kept; runs = c.run_by.ensures.sizes };
     }
