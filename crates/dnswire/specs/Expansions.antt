@@ -23,7 +23,7 @@ pub record Expands (message : List ℕ) (from to : ℕ) (octets : List ℕ) : Ty
 
 -- nothing is kept
 abbrev pub nowhere : Place
-nowhere = record { start = 0; size = 0 }
+nowhere = record { start = 4294967295; size = 0 }
 
 abbrev pub octets_in : List ℕ → Place → List ℕ
 octets_in kept place = take place.size (drop place.start kept)

@@ -71,7 +71,8 @@ pub(crate) fn pointed_place(
     ensures read { IfOk result (λ found. IfSome found (λ place.
         IsWrittenOut message.now at (octets_in table.new.octets.items place) (at + 2))) }
     ensures within { IfOk result (λ found. IfSome found (λ place.
-        (place.start + place.size ≤ length table.new.octets.items) × (at + 2 ≤ length message.now))) }
+        (place.start + place.size ≤ length table.new.octets.items)
+        × (at + 2 ≤ length message.now))) }
     ensures faulty { result ≡ Err NotRead.Faulty → HasNoRoom message.now at 255 }
     ensures table { IsTableOf message.now table.new }
 {

@@ -34,7 +34,10 @@ pub(crate) struct Place {
     size: u32,
 }
 
-const NOWHERE: Place = Place { start: 0, size: 0 };
+const NOWHERE: Place = Place {
+    start: u32::MAX,
+    size: 0,
+};
 
 impl NameTable {
     /// The table that keeps nothing. It takes no memory.
@@ -97,7 +100,8 @@ impl NameTable {
     fn add(&mut self, piece: &[u8]) -> Result<Place, AllocError>
         ensures octets { IfOk result (λ place.
             (place.start + place.size ≤ length self.new.octets.items)
-            × (octets_in self.new.octets.items place ≡ piece.now) × (place.size ≡ length piece.now)
+            × (octets_in self.new.octets.items place ≡ piece.now)
+            × (place.size ≡ length piece.now)
             × (place.start + place.size < 2 ^ 32)) }
         ensures table { (message : List ℕ) → IsTableOf message self.old
             → IsTableOf message self.new }
