@@ -1,11 +1,8 @@
 -- The frames of an output, counted one after the other.
-use Rattle.std.proofs.Common.{◌≡◌, ℕ, suc, ◌+◌, ◌<◌, ◌≤◌, Bool, true, false, cond, List, [], ◌∷◌, ◌++◌, Option, None, Some, length, take, drop, get_or, refl, sym, ◌∙◌, ap, arith, length-append, append_assoc}
+use Rattle.std.proofs.Common.{◌≡◌, ℕ, ◌+◌, ◌<◌, ◌≤◌, Bool, true, false, cond, List, [], ◌∷◌, ◌++◌, length, sym, ◌∙◌, ap, arith}
 use Rattle.std.specs.Prelude.{codes, filter}
 use Rattle.std.specs.List.{All}
-use Rattle.std.proofs.lemmas.List.{take_at, drop_at, get_or_default, get_or_past}
 use Rattle.std.proofs.lemmas.List.Elements.{All-head, All-tail}
-use Rattle.byteorder.specs.Endian.{big_number}
-use Rattle.byteorder.specs.Numbers.{big_number-reads_back}
 use Rattle.replay_meaning.specs.OutFrame.{Output, IsOutput, out_number, output_spelling, outputs_spelling}
 use Rattle.dnsreplay.specs.Summary.{counts_as, is_counted, count_of, line, summary}
 use Rattle.dnsreplay.specs.declared.summary.Counted.{Counted}

@@ -1,8 +1,8 @@
 -- The frames of a made zone's messages and queries.
-use Rattle.std.proofs.Common.{◌≡◌, ℕ, zero, suc, ◌+◌, ◌*◌, ◌/◌, ◌%◌, ◌^◌, ◌<◌, ◌≤◌, Bool, true, false, List, [], ◌∷◌, ◌++◌, length, map, take, get_or, refl, sym, ◌∙◌, ap, subst, arith, length-append, append_assoc}
+use Rattle.std.proofs.Common.{◌≡◌, ℕ, zero, suc, ◌+◌, ◌/◌, ◌%◌, ◌^◌, ◌<◌, ◌≤◌, Bool, true, false, List, [], ◌∷◌, ◌++◌, length, map, take, get_or, refl, sym, ◌∙◌, ap, subst, arith, length-append, append_assoc}
 use Rattle.std.specs.Prelude.{if◌then◌else◌, ◌==◌, Result, Ok, Err, IfOk}
 use Rattle.std.specs.List.{All, AllZip, range_with_len}
-use Rattle.std.proofs.lemmas.List.{length-map, map-append, append-nil, take_more, take_all}
+use Rattle.std.proofs.lemmas.List.{length-map, map-append, take_more}
 use Rattle.std.proofs.lemmas.List.Concat.{flat_map-append}
 use Rattle.std.proofs.lemmas.List.Elements.{All-nil, All-cons, All-head, All-tail, All-append, All-map}
 use Rattle.std.proofs.lemmas.List.FromFn.{length-map-range_with_len, map-range_with_len_more}
@@ -20,7 +20,7 @@ use Rattle.replay_meaning.specs.Replay.{AreFrames, SpellsFrames, IsReplay}
 use Rattle.replay_meaning.specs.declared.frame.FrameKind.{FrameKind}
 use Rattle.replay_meaning.specs.declared.frame.FrameKind.TheVariants.{Query, Upstream}
 use Rattle.replay_meaning.proofs.FrameLemmas.{inputs_have_one, spelling-push}
-use Rattle.dnsreplay.specs.Made.{made_input, made_inputs, queries_of, AreMadeOutputs}
+use Rattle.dnsreplay.specs.Made.{made_input, made_inputs, queries_of}
 use Rattle.dnsreplay.specs.Summary.{IsMadeSummary, summary}
 
 -- ---- names of the made zone are short

@@ -1,4 +1,4 @@
-use Rattle.dnsreplay.proofs.CountLemmas.{all_counted, none_counted, other_passed, this_counted}
+use Rattle.dnsreplay.proofs.CountLemmas.{all_counted, other_passed, this_counted}
 use Rattle.dnsreplay.proofs.summary.count.Goals as goal
 
 pub loop-kind-preserved-then-counts_as : goal.loop-kind-preserved-then-counts_as
