@@ -5,15 +5,15 @@ ghost use Rattle.cache_meaning.specs.Ttl.{minimum_of, ttl_of};
 ghost use Rattle.cache_meaning.specs.Views.{proof_by};
 ghost use Rattle.cache_meaning.specs.declared.denials.Denials.TheVariants.{Zero};
 
-use denial_records::{SetRec, remaining};
-use dname::{OctetsList, u32_at};
+use denial_records::{KeptSet, remaining};
+use dname::{Packed, u32_at};
 
 /// What a proof says of a name and a type, by the set that answers or by the zone's SOA.
 #[derive(Drop)]
 pub(crate) enum Claim<'a> {
-    Answer(&'a SetRec),
-    NoData(&'a SetRec),
-    NxDomain(&'a SetRec),
+    Answer(&'a KeptSet),
+    NoData(&'a KeptSet),
+    NxDomain(&'a KeptSet),
 }
 
 impl<'a> Claim<'a> {
@@ -29,27 +29,29 @@ impl<'a> Claim<'a> {
     }
 }
 
-fn set_left(set: &SetRec, now: u32) -> u32
+fn set_left(set: &KeptSet, now: u32) -> u32
     ensures { result ≡ time_left set.now.life set.now.expiry now }
 {
-    remaining(set.life, set.expiry, now)
+    remaining(set.life(), set.expiry(), now)
 }
 
 // What the SOA has left, and at most its MINIMUM.
-fn denial_left(soa: &SetRec, now: u32) -> u32
-    ensures { result ≡ min (time_left soa.now.life soa.now.expiry now) (minimum_of soa.now.items) }
+fn denial_left(soa: &KeptSet, now: u32) -> u32
+    ensures { result ≡ min (time_left soa.now.life soa.now.expiry now)
+        (minimum_of soa.now.items) }
 {
-    set_left(soa, now).min(minimum_of(&soa.items))
+    set_left(soa, now).min(minimum_of(soa.items()))
 }
 
 // An SOA's MINIMUM: the last four octets of its data, and 0 where they aren't there.
-fn minimum_of(items: &OctetsList) -> u32
-    ensures { result ≡ minimum_of items.now }
+fn minimum_of(items: Packed<'_>) -> u32
+    ensures { result ≡ minimum_of items.entry }
 {
-    if items.is_empty() {
-        return 0;
+    let mut rest = items;
+    match rest.next() {
+        Some(first) => last_number(first),
+        None => 0,
     }
-    last_number(items.get(0).as_slice())
 }
 
 fn last_number(octets: &[u8]) -> u32

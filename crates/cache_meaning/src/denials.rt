@@ -7,7 +7,7 @@ ghost use Rattle.cache_meaning.specs.Nsec3Steps.{nsec3s_once, same_nsec3_arc};
 ghost use Rattle.cache_meaning.specs.Ttl.{left_of};
 ghost use Rattle.cache_meaning.specs.Views.{denials_of};
 
-use denial_records::{Denial, Nsec3Rec, NsecRec, remaining};
+use denial_records::{Denial, KeptNsec, KeptNsec3, remaining};
 
 /// The denial records of a proof, in order.
 #[derive(Drop)]
@@ -51,21 +51,21 @@ impl<'a> Denials<'a> {
 }
 
 /// One NSEC record.
-pub(crate) fn one_nsec<'a>(nsec: &'a NsecRec) -> Denials<'a>
+pub(crate) fn one_nsec<'a>(nsec: &'a KeptNsec) -> Denials<'a>
     ensures { denials_of result ≡ records.Nsec nsec.now ∷ [] }
 {
     Denials::One(Denial::Nsec(nsec))
 }
 
 /// One NSEC3 record.
-pub(crate) fn one_nsec3<'a>(nsec3: &'a Nsec3Rec) -> Denials<'a>
+pub(crate) fn one_nsec3<'a>(nsec3: &'a KeptNsec3) -> Denials<'a>
     ensures { denials_of result ≡ records.Nsec3 nsec3.now ∷ [] }
 {
     Denials::One(Denial::Nsec3(nsec3))
 }
 
 /// Two NSEC records of one chain, each once.
-pub(crate) fn nsecs_once<'a>(first: &'a NsecRec, second: &'a NsecRec) -> Denials<'a>
+pub(crate) fn nsecs_once<'a>(first: &'a KeptNsec, second: &'a KeptNsec) -> Denials<'a>
     ensures { denials_of result ≡ nsecs_once (first.now ∷ second.now ∷ []) }
 {
     if same_nsec_arc(first, second) {
@@ -75,17 +75,17 @@ pub(crate) fn nsecs_once<'a>(first: &'a NsecRec, second: &'a NsecRec) -> Denials
     }
 }
 
-fn same_nsec_arc(nsec: &NsecRec, other: &NsecRec) -> bool
+fn same_nsec_arc(nsec: &KeptNsec, other: &KeptNsec) -> bool
     ensures { result ≡ same_nsec_arc nsec.now other.now }
 {
-    nsec.owner == other.owner && nsec.next == other.next
+    nsec.owner() == other.owner() && nsec.next() == other.next()
 }
 
 /// Three NSEC3 records of one chain, each once.
 pub(crate) fn nsec3s_once<'a>(
-    first: &'a Nsec3Rec,
-    second: &'a Nsec3Rec,
-    third: &'a Nsec3Rec,
+    first: &'a KeptNsec3,
+    second: &'a KeptNsec3,
+    third: &'a KeptNsec3,
 ) -> Denials<'a>
     ensures { denials_of result ≡ nsec3s_once (first.now ∷ second.now ∷ third.now ∷ []) }
 {
@@ -102,17 +102,17 @@ pub(crate) fn nsec3s_once<'a>(
     }
 }
 
-fn same_nsec3_arc(nsec3: &Nsec3Rec, other: &Nsec3Rec) -> bool
+fn same_nsec3_arc(nsec3: &KeptNsec3, other: &KeptNsec3) -> bool
     ensures { result ≡ same_nsec3_arc nsec3.now other.now }
 {
-    nsec3.hash == other.hash && nsec3.next == other.next
+    nsec3.hash() == other.hash() && nsec3.next() == other.next()
 }
 
 fn left_of(denial: &Denial<'_>, now: u32) -> u32
     ensures { result ≡ left_of now (denied_by denial.now) }
 {
     match denial {
-        Denial::Nsec(nsec) => remaining(nsec.life, nsec.expiry, now),
-        Denial::Nsec3(nsec3) => remaining(nsec3.life, nsec3.expiry, now),
+        Denial::Nsec(nsec) => remaining(nsec.life(), nsec.expiry(), now),
+        Denial::Nsec3(nsec3) => remaining(nsec3.life(), nsec3.expiry(), now),
     }
 }

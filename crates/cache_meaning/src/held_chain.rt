@@ -39,14 +39,14 @@ impl HeldChain {
         match item {
             Record::Set(_) => Ok(None),
             Record::Nsec(nsec) => Ok(Some(HeldChain {
-                zone: nsec.zone.copy(),
+                zone: nsec.zone().name(),
                 kind: ChainKind::Nsec,
             })),
             Record::Nsec3(nsec3) => Ok(Some(HeldChain {
-                zone: nsec3.zone.copy(),
+                zone: nsec3.zone().name(),
                 kind: ChainKind::Nsec3 {
-                    salt: nsec3.salt.copy(alloc)?,
-                    iterations: nsec3.iterations,
+                    salt: Octets::of(alloc, nsec3.salt())?,
+                    iterations: nsec3.iterations(),
                 },
             })),
         }
@@ -99,10 +99,10 @@ impl HeldChain {
         ensures { result ≡ is_of_chain self.now item.now }
     {
         match (&self.kind, item) {
-            (ChainKind::Nsec, Record::Nsec(nsec)) => self.zone == nsec.zone,
+            (ChainKind::Nsec, Record::Nsec(nsec)) => self.zone.lent() == nsec.zone(),
             (ChainKind::Nsec3 { salt, iterations }, Record::Nsec3(nsec3)) => {
-                self.zone == nsec3.zone
-                    && (salt.as_slice() == nsec3.salt.as_slice() && *iterations == nsec3.iterations)
+                self.zone.lent() == nsec3.zone()
+                    && (salt.as_slice() == nsec3.salt() && *iterations == nsec3.iterations())
             }
             _ => false,
         }

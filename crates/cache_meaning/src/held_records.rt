@@ -1,5 +1,6 @@
 ghost use Rattle.std.specs.Prelude.{◌≡◌, not, filter, count_by, List, [], length, OnOk, IfOk, slice_get};
 ghost use Rattle.std.specs.List.{list_any};
+ghost use Rattle.std.specs.Arc.{arc_value};
 ghost use Rattle.std.specs.Option.{option_copied};
 ghost use Rattle.dname.specs.Tests.{same_name};
 ghost use Rattle.cache_meaning.specs.Held.{Held, nothing_held, is_usable, displaces, goes_before, goes, is_of_chain, same_zone_chain, chains_held, held_where, without_chain, third_of, with_new_chain, with_chain, held_with, within_limit, held_after};
@@ -86,7 +87,7 @@ impl HeldRecords {
         ensures { OnOk result (self.new ≡ held_with self.old new.now) }
     {
         drop_displaced(&mut self.records, new);
-        self.records.push(Arc::new(alloc, new.copy(alloc)?)?)?;
+        self.records.push(shared_copy(alloc, new)?)?;
         match HeldChain::of(alloc, new)? {
             Some(chain) => self.add_chain(alloc, chain),
             None => Ok(()),
@@ -122,6 +123,14 @@ impl HeldRecords {
         drop_records_of(&mut self.records, chain);
         drop_chain(&mut self.chains, chain);
     }
+}
+
+// An equal record, with one owner.
+fn shared_copy(alloc: Global, item: &Record) -> Result<Arc<Record, Global>, OutOfMemory>
+    ensures { IfOk result (λ shared. arc_value shared ≡ item.now) }
+{
+    let copy = item.copy(alloc)?;
+    Ok(Arc::new(alloc, copy)?)
 }
 
 fn usable_records(

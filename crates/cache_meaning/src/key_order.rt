@@ -2,7 +2,7 @@ ghost use Rattle.std.specs.Prelude.{◌≡◌};
 ghost use Rattle.cache_meaning.specs.Held.{goes_before, key_cmp, set_key_cmp, nsec_key_cmp, nsec3_key_cmp};
 
 use crate::records::expiry_of;
-use denial_records::{Nsec3Rec, NsecRec, Record, SetRec};
+use denial_records::{KeptNsec, KeptNsec3, KeptSet, Record};
 use std::cmp::Ordering;
 
 /// Whether of the two the record is the first to go when there are too many: it expires first, or is first in key order.
@@ -24,43 +24,43 @@ fn key_cmp(item: &Record, other: &Record) -> Ordering
         (_, Record::Set(_)) => Ordering::Greater,
         (Record::Nsec(nsec), Record::Nsec(other)) => nsec_key_cmp(nsec, other),
         (Record::Nsec(nsec), Record::Nsec3(other)) => nsec
-            .zone
-            .cmp(&other.zone)
+            .zone()
+            .cmp(&other.zone())
             .then(Ordering::Less),
         (Record::Nsec3(nsec3), Record::Nsec(other)) => nsec3
-            .zone
-            .cmp(&other.zone)
+            .zone()
+            .cmp(&other.zone())
             .then(Ordering::Greater),
         (Record::Nsec3(nsec3), Record::Nsec3(other)) => nsec3_key_cmp(nsec3, other),
     }
 }
 
-fn set_key_cmp(set: &SetRec, other: &SetRec) -> Ordering
+fn set_key_cmp(set: &KeptSet, other: &KeptSet) -> Ordering
     ensures { result ≡ set_key_cmp set.now other.now }
 {
-    set.zone.cmp(&other.zone).then(
-        set.owner
-            .cmp(&other.owner)
-            .then(set.rtype.cmp(&other.rtype)),
+    set.zone().cmp(&other.zone()).then(
+        set.owner()
+            .cmp(&other.owner())
+            .then(set.rtype().cmp(&other.rtype())),
     )
 }
 
-fn nsec_key_cmp(nsec: &NsecRec, other: &NsecRec) -> Ordering
+fn nsec_key_cmp(nsec: &KeptNsec, other: &KeptNsec) -> Ordering
     ensures { result ≡ nsec_key_cmp nsec.now other.now }
 {
-    nsec.zone
-        .cmp(&other.zone)
-        .then(nsec.owner.cmp(&other.owner))
+    nsec.zone()
+        .cmp(&other.zone())
+        .then(nsec.owner().cmp(&other.owner()))
 }
 
-fn nsec3_key_cmp(nsec3: &Nsec3Rec, other: &Nsec3Rec) -> Ordering
+fn nsec3_key_cmp(nsec3: &KeptNsec3, other: &KeptNsec3) -> Ordering
     ensures { result ≡ nsec3_key_cmp nsec3.now other.now }
 {
-    let by_salt = nsec3.salt.as_slice().cmp(other.salt.as_slice());
-    nsec3.zone.cmp(&other.zone).then(
+    let by_salt = nsec3.salt().cmp(other.salt());
+    nsec3.zone().cmp(&other.zone()).then(
         nsec3
-            .iterations
-            .cmp(&other.iterations)
-            .then(by_salt.then(nsec3.hash.cmp(&other.hash))),
+            .iterations()
+            .cmp(&other.iterations())
+            .then(by_salt.then(nsec3.hash().cmp(other.hash()))),
     )
 }

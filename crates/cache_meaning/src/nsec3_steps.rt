@@ -11,7 +11,7 @@ use crate::evidence::{
 };
 use crate::hashed_name::HashedName;
 use crate::plain_proof::PlainProof;
-use denial_records::Nsec3Rec;
+use denial_records::KeptNsec3;
 
 /// What the NSEC3 chain of the name proves of it and the type.
 pub(crate) fn nsec3_proof<'a>(
@@ -49,14 +49,14 @@ fn no_data_by_match<'a>(
     now: u32,
     name: &HashedName<'_>,
     qtype: u16,
-    matching: &'a Nsec3Rec,
+    matching: &'a KeptNsec3,
 ) -> Option<PlainProof<'a>>
     ensures { result
         ≡ no_data_by_match zone.now.held now zone.now.apex name.now.parameters name.now.name
         qtype matching.now }
 {
     if nsec3_matches(matching, name)
-        && deny_type(&matching.types, zone.apex(), name.name(), qtype)
+        && deny_type(&matching.types(), zone.apex(), name.name(), qtype)
     {
         no_data(zone, now, one_nsec3(matching))
     } else {
@@ -76,7 +76,7 @@ fn by_enclosers<'a>(
 {
     let mut next_closer = name;
     while let Some(encloser) = next_closer.parent() {
-        if !is_under(encloser.name(), zone.apex()) {
+        if !is_under(encloser.name().lent(), zone.apex().lent()) {
             return None;
         }
         if let Some(proof) = at_encloser(zone, now, qtype, &next_closer, &encloser) {
@@ -114,7 +114,7 @@ fn by_cover<'a>(
     qtype: u16,
     next_closer: &HashedName<'_>,
     encloser: &HashedName<'_>,
-    covering: &'a Nsec3Rec,
+    covering: &'a KeptNsec3,
 ) -> Option<PlainProof<'a>>
     requires chain { encloser.now.parameters ≡ next_closer.now.parameters }
     requires below { (label : Label) × (next_closer.now.name ≡ label ∷ encloser.now.name) }
@@ -140,7 +140,7 @@ fn denial_below<'a>(
     qtype: u16,
     encloser: &HashedName<'_>,
     source: &HashedName<'_>,
-    covering: &'a Nsec3Rec,
+    covering: &'a KeptNsec3,
 ) -> Option<PlainProof<'a>>
     requires chain { source.now.parameters ≡ encloser.now.parameters }
     requires wildcard { source.now.name ≡ asterisk ∷ encloser.now.name }
@@ -156,12 +156,16 @@ fn denial_below<'a>(
     }
 }
 
-fn shows_encloser(zone: &PlainZone<'_>, encloser: &HashedName<'_>, matching: &Nsec3Rec) -> bool
+fn shows_encloser(zone: &PlainZone<'_>, encloser: &HashedName<'_>, matching: &KeptNsec3) -> bool
     ensures { result
         ≡ shows_encloser encloser.now.parameters zone.now.apex encloser.now.name matching.now }
 {
     nsec3_matches(matching, encloser)
-        && hand_nothing_on(&matching.types, zone.apex(), encloser.name())
+        && hand_nothing_on(
+            &matching.types(),
+            zone.apex().lent(),
+            encloser.name().lent(),
+        )
 }
 
 // By the record that speaks of the wildcard.
@@ -170,8 +174,8 @@ fn denial_at_source<'a>(
     now: u32,
     qtype: u16,
     source: &HashedName<'_>,
-    matching: &'a Nsec3Rec,
-    covering: &'a Nsec3Rec,
+    matching: &'a KeptNsec3,
+    covering: &'a KeptNsec3,
 ) -> Option<PlainProof<'a>>
     ensures { result
         ≡ denial_at_source zone.now.held now zone.now.apex source.now.parameters qtype
@@ -191,15 +195,15 @@ fn no_data_by_wildcard<'a>(
     now: u32,
     qtype: u16,
     source: &HashedName<'_>,
-    matching: &'a Nsec3Rec,
-    covering: &'a Nsec3Rec,
-    at_source: &'a Nsec3Rec,
+    matching: &'a KeptNsec3,
+    covering: &'a KeptNsec3,
+    at_source: &'a KeptNsec3,
 ) -> Option<PlainProof<'a>>
     ensures { result
         ≡ no_data_by_wildcard zone.now.held now zone.now.apex source.now.parameters qtype
         source.now.name matching.now covering.now at_source.now }
 {
-    if nsec3_matches(at_source, source) && deny_type_below(&at_source.types, qtype) {
+    if nsec3_matches(at_source, source) && deny_type_below(&at_source.types(), qtype) {
         no_data(zone, now, nsec3s_once(matching, covering, at_source))
     } else {
         None
@@ -210,9 +214,9 @@ fn name_error<'a>(
     zone: &PlainZone<'a>,
     now: u32,
     source: &HashedName<'_>,
-    matching: &'a Nsec3Rec,
-    covering: &'a Nsec3Rec,
-    at_source: &'a Nsec3Rec,
+    matching: &'a KeptNsec3,
+    covering: &'a KeptNsec3,
+    at_source: &'a KeptNsec3,
 ) -> Option<PlainProof<'a>>
     ensures { result
         ≡ name_error zone.now.held now zone.now.apex source.now.parameters source.now.name

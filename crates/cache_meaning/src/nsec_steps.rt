@@ -12,7 +12,7 @@ use crate::evidence::{
 };
 use crate::plain_proof::PlainProof;
 use crate::wildcard::source_of;
-use denial_records::NsecRec;
+use denial_records::KeptNsec;
 use dname::Name;
 
 /// What the zone's NSEC chain proves of the name and type.
@@ -34,7 +34,7 @@ fn nsec_steps<'a>(
     now: u32,
     name: &Name,
     qtype: u16,
-    nsec: &'a NsecRec,
+    nsec: &'a KeptNsec,
 ) -> Option<PlainProof<'a>>
     requires { IsInArc name.now nsec.now }
     ensures { result ≡ nsec_steps zone.now.held now zone.now.apex name.now qtype nsec.now }
@@ -53,12 +53,12 @@ fn no_data_by_match<'a>(
     now: u32,
     name: &Name,
     qtype: u16,
-    matching: &'a NsecRec,
+    matching: &'a KeptNsec,
 ) -> Option<PlainProof<'a>>
     ensures { result
         ≡ no_data_by_match zone.now.held now zone.now.apex name.now qtype matching.now }
 {
-    if nsec_matches(matching, name) && deny_type(&matching.types, zone.apex(), name, qtype) {
+    if nsec_matches(matching, name) && deny_type(&matching.types(), zone.apex(), name, qtype) {
         no_data(zone, now, one_nsec(matching))
     } else {
         None
@@ -69,7 +69,7 @@ fn no_data_by_empty<'a>(
     zone: &PlainZone<'a>,
     now: u32,
     name: &Name,
-    covering: &'a NsecRec,
+    covering: &'a KeptNsec,
 ) -> Option<PlainProof<'a>>
     ensures { result ≡ no_data_by_empty zone.now.held now zone.now.apex name.now covering.now }
 {
@@ -86,7 +86,7 @@ fn by_cover<'a>(
     now: u32,
     name: &Name,
     qtype: u16,
-    covering: &'a NsecRec,
+    covering: &'a KeptNsec,
 ) -> Option<PlainProof<'a>>
     requires { IsInArc name.now covering.now }
     ensures { result ≡ by_cover zone.now.held now zone.now.apex name.now qtype covering.now }
@@ -107,7 +107,7 @@ fn denial_at_source<'a>(
     now: u32,
     qtype: u16,
     source: &Name,
-    covering: &'a NsecRec,
+    covering: &'a KeptNsec,
 ) -> Option<PlainProof<'a>>
     ensures { result
         ≡ denial_at_source zone.now.held now zone.now.apex qtype source.now covering.now }
@@ -124,14 +124,14 @@ fn no_data_by_wildcard<'a>(
     now: u32,
     qtype: u16,
     source: &Name,
-    covering: &'a NsecRec,
-    at_source: &'a NsecRec,
+    covering: &'a KeptNsec,
+    at_source: &'a KeptNsec,
 ) -> Option<PlainProof<'a>>
     ensures { result
         ≡ no_data_by_wildcard zone.now.held now zone.now.apex qtype source.now covering.now
         at_source.now }
 {
-    let denied = nsec_matches(at_source, source) && deny_type_below(&at_source.types, qtype);
+    let denied = nsec_matches(at_source, source) && deny_type_below(&at_source.types(), qtype);
     if denied || nsec_shows_empty(at_source, source) {
         no_data(zone, now, nsecs_once(covering, at_source))
     } else {
@@ -143,8 +143,8 @@ fn name_error<'a>(
     zone: &PlainZone<'a>,
     now: u32,
     source: &Name,
-    covering: &'a NsecRec,
-    at_source: &'a NsecRec,
+    covering: &'a KeptNsec,
+    at_source: &'a KeptNsec,
 ) -> Option<PlainProof<'a>>
     ensures { result
         ≡ name_error zone.now.held now zone.now.apex source.now covering.now at_source.now }

@@ -72,8 +72,8 @@ impl PlainStore {
             zone = zone.parent()?;
         }
         loop {
-            if let Some(apex) = self.apex(&zone) {
-                return Some(zone_in(self, apex));
+            if self.has_zone(&zone) {
+                return Some(zone_in(self, zone));
             }
             zone = zone.parent()?;
         }
@@ -92,18 +92,16 @@ impl PlainStore {
         self.held.chains.as_slice()
     }
 
-    // The apex, if a record of the zone is held.
-    fn apex(&self, zone: &Name) -> Option<&Name>
-        ensures same { IfSome result (λ apex. apex.now ≡ zone.now) }
-        ensures exact { is_some result
+    // Whether a record of the zone is held.
+    fn has_zone(&self, zone: &Name) -> bool
+        ensures { result
             ≡ list_any (λ item. same_name (zone_of item) zone.now) self.now.records }
     {
         for item in self.records() {
-            let apex = zone_of(item);
-            if apex == zone {
-                return Some(apex);
+            if zone_of(item) == zone.lent() {
+                return true;
             }
         }
-        None
+        false
     }
 }

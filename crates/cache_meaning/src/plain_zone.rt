@@ -13,7 +13,7 @@ ghost use Rattle.std.specs.Str.{bytes_eq};
 use crate::held_chain::HeldChain;
 use crate::held_records::chain_at;
 use crate::{Chain, Place, PlainStore};
-use denial_records::{Nsec3Rec, NsecRec, Record, SetRec};
+use denial_records::{KeptNsec, KeptNsec3, KeptSet, Record};
 use dname::{Name, arc_has};
 use std::alloc::Global;
 use std::marker::Model;
@@ -23,7 +23,7 @@ use std::sync::Arc;
 #[derive(Drop)]
 pub struct PlainZone<'a> {
     store: &'a PlainStore,
-    apex: &'a Name,
+    apex: Name,
 }
 
 impl<'a> Model for PlainZone<'a> {
@@ -31,14 +31,14 @@ impl<'a> Model for PlainZone<'a> {
 
     ghost Value = { HeldZone };
 
-    ghost view = { λ z. zone_in z.store.now z.apex.now };
+    ghost view = { λ z. zone_in z.store.now z.apex };
 }
 
 impl<'a> PlainZone<'a> {
-    pub fn apex(&self) -> &'a Name
+    pub fn apex(&self) -> &Name
         ensures { result.now ≡ self.now.apex }
     {
-        self.apex
+        &self.apex
     }
 
     /// The chains of which a denial record is held, the newest first, and `Bare` where there is none.
@@ -50,17 +50,17 @@ impl<'a> PlainZone<'a> {
     {
         let chains = self.store.chains();
         [
-            lent(chain_at(chains, self.apex, 0)),
-            lent(chain_at(chains, self.apex, 1)),
+            lent(chain_at(chains, &self.apex, 0)),
+            lent(chain_at(chains, &self.apex, 1)),
         ]
     }
 
     /// The set at the owner name and type.
-    pub fn set_at(&self, owner: &Name, rtype: u16) -> Option<&'a SetRec>
+    pub fn set_at(&self, owner: &Name, rtype: u16) -> Option<&'a KeptSet>
         ensures { option_copied result ≡ set_at self.now.held self.now.apex owner.now rtype }
     {
         for item in self.store.records() {
-            if let Some(set) = as_set_at(item, self.apex, owner, rtype) {
+            if let Some(set) = as_set_at(item, &self.apex, owner, rtype) {
                 return Some(set);
             }
         }
@@ -68,7 +68,7 @@ impl<'a> PlainZone<'a> {
     }
 
     /// The NSEC record whose arc, from its owner name to the next, has the name, and where in it (RFC 4034, section 4.1.1).
-    pub fn nsec_at(&self, name: &Name) -> Option<(&'a NsecRec, Place)>
+    pub fn nsec_at(&self, name: &Name) -> Option<(&'a KeptNsec, Place)>
         ensures record { option_map (λ found. found.0.now) result
             ≡ nsec_at self.now.held self.now.apex name.now }
         ensures place { IfSome result (λ found.
@@ -76,8 +76,8 @@ impl<'a> PlainZone<'a> {
         ensures arc { IfSome result (λ found. IsInArc name.now found.0.now) }
     {
         for item in self.store.records() {
-            if let Some(nsec) = as_nsec_at(item, self.apex, name) {
-                return Some((nsec, place_by(nsec.owner == *name)));
+            if let Some(nsec) = as_nsec_at(item, &self.apex, name) {
+                return Some((nsec, place_by(nsec.owner() == name.lent())));
             }
         }
         None
@@ -90,15 +90,15 @@ impl<'a> PlainZone<'a> {
         salt: &[u8],
         iterations: u16,
         hash: &[u8; 20],
-    ) -> Option<(&'a Nsec3Rec, Place)>
+    ) -> Option<(&'a KeptNsec3, Place)>
         ensures record { option_map (λ found. found.0.now) result
             ≡ nsec3_at self.now.held self.now.apex (parameters_by salt.now iterations) hash.now }
         ensures place { IfSome result (λ found.
             found.1 ≡ place_by (bytes_eq found.0.now.hash hash.now)) }
     {
         for item in self.store.records() {
-            if let Some(nsec3) = as_nsec3_at(item, self.apex, salt, iterations, hash) {
-                return Some((nsec3, place_by(nsec3.hash == *hash)));
+            if let Some(nsec3) = as_nsec3_at(item, &self.apex, salt, iterations, hash) {
+                return Some((nsec3, place_by(*nsec3.hash() == *hash)));
             }
         }
         None
@@ -106,8 +106,8 @@ impl<'a> PlainZone<'a> {
 }
 
 /// The zone of the store at the apex.
-pub(crate) fn zone_in<'a>(store: &'a PlainStore, apex: &'a Name) -> PlainZone<'a>
-    ensures { result ≡ zone_in store.now apex.now }
+pub(crate) fn zone_in(store: &PlainStore, apex: Name) -> PlainZone<'_>
+    ensures { result ≡ zone_in store.now apex }
 {
     PlainZone { store, apex }
 }
@@ -127,23 +127,25 @@ fn place_by(matches: bool) -> Place
     if matches { Place::Start } else { Place::Inside }
 }
 
-fn as_set_at<'r>(item: &'r Record, zone: &Name, owner: &Name, rtype: u16) -> Option<&'r SetRec>
+fn as_set_at<'r>(item: &'r Record, zone: &Name, owner: &Name, rtype: u16) -> Option<&'r KeptSet>
     ensures { option_copied result ≡ as_set_at zone.now owner.now rtype item.now }
 {
     match item {
-        Record::Set(set) if set.zone == *zone && set.owner == *owner && set.rtype == rtype => {
+        Record::Set(set)
+            if set.zone() == zone.lent() && set.owner() == owner.lent() && set.rtype() == rtype => {
             Some(set)
         }
         _ => None,
     }
 }
 
-fn as_nsec_at<'r>(item: &'r Record, zone: &Name, name: &Name) -> Option<&'r NsecRec>
+fn as_nsec_at<'r>(item: &'r Record, zone: &Name, name: &Name) -> Option<&'r KeptNsec>
     ensures record { option_copied result ≡ as_nsec_at zone.now name.now item.now }
     ensures arc { IfSome result (λ nsec. IsInArc name.now nsec.now) }
 {
     match item {
-        Record::Nsec(nsec) if nsec.zone == *zone && arc_has(&nsec.owner, &nsec.next, name) => {
+        Record::Nsec(nsec)
+            if nsec.zone() == zone.lent() && arc_has(&nsec.owner(), &nsec.next(), &name.lent()) => {
             Some(nsec)
         }
         _ => None,
@@ -156,15 +158,15 @@ fn as_nsec3_at<'r>(
     salt: &[u8],
     iterations: u16,
     hash: &[u8; 20],
-) -> Option<&'r Nsec3Rec>
+) -> Option<&'r KeptNsec3>
     ensures { option_copied result
         ≡ as_nsec3_at zone.now (parameters_by salt.now iterations) hash.now item.now }
 {
     match item {
         Record::Nsec3(nsec3)
-            if nsec3.zone == *zone
-                && (nsec3.salt.as_slice() == salt && nsec3.iterations == iterations)
-                && arc_has(&nsec3.hash, &nsec3.next, hash) => { Some(nsec3) }
+            if nsec3.zone() == zone.lent()
+                && (nsec3.salt() == salt && nsec3.iterations() == iterations)
+                && arc_has(nsec3.hash(), nsec3.next(), hash) => { Some(nsec3) }
         _ => None,
     }
 }

@@ -3,16 +3,16 @@ ghost use Rattle.std.specs.Str.{bytes_eq};
 ghost use Rattle.cache_meaning.specs.Held.{zone_of, expiry_of, is_usable};
 
 use denial_records::Record;
-use dname::Name;
+use dname::LentName;
 
 /// The apex of the zone that signed the record.
-pub(crate) fn zone_of(item: &Record) -> &Name
-    ensures { result.now ≡ zone_of item.now }
+pub(crate) fn zone_of(item: &Record) -> LentName<'_>
+    ensures { result ≡ zone_of item.now }
 {
     match item {
-        Record::Set(set) => &set.zone,
-        Record::Nsec(nsec) => &nsec.zone,
-        Record::Nsec3(nsec3) => &nsec3.zone,
+        Record::Set(set) => set.zone(),
+        Record::Nsec(nsec) => nsec.zone(),
+        Record::Nsec3(nsec3) => nsec3.zone(),
     }
 }
 
@@ -21,9 +21,9 @@ pub(crate) fn expiry_of(item: &Record) -> u64
     ensures { result ≡ expiry_of item.now }
 {
     match item {
-        Record::Set(set) => set.expiry,
-        Record::Nsec(nsec) => nsec.expiry,
-        Record::Nsec3(nsec3) => nsec3.expiry,
+        Record::Set(set) => set.expiry(),
+        Record::Nsec(nsec) => nsec.expiry(),
+        Record::Nsec3(nsec3) => nsec3.expiry(),
     }
 }
 

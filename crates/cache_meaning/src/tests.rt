@@ -1,6 +1,7 @@
 use crate::{Chain, Place, PlainStore, answer, is_forwarded, prove};
 use denial_records::{
-    Batch, Kind, Nsec3Rec, NsecRec, Record, RecordList, SetRec, TypeSet, Verdict,
+    Batch, KeptNsec, KeptNsec3, KeptSet, Kind, Nsec3Rec, NsecRec, Record, RecordList, SetRec,
+    TypeSet, Verdict,
 };
 use dname::{Name, NameFault, Octets, OctetsList, OutOfMemory};
 use nsec3_hash::{from_base32hex, hash_name};
@@ -36,7 +37,7 @@ fn set(
     life: u32,
     octets: &[u8],
 ) -> Result<Record, Fail> {
-    Ok(Record::Set(SetRec {
+    let set = SetRec {
         zone: name(zone)?,
         owner: name(owner)?,
         rtype,
@@ -44,11 +45,12 @@ fn set(
         expiry: u64::from(THEN) + u64::from(life),
         items: list_of(alloc, octets)?,
         signatures: list_of(alloc, b"")?,
-    }))
+    };
+    Ok(Record::Set(KeptSet::of(alloc, &set)?))
 }
 
 fn nsec(alloc: Global, owner: &[u8], next: &[u8], types: &[u8], life: u32) -> Result<Record, Fail> {
-    Ok(Record::Nsec(NsecRec {
+    let nsec = NsecRec {
         zone: name(ZONE)?,
         owner: name(owner)?,
         next: name(next)?,
@@ -57,7 +59,8 @@ fn nsec(alloc: Global, owner: &[u8], next: &[u8], types: &[u8], life: u32) -> Re
         expiry: u64::from(THEN) + u64::from(life),
         image: Octets::of(alloc, b"")?,
         signatures: list_of(alloc, b"")?,
-    }))
+    };
+    Ok(Record::Nsec(KeptNsec::of(alloc, &nsec)?))
 }
 
 fn nsec3(
@@ -68,7 +71,7 @@ fn nsec3(
     iterations: u16,
     opt_out: bool,
 ) -> Result<Record, Fail> {
-    Ok(Record::Nsec3(Nsec3Rec {
+    let nsec3 = Nsec3Rec {
         zone: name(ZONE)?,
         hash: from_base32hex(hash).unwrap_or([0; 20]),
         next: from_base32hex(next).unwrap_or([0; 20]),
@@ -80,7 +83,8 @@ fn nsec3(
         expiry: u64::from(THEN) + 3600,
         image: Octets::of(alloc, b"")?,
         signatures: list_of(alloc, b"")?,
-    }))
+    };
+    Ok(Record::Nsec3(KeptNsec3::of(alloc, &nsec3)?))
 }
 
 fn with(store: &PlainStore, alloc: Global, now: u32, item: Record) -> Result<PlainStore, Fail> {
@@ -462,8 +466,8 @@ fn what_a_zone_lends(rt: HostRuntime) -> Result<(), Fail> {
             panic!(rt; "no record");
         };
         assert_eq!(rt;
-            (&found.owner, at),
-            (&name(b"\x01b\x07example\x00")?, place)
+            (found.owner().name(), at),
+            (name(b"\x01b\x07example\x00")?, place)
         );
     }
     assert!(rt; store.zone_for(&name(ZONE)?, 43).is_none());

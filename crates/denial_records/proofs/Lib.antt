@@ -1,3 +1,4 @@
+pub mod KeptLemmas
 pub mod PartsLemmas
 pub mod RisingLemmas
 pub mod TypeSetLemmas

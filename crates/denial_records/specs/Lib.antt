@@ -1,4 +1,5 @@
 pub mod TypeSet
+pub mod Kept
 pub mod NsecParts
 pub mod Proof
 pub mod Nsec3Parts

@@ -1,15 +1,15 @@
 ghost use Rattle.std.specs.Prelude.{◌≡◌, IfOk};
 
-use crate::{Nsec3Rec, NsecRec, SetRec};
+use crate::{KeptNsec, KeptNsec3, KeptSet};
 use dname::OutOfMemory;
 use std::alloc::Global;
 
 /// What a cache keeps of a validated answer: an RRset, or a record that denies names or types.
 #[derive(Debug, Drop)]
 pub enum Record {
-    Set(SetRec),
-    Nsec(NsecRec),
-    Nsec3(Nsec3Rec),
+    Set(KeptSet),
+    Nsec(KeptNsec),
+    Nsec3(KeptNsec3),
 }
 
 impl Record {

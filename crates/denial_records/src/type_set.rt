@@ -1,5 +1,5 @@
 ghost use Rattle.std.specs.Prelude.{◌≡◌, ◌↔◌, ◌⊎◌, ℕ, ◌+◌, ◌<◌, ◌≤◌, List, length, IsTrue, IfOk, IsErrOf, MatchOption, Ok, Err, Contains};
-ghost use Rattle.denial_records.specs.TypeSet.{IsTypeMap, IsNoTypeMap, IsTypeSet, BeginsWith, IsBitmap, has_bit};
+ghost use Rattle.denial_records.specs.TypeSet.{IsTypeMap, IsNoTypeMap, IsTypeSet, BeginsWith, IsBitmap, has_bit, types_in, IsKept};
 
 use dname::{Octets, OutOfMemory};
 use std::alloc::Global;
@@ -56,20 +56,27 @@ impl TypeSet {
         }
     }
 
+    /// The set, lent.
+    pub fn lent(&self) -> LentTypes<'_>
+        ensures { result ≡ self.now }
+    {
+        LentTypes::of(self.octets.as_slice())
+    }
+
+    /// The octets of its type bit maps.
+    pub fn octets(&self) -> &[u8]
+        ensures types { types_in result.now ≡ self.now }
+        ensures kept { IsKept result.now }
+    {
+        self.octets.as_slice()
+    }
+
     /// Whether the type is in the set. It looks at each block once at most.
     pub fn has(&self, rtype: u16) -> bool
         ensures answer { IsTrue result ↔ Contains self.now rtype }
         ensures set { IsTypeSet self.now }
     {
-        let (window, bit) = ((rtype / 256) as u8, usize::from(rtype % 256));
-        let mut rest = self.octets.as_slice();
-        while let Some((block, after)) = first_block(rest, 0) {
-            if block.window == window {
-                return has_bit(block.bitmap, bit);
-            }
-            rest = after;
-        }
-        false
+        self.lent().has(rtype)
     }
 
     /// An equal set.
@@ -79,6 +86,49 @@ impl TypeSet {
         Ok(TypeSet {
             octets: Octets::of(alloc, self.octets.as_slice())?,
         })
+    }
+}
+
+/// A set of record types whose octets are lent, seen as a `TypeSet` is.
+#[derive(Debug, Drop)]
+pub struct LentTypes<'a> {
+    octets: &'a [u8],
+}
+
+impl<'a> Model for LentTypes<'a> {
+    ghost use Rattle.std.specs.Prelude.{List, ℕ};
+    ghost use Rattle.denial_records.specs.TypeSet.{types_in, IsKept};
+
+    ghost Value = { List ℕ };
+
+    ghost view = { λ s. types_in s.octets.now };
+
+    ghost invariant = { λ s. IsKept s.octets.now };
+}
+
+impl<'a> LentTypes<'a> {
+    /// The set of type bit maps as a `TypeSet` keeps them.
+    pub fn of(octets: &'a [u8]) -> LentTypes<'a>
+        requires { IsKept octets.now }
+        ensures { result ≡ types_in octets.now }
+    {
+        LentTypes { octets }
+    }
+
+    /// Whether the type is in the set. It looks at each block once at most.
+    pub fn has(&self, rtype: u16) -> bool
+        ensures answer { IsTrue result ↔ Contains self.now rtype }
+        ensures set { IsTypeSet self.now }
+    {
+        let (window, bit) = ((rtype / 256) as u8, usize::from(rtype % 256));
+        let mut rest = self.octets;
+        while let Some((block, after)) = first_block(rest, 0) {
+            if block.window == window {
+                return has_bit(block.bitmap, bit);
+            }
+            rest = after;
+        }
+        false
     }
 }
 

@@ -1,4 +1,4 @@
-use crate::{Nsec3Rec, NsecRec, SetRec};
+use crate::{KeptNsec, KeptNsec3, KeptSet};
 
 /// What an answer from the cache says.
 #[derive(Clone, Copy, Debug, PartialEq, Eq)]
@@ -14,8 +14,8 @@ pub enum Kind {
 /// A kept record that denies a name or a type.
 #[derive(Debug, Drop)]
 pub enum Denial<'a> {
-    Nsec(&'a NsecRec),
-    Nsec3(&'a Nsec3Rec),
+    Nsec(&'a KeptNsec),
+    Nsec3(&'a KeptNsec3),
 }
 
 /// An answer from the cache, and the kept records that prove it.
@@ -23,9 +23,9 @@ pub enum Denial<'a> {
 pub struct Verdict<'a> {
     pub kind: Kind,
     /// The RRset that answers.
-    pub answer_set: Option<&'a SetRec>,
+    pub answer_set: Option<&'a KeptSet>,
     /// The SOA RRset of the zone.
-    pub soa: Option<&'a SetRec>,
+    pub soa: Option<&'a KeptSet>,
     /// The records of a proof of denial.
     pub first: Option<Denial<'a>>,
     pub second: Option<Denial<'a>>,

@@ -4,6 +4,7 @@ pub mod CommonLemmas
 pub mod DigestLemmas
 mod MeetLemmas
 pub mod OrderLemmas
+pub mod PackLemmas
 mod PieceLemmas
 pub mod ReadLemmas
 pub mod TogetherLemmas

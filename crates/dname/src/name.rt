@@ -5,11 +5,11 @@ ghost use Rattle.dname.specs.declared.name_fault.NameFault.{NameFault};
 ghost use Rattle.dname.specs.Digest.{digest_below};
 ghost use Rattle.dname.specs.Name.{wire_of, IsName, IsUnder, IsCommon, HasLabelLength, lowered, asterisk, without_asterisk, canonical_cmp};
 
-use crate::NameFault;
 use crate::labels::{Labels, ends_in, label_below, meet};
 use crate::pieces::{first_word, octets_cmp, octets_eq};
 use crate::reader::wire_size;
 use crate::wire::{MAX_WIRE, Wire};
+use crate::{LentName, NameFault};
 use std::cmp::Ordering;
 use std::marker::Model;
 
@@ -83,6 +83,13 @@ impl Name {
         ensures name { IsName self.now }
     {
         self.wire.as_slice()
+    }
+
+    /// The name, lent.
+    pub fn lent(&self) -> LentName<'_>
+        ensures { result ≡ self.now }
+    {
+        LentName::of(self.wire.as_slice())
     }
 
     /// A number that is less than that of another name under the apex only where the name goes before it: the first 8
@@ -200,7 +207,7 @@ impl Name {
         }
     }
 
-    fn of_labels(labels: &Labels<'_>) -> Name
+    pub(crate) fn of_labels(labels: &Labels<'_>) -> Name
         ensures { result ≡ labels.now }
     {
         Name {

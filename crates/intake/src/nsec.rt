@@ -1,11 +1,12 @@
-ghost use Rattle.std.specs.Prelude.{◌≡◌, [], ◌∷◌, IfOk, MatchOption};
+ghost use Rattle.std.specs.Prelude.{◌≡◌, [], ◌∷◌, Some, IfOk, MatchOption};
+ghost use Rattle.dname.specs.Name.{IsUnder};
 ghost use Rattle.dname.specs.declared.types.TheConstants.{NSEC_TYPE};
 ghost use Rattle.denial_records.specs.NsecParts.{IsNsec};
 ghost use Rattle.denial_records.specs.declared.nsec_parts.NsecParts.{NsecParts};
 ghost use Rattle.intake.specs.SignedGroup.{Passes, IsTakenOf};
 
 use crate::signed_group::SignedGroup;
-use denial_records::{NsecFault, NsecParts, NsecRec, Record};
+use denial_records::{KeptNsec, NsecFault, NsecParts, NsecRec, Record};
 use dname::{Octets, OctetsList, OutOfMemory};
 use std::alloc::{AllocError, Global};
 
@@ -27,8 +28,26 @@ pub(crate) fn nsec_record(
     if !parts.next.is_under(&group.agreed.signer) {
         return Ok(None);
     }
+    let nsec = nsec_of(group, parts, image, signatures, now);
+    let kept = KeptNsec::of(alloc, &nsec)?;
+    Ok(Some(Record::Nsec(kept)))
+}
+
+fn nsec_of(
+    group: SignedGroup,
+    parts: NsecParts,
+    image: Octets,
+    signatures: OctetsList,
+    now: u32,
+) -> NsecRec
+    requires passes { Passes group }
+    requires rtype { group.rtype ≡ NSEC_TYPE }
+    requires reads { IsNsec image parts }
+    requires inside { IsUnder parts.next group.agreed.signer }
+    ensures { IsTakenOf now group (image ∷ []) signatures (Some (Record.Nsec result)) }
+{
     let life = group.life();
-    Ok(Some(Record::Nsec(NsecRec {
+    NsecRec {
         zone: group.agreed.signer,
         owner: group.owner,
         next: parts.next,
@@ -37,7 +56,7 @@ pub(crate) fn nsec_record(
         expiry: u64::from(now) + u64::from(life),
         image,
         signatures,
-    })))
+    }
 }
 
 fn read_parts(alloc: Global, octets: &[u8]) -> Result<Option<NsecParts>, OutOfMemory>

@@ -1,4 +1,4 @@
-ghost use Rattle.std.specs.Prelude.{◌≡◌, [], ◌∷◌, ℕ, List, length, IfOk, MatchOption};
+ghost use Rattle.std.specs.Prelude.{◌≡◌, ◌≤◌, [], ◌∷◌, ℕ, List, length, Some, IfOk, MatchOption};
 ghost use Rattle.dname.specs.declared.types.TheConstants.{NSEC3_TYPE};
 ghost use Rattle.nsec3_hash.specs.Base32Hex.{IsHash};
 ghost use Rattle.denial_records.specs.Nsec3Parts.{IsNsec3};
@@ -7,7 +7,7 @@ ghost use Rattle.intake.specs.Stored.{IsHashedOwner};
 ghost use Rattle.intake.specs.SignedGroup.{Passes, IsTakenOf};
 
 use crate::signed_group::SignedGroup;
-use denial_records::{Nsec3Fault, Nsec3Parts, Nsec3Rec, Record};
+use denial_records::{KeptNsec3, Nsec3Fault, Nsec3Parts, Nsec3Rec, Record};
 use dname::{Name, Octets, OctetsList, OutOfMemory, octets_between};
 use nsec3_hash::from_base32hex;
 use std::alloc::{AllocError, Global};
@@ -45,9 +45,31 @@ pub(crate) fn nsec3_record(
     if parts.algorithm != SHA_1 || parts.flags > OPT_OUT || parts.iterations > MAX_ITERATIONS {
         return Ok(None);
     }
+    let nsec3 = nsec3_of(group, hash, parts, image, signatures, now);
+    let kept = KeptNsec3::of(alloc, &nsec3)?;
+    Ok(Some(Record::Nsec3(kept)))
+}
+
+fn nsec3_of(
+    group: SignedGroup,
+    hash: [u8; 20],
+    parts: Nsec3Parts,
+    image: Octets,
+    signatures: OctetsList,
+    now: u32,
+) -> Nsec3Rec
+    requires passes { Passes group }
+    requires rtype { group.rtype ≡ NSEC3_TYPE }
+    requires hashed { IsHashedOwner group.owner group.agreed.signer hash }
+    requires reads { IsNsec3 image parts }
+    requires sha1 { parts.algorithm ≡ 1 }
+    requires flags { parts.flags ≤ 1 }
+    requires iterations { parts.iterations ≤ 50 }
+    ensures { IsTakenOf now group (image ∷ []) signatures (Some (Record.Nsec3 result)) }
+{
     let life = group.life();
     let next = parts.next;
-    Ok(Some(Record::Nsec3(Nsec3Rec {
+    Nsec3Rec {
         zone: group.agreed.signer,
         hash,
         next,
@@ -59,7 +81,7 @@ pub(crate) fn nsec3_record(
         expiry: u64::from(now) + u64::from(life),
         image,
         signatures,
-    })))
+    }
 }
 
 // The hash whose text is the owner's first label, where the owner's parent is the zone.

@@ -12,7 +12,7 @@ use crate::nsec::nsec_record;
 use crate::nsec3::nsec3_record;
 use crate::pile::Pile;
 use crate::signed_group::SignedGroup;
-use denial_records::{Record, SetRec};
+use denial_records::{KeptSet, Record, SetRec};
 use dname::types::{NSEC_TYPE, NSEC3_TYPE};
 use dname::{Octets, OctetsList, OutOfMemory};
 use std::alloc::Global;
@@ -57,7 +57,10 @@ fn record_of(
     match group.rtype {
         NSEC_TYPE => nsec_record(alloc, group, only(items), signatures, now),
         NSEC3_TYPE => nsec3_record(alloc, group, only(items), signatures, now),
-        _ => Ok(Some(Record::Set(set_of(group, items, signatures, now)))),
+        _ => {
+            let set = set_of(group, items, signatures, now);
+            Ok(Some(Record::Set(KeptSet::of(alloc, &set)?)))
+        }
     }
 }
 

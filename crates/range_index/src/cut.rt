@@ -24,7 +24,7 @@ pub(crate) fn list_with<T: Drop, R: RingSpan<T>>(
     ensures { IfOk result (λ made.
         made ≡ arcs_with R.Key.Ord.cmp R.start R.end (arc_value span) list.now) }
 {
-    if R::start_key(&span).cmp(R::end_key(&span)).is_lt() {
+    if R::start_key(&span).cmp(&R::end_key(&span)).is_lt() {
         with_plain(alloc, list, span)
     } else {
         with_over(alloc, list, span)
@@ -37,7 +37,7 @@ pub(crate) fn met_in<T: Drop, R: RingSpan<T>>(list: &MarkedList<T, ByStart<R>>, 
     ensures { FailInRuns (is_apart R.Key.Ord.cmp R.start R.end span.now) list.now
         result.from result.to result.last }
 {
-    if R::start_key(&span).cmp(R::end_key(&span)).is_lt() {
+    if R::start_key(&span).cmp(&R::end_key(&span)).is_lt() {
         plain_met(list, span)
     } else {
         over_met(list, span)
@@ -75,9 +75,9 @@ fn plain_met<T: Drop, R: RingSpan<T>>(list: &MarkedList<T, ByStart<R>>, span: &T
         (arcs_with R.Key.Ord.cmp R.start R.end span.now list.now) result.from result.to result.last }
 {
     let (frame, start) = (R::frame(span), R::start_key(span));
-    let from = trimmed(list, 0, starts_before(list, frame, start), start);
-    let to = starts_before(list, frame, R::end_key(span));
-    let last = trimmed(list, to, list.len(), start);
+    let from = trimmed(list, 0, starts_before(list, &frame, &start), &start);
+    let to = starts_before(list, &frame, &R::end_key(span));
+    let last = trimmed(list, to, list.len(), &start);
     Met { from, to, last }
 }
 
@@ -113,8 +113,8 @@ fn over_met<T: Drop, R: RingSpan<T>>(list: &MarkedList<T, ByStart<R>>, span: &T)
         (arcs_with R.Key.Ord.cmp R.start R.end span.now list.now) result.to result.last }
 {
     let (frame, start) = (R::frame(span), R::start_key(span));
-    let last = trimmed(list, 0, starts_before(list, frame, start), start);
-    let to = starts_before(list, frame, R::end_key(span)).min(last);
+    let last = trimmed(list, 0, starts_before(list, &frame, &start), &start);
+    let to = starts_before(list, &frame, &R::end_key(span)).min(last);
     Met { from: 0, to, last }
 }
 
@@ -141,7 +141,7 @@ fn trimmed<T: Drop, R: RingSpan<T>>(
         return high;
     }
     let last: &T = list.get(high - 1);
-    if arc_has(R::start_key(last), R::end_key(last), key) {
+    if arc_has(&R::start_key(last), &R::end_key(last), key) {
         high - 1
     } else {
         high

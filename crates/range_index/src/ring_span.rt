@@ -12,7 +12,7 @@ use std::marker::PhantomData;
 /// A key has a mark of eight octets, by which it is sought first. It is reckoned from a frame, as a name's from a zone's apex,
 /// and the spans of a list have one frame.
 pub trait RingSpan<T> {
-    type Key: Ord;
+    type Key: Ord + Drop;
 
     ghost start: { T → Self.Key };
 
@@ -22,14 +22,14 @@ pub trait RingSpan<T> {
 
     ghost mark: { Self.Key → Self.Key → ℕ };
 
-    fn start_key(span: &T) -> &Self::Key
-        ensures { result.now ≡ start span.now };
+    fn start_key(span: &T) -> Self::Key
+        ensures { result ≡ start span.now };
 
-    fn end_key(span: &T) -> &Self::Key
-        ensures { result.now ≡ end span.now };
+    fn end_key(span: &T) -> Self::Key
+        ensures { result ≡ end span.now };
 
-    fn frame(span: &T) -> &Self::Key
-        ensures { result.now ≡ frame span.now };
+    fn frame(span: &T) -> Self::Key
+        ensures { result ≡ frame span.now };
 
     fn mark(within: &Self::Key, key: &Self::Key) -> u64
         ensures { result ≡ mark within.now key.now };
@@ -48,6 +48,6 @@ impl<T, R: RingSpan<T>> Marking<T> for ByStart<R> {
     ghost mark = { λ span. R.mark (R.frame span) (R.start span) };
 
     fn mark(span: &T) -> u64 {
-        R::mark(R::frame(span), R::start_key(span))
+        R::mark(&R::frame(span), &R::start_key(span))
     }
 }

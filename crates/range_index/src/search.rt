@@ -92,12 +92,12 @@ pub(crate) fn span_has<T: Drop, R: RingSpan<T>>(span: &T, key: &R::Key, started:
     requires { started ≡ is_le (R.Key.Ord.cmp (R.start span.now) key.now) }
     ensures { result ≡ span_has R.Key.Ord.cmp R.start R.end key.now span.now }
 {
-    let before_end = key.cmp(R::end_key(span)).is_lt();
+    let before_end = key.cmp(&R::end_key(span)).is_lt();
     if started == before_end {
         return started;
     }
     // only over the end of the order is one of the two enough
-    !R::start_key(span).cmp(R::end_key(span)).is_lt()
+    !R::start_key(span).cmp(&R::end_key(span)).is_lt()
 }
 
 pub(crate) fn place_in<T: Drop, R: RingSpan<T>>(span: &T, key: &R::Key, started: bool) -> Place

@@ -73,7 +73,7 @@ impl Holding {
         ensures same { IfOk result (λ zones.
             IsReordered (held_rest goings.now self.now) (held_in goings.now (arc_value zones))) }
     {
-        let Some(zone) = zone_at(&self.zones, zone_of(gone)) else {
+        let Some(zone) = zone_at(&self.zones, &zone_of(gone)) else {
             return Arc::try_clone(&self.zones);
         };
         zones_left(alloc, &self.zones, sets, zone_without(alloc, zone, gone)?)

@@ -10,7 +10,7 @@ use crate::set_search::set_in;
 use crate::zone_ref::zone_in;
 use crate::zone_search::zone_for;
 use crate::{Store, ZoneRef};
-use denial_records::SetRec;
+use denial_records::KeptSet;
 use dname::Name;
 use zone_chains::ZoneRecords;
 
@@ -37,7 +37,7 @@ impl Holding {
     }
 
     /// The set of the zone at the owner name and type.
-    pub(crate) fn set_at(&self, zone: &Name, owner: &Name, rtype: u16) -> Option<&SetRec>
+    pub(crate) fn set_at(&self, zone: &Name, owner: &Name, rtype: u16) -> Option<&KeptSet>
         ensures { option_copied result ≡ set_at (in_key_order self.now) zone.now owner.now rtype }
     {
         let sets: &Sets = &self.sets;

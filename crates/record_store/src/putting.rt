@@ -36,7 +36,7 @@ impl Holding {
         ensures { IfOk result (λ made. IsReordered (held_with self.now (arc_value new)) made) }
     {
         let goings = self.without_set(alloc, &new)?;
-        let zones = with_apex(alloc, &self.zones, zone_of(&new))?;
+        let zones = with_apex(alloc, &self.zones, &zone_of(&new))?;
         let sets = Arc::new(alloc, self.sets.with(alloc, Arc::try_clone(&new)?)?)?;
         let goings = with(alloc, &goings, new)?;
         Ok(Holding {
@@ -86,9 +86,9 @@ impl Holding {
     ) -> Result<Arc<ZoneRecords, Global>, OutOfMemory>
         ensures { IfOk result (λ zone. IsZoneFor self.now item.now (arc_value zone)) }
     {
-        match zone_at(&self.zones, zone_of(item)) {
+        match zone_at(&self.zones, &zone_of(item)) {
             Some(zone) => Arc::try_clone(zone),
-            None => Ok(Arc::new(alloc, ZoneRecords::of(zone_of(item).copy()))?),
+            None => Ok(Arc::new(alloc, ZoneRecords::of(zone_of(item)))?),
         }
     }
 }

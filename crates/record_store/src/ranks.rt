@@ -4,7 +4,7 @@ ghost use Rattle.cache_meaning.specs.Held.{zone_of, expiry_of, key_cmp, set_key_
 ghost use Rattle.record_store.specs.Ranks.{going_cmp, set_cmp, apex_cmp};
 
 use crate::marks::set_number;
-use denial_records::{Nsec3Rec, NsecRec, Record, SetRec};
+use denial_records::{KeptNsec, KeptNsec3, KeptSet, Record};
 use dname::Name;
 use ordered_list::{Marking, Ranking};
 use std::cmp::Ordering;
@@ -47,7 +47,7 @@ impl Marking<Record> for BySet {
 
     fn mark(item: &Record) -> u64 {
         match item {
-            Record::Set(set) => set_number(&set.zone, &set.owner, set.rtype),
+            Record::Set(set) => set_number(&set.zone().name(), &set.owner().name(), set.rtype()),
             _ => 0,
         }
     }
@@ -109,9 +109,9 @@ pub(crate) fn expiry_of(item: &Record) -> u64
     ensures { result ≡ expiry_of item.now }
 {
     match item {
-        Record::Set(set) => set.expiry,
-        Record::Nsec(nsec) => nsec.expiry,
-        Record::Nsec3(nsec3) => nsec3.expiry,
+        Record::Set(set) => set.expiry(),
+        Record::Nsec(nsec) => nsec.expiry(),
+        Record::Nsec3(nsec3) => nsec3.expiry(),
     }
 }
 
@@ -124,53 +124,53 @@ fn key_cmp(item: &Record, other: &Record) -> Ordering
         (_, Record::Set(_)) => Ordering::Greater,
         (Record::Nsec(nsec), Record::Nsec(other)) => nsec_key_cmp(nsec, other),
         (Record::Nsec(nsec), Record::Nsec3(other)) => nsec
-            .zone
-            .cmp(&other.zone)
+            .zone()
+            .cmp(&other.zone())
             .then(Ordering::Less),
         (Record::Nsec3(nsec3), Record::Nsec(other)) => nsec3
-            .zone
-            .cmp(&other.zone)
+            .zone()
+            .cmp(&other.zone())
             .then(Ordering::Greater),
         (Record::Nsec3(nsec3), Record::Nsec3(other)) => nsec3_key_cmp(nsec3, other),
     }
 }
 
-fn set_key_cmp(set: &SetRec, other: &SetRec) -> Ordering
+fn set_key_cmp(set: &KeptSet, other: &KeptSet) -> Ordering
     ensures { result ≡ set_key_cmp set.now other.now }
 {
-    set.zone.cmp(&other.zone).then_with(|| set
-        .owner
-        .cmp(&other.owner)
-        .then(set.rtype.cmp(&other.rtype)))
+    set.zone().cmp(&other.zone()).then_with(|| set
+        .owner()
+        .cmp(&other.owner())
+        .then(set.rtype().cmp(&other.rtype())))
 }
 
-fn nsec_key_cmp(nsec: &NsecRec, other: &NsecRec) -> Ordering
+fn nsec_key_cmp(nsec: &KeptNsec, other: &KeptNsec) -> Ordering
     ensures { result ≡ nsec_key_cmp nsec.now other.now }
 {
-    nsec.zone
-        .cmp(&other.zone)
-        .then(nsec.owner.cmp(&other.owner))
+    nsec.zone()
+        .cmp(&other.zone())
+        .then(nsec.owner().cmp(&other.owner()))
 }
 
-fn nsec3_key_cmp(nsec3: &Nsec3Rec, other: &Nsec3Rec) -> Ordering
+fn nsec3_key_cmp(nsec3: &KeptNsec3, other: &KeptNsec3) -> Ordering
     ensures { result ≡ nsec3_key_cmp nsec3.now other.now }
 {
-    let by_salt = nsec3.salt.as_slice().cmp(other.salt.as_slice());
-    nsec3.zone.cmp(&other.zone).then(
+    let by_salt = nsec3.salt().cmp(other.salt());
+    nsec3.zone().cmp(&other.zone()).then(
         nsec3
-            .iterations
-            .cmp(&other.iterations)
-            .then(by_salt.then(nsec3.hash.cmp(&other.hash))),
+            .iterations()
+            .cmp(&other.iterations())
+            .then(by_salt.then(nsec3.hash().cmp(other.hash()))),
     )
 }
 
 /// The apex of the zone that signed the record.
-pub(crate) fn zone_of(item: &Record) -> &Name
-    ensures { result.now ≡ zone_of item.now }
+pub(crate) fn zone_of(item: &Record) -> Name
+    ensures { result ≡ zone_of item.now }
 {
     match item {
-        Record::Set(set) => &set.zone,
-        Record::Nsec(nsec) => &nsec.zone,
-        Record::Nsec3(nsec3) => &nsec3.zone,
+        Record::Set(set) => set.zone().name(),
+        Record::Nsec(nsec) => nsec.zone().name(),
+        Record::Nsec3(nsec3) => nsec3.zone().name(),
     }
 }

@@ -10,7 +10,7 @@ ghost use Rattle.record_store.specs.LookUp.{set_like};
 
 use crate::holding::Sets;
 use crate::marks::set_number;
-use denial_records::{Record, SetRec};
+use denial_records::{KeptSet, Record};
 use dname::Name;
 use std::cmp::Ordering;
 
@@ -20,7 +20,7 @@ pub(crate) fn set_in<'s>(
     zone: &Name,
     owner: &Name,
     rtype: u16,
-) -> Option<&'s SetRec>
+) -> Option<&'s KeptSet>
     ensures { IsChosen (as_set_at zone.now owner.now rtype) sets.now (option_copied result) }
 {
     let number = set_number(zone, owner, rtype);
@@ -46,29 +46,30 @@ fn is_before(item: &Record, zone: &Name, owner: &Name, rtype: u16, number: u64) 
     }
 }
 
-fn set_is_before(set: &SetRec, zone: &Name, owner: &Name, rtype: u16, number: u64) -> bool
+fn set_is_before(set: &KeptSet, zone: &Name, owner: &Name, rtype: u16, number: u64) -> bool
     requires { number ≡ set_number zone.now owner.now rtype }
     ensures { result ≡ is_lt (set_cmp (Record.Set set.now) (set_like zone.now owner.now rtype)) }
 {
-    let by_key = set
-        .zone
-        .cmp(zone)
-        .then_with(|| set.owner.cmp(owner).then(set.rtype.cmp(&rtype)));
+    let by_key = set.zone().cmp(&zone.lent()).then_with(|| set
+        .owner()
+        .cmp(&owner.lent())
+        .then(set.rtype().cmp(&rtype)));
     match by_key {
         // sets of one key have one number
         Ordering::Equal => false,
-        _ => set_number(&set.zone, &set.owner, set.rtype)
+        _ => set_number(&set.zone().name(), &set.owner().name(), set.rtype())
             .cmp(&number)
             .then(by_key)
             .is_lt(),
     }
 }
 
-fn as_set_at<'r>(item: &'r Record, zone: &Name, owner: &Name, rtype: u16) -> Option<&'r SetRec>
+fn as_set_at<'r>(item: &'r Record, zone: &Name, owner: &Name, rtype: u16) -> Option<&'r KeptSet>
     ensures { option_copied result ≡ as_set_at zone.now owner.now rtype item.now }
 {
     match item {
-        Record::Set(set) if set.zone == *zone && set.owner == *owner && set.rtype == rtype => {
+        Record::Set(set)
+            if set.zone() == zone.lent() && set.owner() == owner.lent() && set.rtype() == rtype => {
             Some(set)
         }
         _ => None,

@@ -10,7 +10,7 @@ ghost use Rattle.record_store.specs.LookUp.{IsZoneIn};
 
 use crate::holding::Holding;
 use cache_meaning::{Chain, Place};
-use denial_records::{HASH_OCTETS, Nsec3Rec, NsecRec, SetRec};
+use denial_records::{HASH_OCTETS, KeptNsec, KeptNsec3, KeptSet};
 use dname::Name;
 use std::marker::Model;
 use zone_chains::ZoneRecords;
@@ -53,14 +53,14 @@ impl<'a> ZoneRef<'a> {
     }
 
     /// The set at the owner name and type.
-    pub fn set_at(&self, owner: &Name, rtype: u16) -> Option<&'a SetRec>
+    pub fn set_at(&self, owner: &Name, rtype: u16) -> Option<&'a KeptSet>
         ensures { option_copied result ≡ set_at self.now.held self.now.apex owner.now rtype }
     {
         self.holding.set_at(self.zone.apex(), owner, rtype)
     }
 
     /// The NSEC record whose arc, from its owner name to the next, has the name, and where in it (RFC 4034, section 4.1.1).
-    pub fn nsec_at(&self, name: &Name) -> Option<(&'a NsecRec, Place)>
+    pub fn nsec_at(&self, name: &Name) -> Option<(&'a KeptNsec, Place)>
         ensures record { option_map (λ found. found.0.now) result
             ≡ nsec_at self.now.held self.now.apex name.now }
         ensures place { IfSome result (λ found.
@@ -77,7 +77,7 @@ impl<'a> ZoneRef<'a> {
         salt: &[u8],
         iterations: u16,
         hash: &[u8; HASH_OCTETS],
-    ) -> Option<(&'a Nsec3Rec, Place)>
+    ) -> Option<(&'a KeptNsec3, Place)>
         ensures record { option_map (λ found. found.0.now) result
             ≡ nsec3_at self.now.held self.now.apex (parameters_by salt.now iterations) hash.now }
         ensures place { IfSome result (λ found.

@@ -94,10 +94,10 @@ pub(crate) fn has_set(sets: &Sets, apex: &Name) -> bool
     let from = sets.find_at(first, |item| BySet::mark(item) < first);
     for place in from..sets.len() {
         let zone = zone_of(sets.get(place));
-        if zone == apex {
+        if zone == *apex {
             return true;
         }
-        if first_of_zone(zone) != first {
+        if first_of_zone(&zone) != first {
             return false;
         }
     }

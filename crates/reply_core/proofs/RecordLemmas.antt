@@ -13,35 +13,14 @@ use Rattle.reply_core.proofs.DraftLemmas.{put-put, put-lost}
 pub put-records : (ttl : ℕ) (draft : Contents) (first second : List ReplyRecord) → put (put draft (flat_map (record_octets ttl) first)) (flat_map (record_octets ttl) second) ≡ put draft (flat_map (record_octets ttl) (first ++ second))
 put-records ttl draft first second = put-put draft _ _ ∙ ap (put draft) (sym (flat_map-append (record_octets ttl) first second))
 
-records-more : (owner : List Label) (rtype : ℕ) (items : List (List ℕ)) (i : ℕ) (item : List ℕ) → i < length items → item ≡ get_or items i item
-    → records_of owner rtype (take (i + 1) items) ≡ records_of owner rtype (take i items) ++ record { owner = owner; rtype = rtype; rdata = item } ∷ []
-records-more owner rtype items i item within is =
-    rw (take_more items i item within, ← is, map-append) refl
-
-pub put-one_more : (ttl : ℕ) (owner : List Label) (rtype : ℕ) (items : List (List ℕ)) (i : ℕ) (item : List ℕ) (start before after : Contents)
-    → i < length items → item ≡ get_or items i item
-    → before ≡ put start (flat_map (record_octets ttl) (records_of owner rtype (take i items)))
+-- what a list's records put is what its first puts and then the rest's
+pub put-one_more : (ttl : ℕ) (owner : List Label) (rtype : ℕ) (item : List ℕ) (rest : List (List ℕ)) (before after : Contents)
     → after ≡ put before (record_octets ttl (record { owner = owner; rtype = rtype; rdata = item }))
-    → after ≡ put start (flat_map (record_octets ttl) (records_of owner rtype (take (i + 1) items)))
-put-one_more ttl owner rtype items i item start before after within at was is =
-    is ∙ ap (λ draft. put draft (record_octets ttl (record { owner = owner; rtype = rtype; rdata = item }))) was
-    ∙ ap (put (put start (flat_map (record_octets ttl) (records_of owner rtype (take i items))))) (sym (append-nil (record_octets ttl (record { owner = owner; rtype = rtype; rdata = item }))))
-    ∙ put-records ttl start (records_of owner rtype (take i items)) (record { owner = owner; rtype = rtype; rdata = item } ∷ [])
-    ∙ ap (λ records. put start (flat_map (record_octets ttl) records)) (sym (records-more owner rtype items i item within at))
-
-records-split : (owner : List Label) (rtype : ℕ) (items : List (List ℕ)) (i : ℕ) → records_of owner rtype (take i items) ++ records_of owner rtype (drop i items) ≡ records_of owner rtype items
-records-split owner rtype items i = sym (map-append (λ rdata. record { owner = owner; rtype = rtype; rdata = rdata }) (take i items) (drop i items)) ∙ ap (records_of owner rtype) (take-append-drop i items)
-
--- beyond the limit the other records need not be put
-pub put-stopped : (ttl : ℕ) (owner : List Label) (rtype : ℕ) (items : List (List ℕ)) (i : ℕ) (start now : Contents)
-    → now ≡ put start (flat_map (record_octets ttl) (records_of owner rtype (take i items)))
-    → is_none now.written ≡ true
-    → now ≡ put start (flat_map (record_octets ttl) (records_of owner rtype items))
-put-stopped ttl owner rtype items i start now was lost =
-    sym (put-lost now (flat_map (record_octets ttl) (records_of owner rtype (drop i items))) lost)
-    ∙ ap (λ draft. put draft (flat_map (record_octets ttl) (records_of owner rtype (drop i items)))) was
-    ∙ put-records ttl start (records_of owner rtype (take i items)) (records_of owner rtype (drop i items))
-    ∙ ap (λ records. put start (flat_map (record_octets ttl) records)) (records-split owner rtype items i)
+    → put after (flat_map (record_octets ttl) (records_of owner rtype rest))
+    ≡ put before (flat_map (record_octets ttl) (records_of owner rtype (item ∷ rest)))
+put-one_more ttl owner rtype item rest before after is =
+    ap (λ draft. put draft (flat_map (record_octets ttl) (records_of owner rtype rest))) is
+    ∙ put-put before (record_octets ttl (record { owner = owner; rtype = rtype; rdata = item })) (flat_map (record_octets ttl) (records_of owner rtype rest))
 
 -- the records of the SOA set, and those of three places of a proof
 pub proof-records : (f : Record → List ReplyRecord) (soa : List ReplyRecord) (first second third : List Record) → ((soa ++ flat_map f first) ++ flat_map f second) ++ flat_map f third ≡ soa ++ flat_map f (first ++ second ++ third)

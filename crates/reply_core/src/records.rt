@@ -12,29 +12,29 @@ ghost use Rattle.reply_core.specs.Owner.{labels_of};
 use crate::counts::low16;
 use crate::draft::Draft;
 use crate::owner::Owner;
-use denial_records::{Denial, Nsec3Rec, NsecRec, SetRec};
+use denial_records::{Denial, KeptNsec, KeptNsec3, KeptSet};
 use dname::types::{IN_CLASS, NSEC_TYPE, NSEC3_TYPE, RRSIG_TYPE};
-use dname::{Name, OctetsList};
+use dname::{Name, Packed};
 use nsec3_hash::to_base32hex;
 
 // The records of a set with this owner, and its signatures where the client wants them.
-fn put_set(draft: &mut Draft, ttl: u32, dnssec: bool, owner: &Name, set: &SetRec)
+fn put_set(draft: &mut Draft, ttl: u32, dnssec: bool, owner: &Name, set: &KeptSet)
     ensures { draft.new ≡ put draft.old
         (flat_map (record_octets ttl) (set_records dnssec owner.now (kept.Set set.now))) }
 {
     let owner = Owner::Name(owner);
-    put_list(draft, ttl, &owner, set.rtype, &set.items);
-    put_signatures(draft, ttl, dnssec, &owner, &set.signatures);
+    put_list(draft, ttl, &owner, set.rtype(), &set.items());
+    put_signatures(draft, ttl, dnssec, &owner, &set.signatures());
 }
 
 /// The SOA set, where there is one.
-pub(crate) fn put_soa(draft: &mut Draft, ttl: u32, dnssec: bool, soa: Option<&SetRec>)
+pub(crate) fn put_soa(draft: &mut Draft, ttl: u32, dnssec: bool, soa: Option<&KeptSet>)
     ensures { draft.new ≡ put draft.old (flat_map (record_octets ttl)
         (flat_map (λ set. set_records dnssec (owner_of set) set)
         (listed (option_copied soa.entry)))) }
 {
     if let Some(soa) = soa {
-        put_set(draft, ttl, dnssec, &soa.owner, soa);
+        put_set(draft, ttl, dnssec, &soa.owner().name(), soa);
     }
 }
 
@@ -44,7 +44,7 @@ pub(crate) fn put_answer(
     ttl: u32,
     dnssec: bool,
     owner: &Name,
-    answer: Option<&SetRec>,
+    answer: Option<&KeptSet>,
 )
     ensures { draft.new ≡ put draft.old (flat_map (record_octets ttl)
         (flat_map (set_records dnssec owner.now) (listed (option_copied answer.entry)))) }
@@ -69,22 +69,24 @@ pub(crate) fn put_denial(draft: &mut Draft, ttl: u32, dnssec: bool, denial: &Opt
     }
 }
 
-fn put_nsec(draft: &mut Draft, ttl: u32, nsec: &NsecRec)
+fn put_nsec(draft: &mut Draft, ttl: u32, nsec: &KeptNsec)
     ensures { draft.new ≡ put draft.old
         (flat_map (record_octets ttl) (proof_records true (kept.Nsec nsec.now))) }
 {
-    let owner = Owner::Name(&nsec.owner);
-    put_record(draft, ttl, &owner, NSEC_TYPE, nsec.image.as_slice());
-    put_list(draft, ttl, &owner, RRSIG_TYPE, &nsec.signatures);
+    let name = nsec.owner().name();
+    let owner = Owner::Name(&name);
+    put_record(draft, ttl, &owner, NSEC_TYPE, nsec.image());
+    put_list(draft, ttl, &owner, RRSIG_TYPE, &nsec.signatures());
 }
 
-fn put_nsec3(draft: &mut Draft, ttl: u32, nsec3: &Nsec3Rec)
+fn put_nsec3(draft: &mut Draft, ttl: u32, nsec3: &KeptNsec3)
     ensures { draft.new ≡ put draft.old
         (flat_map (record_octets ttl) (proof_records true (kept.Nsec3 nsec3.now))) }
 {
-    let owner = Owner::Hashed(to_base32hex(&nsec3.hash), &nsec3.zone);
-    put_record(draft, ttl, &owner, NSEC3_TYPE, nsec3.image.as_slice());
-    put_list(draft, ttl, &owner, RRSIG_TYPE, &nsec3.signatures);
+    let zone = nsec3.zone().name();
+    let owner = Owner::Hashed(to_base32hex(nsec3.hash()), &zone);
+    put_record(draft, ttl, &owner, NSEC3_TYPE, nsec3.image());
+    put_list(draft, ttl, &owner, RRSIG_TYPE, &nsec3.signatures());
 }
 
 fn put_signatures(
@@ -92,7 +94,7 @@ fn put_signatures(
     ttl: u32,
     dnssec: bool,
     owner: &Owner<'_>,
-    signatures: &OctetsList,
+    signatures: &Packed<'_>,
 )
     ensures { draft.new ≡ put draft.old (flat_map (record_octets ttl)
         (signature_records dnssec (labels_of owner.now) signatures.now)) }
@@ -102,15 +104,16 @@ fn put_signatures(
     }
 }
 
-fn put_list(draft: &mut Draft, ttl: u32, owner: &Owner<'_>, rtype: u16, items: &OctetsList)
+fn put_list(draft: &mut Draft, ttl: u32, owner: &Owner<'_>, rtype: u16, items: &Packed<'_>)
     ensures { draft.new ≡ put draft.old
         (flat_map (record_octets ttl) (records_of (labels_of owner.now) rtype items.now)) }
 {
-    for item in items.as_slice() {
+    let mut rest = items.again();
+    while let Some(item) = rest.next() {
         if draft.is_over() {
             return;
         }
-        put_record(draft, ttl, owner, rtype, item.as_slice());
+        put_record(draft, ttl, owner, rtype, item);
     }
 }
 

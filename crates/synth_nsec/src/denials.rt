@@ -5,7 +5,7 @@ ghost use Rattle.denial_records.specs.declared.record.Record.TheVariants.{Nsec, 
 ghost use Rattle.cache_meaning.specs.NsecSteps.{nsecs_once, same_nsec_arc};
 ghost use Rattle.cache_meaning.specs.Ttl.{left_of};
 
-use denial_records::{Denial, Nsec3Rec, NsecRec, remaining};
+use denial_records::{Denial, KeptNsec, KeptNsec3, remaining};
 use std::marker::Model;
 
 /// The denial records of a proof, in order, seen as their list. It lends them.
@@ -39,7 +39,7 @@ impl<'a> Denials<'a> {
         Denials { lent: Lent::Zero }
     }
 
-    pub fn nsec(nsec: &'a NsecRec) -> Denials<'a>
+    pub fn nsec(nsec: &'a KeptNsec) -> Denials<'a>
         ensures { result ≡ Nsec nsec.now ∷ [] }
     {
         Denials {
@@ -48,7 +48,7 @@ impl<'a> Denials<'a> {
     }
 
     /// Two NSEC records of one chain, each once.
-    pub fn nsecs_once(first: &'a NsecRec, second: &'a NsecRec) -> Denials<'a>
+    pub fn nsecs_once(first: &'a KeptNsec, second: &'a KeptNsec) -> Denials<'a>
         ensures { result ≡ nsecs_once (first.now ∷ second.now ∷ []) }
     {
         if same_nsec_arc(first, second) {
@@ -59,7 +59,7 @@ impl<'a> Denials<'a> {
         }
     }
 
-    pub fn nsec3(nsec3: &'a Nsec3Rec) -> Denials<'a>
+    pub fn nsec3(nsec3: &'a KeptNsec3) -> Denials<'a>
         ensures { result ≡ Nsec3 nsec3.now ∷ [] }
     {
         Denials {
@@ -67,7 +67,7 @@ impl<'a> Denials<'a> {
         }
     }
 
-    pub fn two_nsec3s(first: &'a Nsec3Rec, second: &'a Nsec3Rec) -> Denials<'a>
+    pub fn two_nsec3s(first: &'a KeptNsec3, second: &'a KeptNsec3) -> Denials<'a>
         ensures { result ≡ Nsec3 first.now ∷ Nsec3 second.now ∷ [] }
     {
         Denials {
@@ -76,9 +76,9 @@ impl<'a> Denials<'a> {
     }
 
     pub fn three_nsec3s(
-        first: &'a Nsec3Rec,
-        second: &'a Nsec3Rec,
-        third: &'a Nsec3Rec,
+        first: &'a KeptNsec3,
+        second: &'a KeptNsec3,
+        third: &'a KeptNsec3,
     ) -> Denials<'a>
         ensures { result ≡ Nsec3 first.now ∷ Nsec3 second.now ∷ Nsec3 third.now ∷ [] }
     {
@@ -123,17 +123,17 @@ impl<'a> Denials<'a> {
     }
 }
 
-fn same_nsec_arc(nsec: &NsecRec, other: &NsecRec) -> bool
+fn same_nsec_arc(nsec: &KeptNsec, other: &KeptNsec) -> bool
     ensures { result ≡ same_nsec_arc nsec.now other.now }
 {
-    nsec.owner == other.owner && nsec.next == other.next
+    nsec.owner() == other.owner() && nsec.next() == other.next()
 }
 
 fn left_of(denial: &Denial<'_>, now: u32) -> u32
     ensures { result ≡ left_of now (denied_by denial.now) }
 {
     match denial {
-        Denial::Nsec(nsec) => remaining(nsec.life, nsec.expiry, now),
-        Denial::Nsec3(nsec3) => remaining(nsec3.life, nsec3.expiry, now),
+        Denial::Nsec(nsec) => remaining(nsec.life(), nsec.expiry(), now),
+        Denial::Nsec3(nsec3) => remaining(nsec3.life(), nsec3.expiry(), now),
     }
 }

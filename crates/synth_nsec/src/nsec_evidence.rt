@@ -6,19 +6,19 @@ ghost use Rattle.cache_meaning.specs.Evidence.{that, speaks_of, nsec_for, nsec_m
 ghost use Rattle.synth_nsec.specs.NsecEvidence.{record_of, Says};
 
 use crate::types::hand_nothing_on;
-use denial_records::NsecRec;
-use dname::Name;
+use denial_records::KeptNsec;
+use dname::{LentName, Name};
 use record_store::{Place, ZoneRef};
 
 /// What an NSEC record says of a name in its arc (RFC 4035, section 5.4).
 #[derive(Drop)]
 pub(crate) enum NsecEvidence<'a> {
     /// It is the name's own.
-    Matches(&'a NsecRec),
+    Matches(&'a KeptNsec),
     /// The name exists without records: the next name is below it (RFC 4592, section 2.2.2).
-    ShowsEmpty(&'a NsecRec),
+    ShowsEmpty(&'a KeptNsec),
     /// The name doesn't exist.
-    Covers(&'a NsecRec),
+    Covers(&'a KeptNsec),
 }
 
 /// What the record that speaks of the name says, if it may be used now.
@@ -32,7 +32,7 @@ pub(crate) fn nsec_evidence<'a>(
     ensures says { IfSome result (Says name.now) }
 {
     let (nsec, place) = zone.nsec_at(name)?;
-    if u64::from(now) >= nsec.expiry {
+    if u64::from(now) >= nsec.expiry() {
         return None;
     }
     match place {
@@ -42,25 +42,27 @@ pub(crate) fn nsec_evidence<'a>(
 }
 
 // Of a name behind the record's owner. A record says nothing of the names that its owner hands on.
-fn inside<'a>(apex: &Name, name: &Name, nsec: &'a NsecRec) -> Option<NsecEvidence<'a>>
+fn inside<'a>(apex: &Name, name: &Name, nsec: &'a KeptNsec) -> Option<NsecEvidence<'a>>
     requires arc { IsInArc name.now nsec.now }
     requires behind { nsec_matches nsec.now name.now ≡ false }
     ensures record { option_map record_of result
         ≡ that (speaks_of apex.now name.now) (Some nsec.now) }
     ensures says { IfSome result (Says name.now) }
 {
-    if is_under(name, &nsec.owner) && !hand_nothing_on(&nsec.types, apex, &nsec.owner) {
+    if is_under(name.lent(), nsec.owner())
+        && !hand_nothing_on(&nsec.types(), apex.lent(), nsec.owner())
+    {
         return None;
     }
-    if is_under(&nsec.next, name) {
+    if is_under(nsec.next(), name.lent()) {
         Some(NsecEvidence::ShowsEmpty(nsec))
     } else {
         Some(NsecEvidence::Covers(nsec))
     }
 }
 
-fn is_under(name: &Name, other: &Name) -> bool
-    ensures { result ≡ is_under name.now other.now }
+fn is_under(name: LentName<'_>, other: LentName<'_>) -> bool
+    ensures { result ≡ is_under name.entry other.entry }
 {
-    name.is_under(other)
+    name.is_under(&other)
 }

@@ -12,7 +12,7 @@ use crate::nsec_evidence::{NsecEvidence, nsec_evidence};
 use crate::types::{deny_type, deny_type_below};
 use crate::wildcard::source_of;
 use crate::{Denials, Proven};
-use denial_records::NsecRec;
+use denial_records::KeptNsec;
 use dname::Name;
 use record_store::ZoneRef;
 use soundness::each_nsec_proof_is_sound;
@@ -60,13 +60,13 @@ fn no_data_by_match<'a>(
     now: u32,
     name: &Name,
     qtype: u16,
-    matching: &'a NsecRec,
+    matching: &'a KeptNsec,
 ) -> Option<Proven<'a>>
     requires { IsTrue (nsec_matches matching.now name.now) }
     ensures { result
         ≡ no_data_by_match zone.now.held now zone.now.apex name.now qtype matching.now }
 {
-    if deny_type(&matching.types, zone.apex(), name, qtype) {
+    if deny_type(&matching.types(), zone.apex(), name, qtype) {
         no_data(zone, now, Denials::nsec(matching))
     } else {
         None
@@ -79,7 +79,7 @@ fn by_cover<'a>(
     now: u32,
     name: &Name,
     qtype: u16,
-    covering: &'a NsecRec,
+    covering: &'a KeptNsec,
 ) -> Option<Proven<'a>>
     requires inside { IsInArc name.now covering.now }
     requires covered { IsTrue (nsec_covers covering.now name.now) }
@@ -99,7 +99,7 @@ fn denial_at_source<'a>(
     now: u32,
     qtype: u16,
     source: &Name,
-    covering: &'a NsecRec,
+    covering: &'a KeptNsec,
 ) -> Option<Proven<'a>>
     ensures { result
         ≡ denial_at_source zone.now.held now zone.now.apex qtype source.now covering.now }
@@ -113,7 +113,7 @@ fn denial_by<'a>(
     now: u32,
     qtype: u16,
     source: &Name,
-    covering: &'a NsecRec,
+    covering: &'a KeptNsec,
     evidence: NsecEvidence<'a>,
 ) -> Option<Proven<'a>>
     requires { Says source.now evidence }
@@ -142,15 +142,15 @@ fn no_data_by_wildcard<'a>(
     now: u32,
     qtype: u16,
     source: &Name,
-    covering: &'a NsecRec,
-    at_source: &'a NsecRec,
+    covering: &'a KeptNsec,
+    at_source: &'a KeptNsec,
 ) -> Option<Proven<'a>>
     requires { IsTrue (nsec_matches at_source.now source.now) }
     ensures { result
         ≡ no_data_by_wildcard zone.now.held now zone.now.apex qtype source.now covering.now
         at_source.now }
 {
-    if deny_type_below(&at_source.types, qtype) {
+    if deny_type_below(&at_source.types(), qtype) {
         no_data(zone, now, Denials::nsecs_once(covering, at_source))
     } else {
         None

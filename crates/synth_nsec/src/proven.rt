@@ -5,7 +5,7 @@ ghost use Rattle.synth_nsec.specs.Views.{no_data_by, name_error_by};
 
 use crate::Denials;
 use crate::claim::Claim;
-use denial_records::{Kind, SetRec, Verdict};
+use denial_records::{KeptSet, Kind, Verdict};
 use std::marker::Model;
 
 /// What held records prove of a name and a type, seen as the proof. It lends the records that it uses.
@@ -26,7 +26,7 @@ impl<'a> Model for Proven<'a> {
 
 impl<'a> Proven<'a> {
     /// The set answers, since the denial records show that it is the name's.
-    pub fn answer(set: &'a SetRec, denials: Denials<'a>) -> Proven<'a>
+    pub fn answer(set: &'a KeptSet, denials: Denials<'a>) -> Proven<'a>
         ensures { result ≡ answer_by set.now denials.entry }
     {
         Proven {
@@ -35,7 +35,7 @@ impl<'a> Proven<'a> {
         }
     }
 
-    pub fn no_data(soa: &'a SetRec, denials: Denials<'a>) -> Proven<'a>
+    pub fn no_data(soa: &'a KeptSet, denials: Denials<'a>) -> Proven<'a>
         ensures { result ≡ no_data_by soa.now denials.entry }
     {
         Proven {
@@ -44,7 +44,7 @@ impl<'a> Proven<'a> {
         }
     }
 
-    pub fn name_error(soa: &'a SetRec, denials: Denials<'a>) -> Proven<'a>
+    pub fn name_error(soa: &'a KeptSet, denials: Denials<'a>) -> Proven<'a>
         ensures { result ≡ name_error_by soa.now denials.entry }
     {
         Proven {

@@ -4,7 +4,7 @@ ghost use Rattle.cache_meaning.specs.Zones.{IsInArc};
 ghost use Rattle.cache_meaning.specs.Evidence.{nsec_covers};
 ghost use Rattle.cache_meaning.specs.NsecSteps.{source_of};
 
-use denial_records::NsecRec;
+use denial_records::KeptNsec;
 use dname::Name;
 use encloser::{common_encloser, wildcard_of};
 
@@ -19,13 +19,13 @@ pub fn wildcard_below(name: &Name, encloser: &Name) -> Name
 }
 
 /// The source of synthesis of a name that the record covers: the wildcard below the closest encloser (RFC 4592, section 3.3.1).
-pub(crate) fn source_of(covering: &NsecRec, name: &Name) -> Name
+pub(crate) fn source_of(covering: &KeptNsec, name: &Name) -> Name
     requires inside { IsInArc name.now covering.now }
     requires covered { IsTrue (nsec_covers covering.now name.now) }
     ensures { result ≡ source_of covering.now name.now }
 {
     wildcard_below(
         name,
-        &common_encloser(name, &covering.owner, &covering.next),
+        &common_encloser(name, &covering.owner().name(), &covering.next().name()),
     )
 }

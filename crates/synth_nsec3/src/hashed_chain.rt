@@ -78,12 +78,12 @@ impl<'z, 'a> HashedChain<'z, 'a> {
     {
         let hash = hash_name(name, self.salt, self.iterations);
         let (nsec3, place) = self.zone.nsec3_at(self.salt, self.iterations, &hash)?;
-        if u64::from(self.moment) >= nsec3.expiry {
+        if u64::from(self.moment) >= nsec3.expiry() {
             return None;
         }
         match place {
             Place::Start => Some(Nsec3Evidence::Matches(nsec3)),
-            Place::Inside if nsec3.opt_out => Some(Nsec3Evidence::Spans(nsec3)),
+            Place::Inside if nsec3.opt_out() => Some(Nsec3Evidence::Spans(nsec3)),
             Place::Inside => Some(Nsec3Evidence::Covers(nsec3)),
         }
     }

@@ -1,18 +1,18 @@
 ghost use Rattle.synth_nsec3.specs.Nsec3Evidence.{IsFound, IsAskedOf};
 
 use crate::hashed_chain::HashedChain;
-use denial_records::Nsec3Rec;
+use denial_records::KeptNsec3;
 use dname::Name;
 
 /// What an NSEC3 record says of a name whose hash is in its arc (RFC 5155, section 8).
 #[derive(Clone, Copy)]
 pub(crate) enum Nsec3Evidence<'a> {
     /// It is the name's own.
-    Matches(&'a Nsec3Rec),
+    Matches(&'a KeptNsec3),
     /// The name doesn't exist.
-    Covers(&'a Nsec3Rec),
+    Covers(&'a KeptNsec3),
     /// An Opt-Out span, which says nothing of the name (RFC 5155, section 6).
-    Spans(&'a Nsec3Rec),
+    Spans(&'a KeptNsec3),
 }
 
 /// Whether a name was asked of, so that none is hashed twice.

@@ -14,7 +14,7 @@ ghost use Rattle.synth_nsec3.specs.declared.nsec3_evidence.Nsec3Evidence.{Nsec3E
 use crate::hashed_chain::HashedChain;
 use crate::nsec3_evidence::{Asked, Nsec3Evidence};
 use crate::nsec3s_once::nsec3s_once;
-use denial_records::Nsec3Rec;
+use denial_records::KeptNsec3;
 use dname::Name;
 use record_store::ZoneRef;
 use soundness::each_nsec3_proof_is_sound;
@@ -81,14 +81,14 @@ fn no_data_by_match<'a>(
     chain: &HashedChain<'_, 'a>,
     name: &Name,
     qtype: u16,
-    matching: &'a Nsec3Rec,
+    matching: &'a KeptNsec3,
 ) -> Option<Proven<'a>>
     requires { IsTrue (nsec3_matches chain.now.parameters matching.now name.now) }
     ensures { result
         ≡ no_data_by_match chain.now.held chain.now.moment chain.now.apex chain.now.parameters
         name.now qtype matching.now }
 {
-    if deny_type(&matching.types, chain.apex(), name, qtype) {
+    if deny_type(&matching.types(), chain.apex(), name, qtype) {
         no_data(chain.zone(), chain.moment(), Denials::nsec3(matching))
     } else {
         None
@@ -154,7 +154,7 @@ fn by_cover<'a>(
     qtype: u16,
     next_closer: &Name,
     encloser: &Name,
-    covering: &'a Nsec3Rec,
+    covering: &'a KeptNsec3,
 ) -> (Option<Proven<'a>>, Asked<'a>)
     requires covered { IsFound chain.now next_closer.now (Some (Nsec3Evidence.Covers covering)) }
     requires below { (label : Label) × (next_closer.now ≡ label ∷ encloser.now) }
@@ -179,7 +179,7 @@ fn asked_before<'a>(
     chain: &HashedChain<'_, 'a>,
     next_closer: &Name,
     source: &Name,
-    covering: &'a Nsec3Rec,
+    covering: &'a KeptNsec3,
 ) -> Asked<'a>
     requires { IsFound chain.now next_closer.now (Some (Nsec3Evidence.Covers covering)) }
     ensures { IsAskedOf chain.now source.now result }
@@ -197,7 +197,7 @@ fn denial_below<'a>(
     qtype: u16,
     encloser: &Name,
     source: &Name,
-    covering: &'a Nsec3Rec,
+    covering: &'a KeptNsec3,
     evidence: Option<Nsec3Evidence<'a>>,
     of_source: Asked<'a>,
 ) -> Option<Proven<'a>>
@@ -224,8 +224,8 @@ fn below_encloser<'a>(
     qtype: u16,
     encloser: &Name,
     source: &Name,
-    covering: &'a Nsec3Rec,
-    matching: &'a Nsec3Rec,
+    covering: &'a KeptNsec3,
+    matching: &'a KeptNsec3,
     of_source: Asked<'a>,
 ) -> Option<Proven<'a>>
     requires asked { IsAskedOf chain.now source.now of_source }
@@ -237,7 +237,7 @@ fn below_encloser<'a>(
         qtype (asterisk ∷ encloser.now) matching.now covering.now
         else None) }
 {
-    if hand_nothing_on(&matching.types, chain.apex(), encloser) {
+    if hand_nothing_on(&matching.types(), chain.apex().lent(), encloser.lent()) {
         denial_at_source(chain, qtype, source, matching, covering, of_source)
     } else {
         None
@@ -249,8 +249,8 @@ fn denial_at_source<'a>(
     chain: &HashedChain<'_, 'a>,
     qtype: u16,
     source: &Name,
-    matching: &'a Nsec3Rec,
-    covering: &'a Nsec3Rec,
+    matching: &'a KeptNsec3,
+    covering: &'a KeptNsec3,
     of_source: Asked<'a>,
 ) -> Option<Proven<'a>>
     requires { IsAskedOf chain.now source.now of_source }
@@ -266,8 +266,8 @@ fn denial_by<'a>(
     chain: &HashedChain<'_, 'a>,
     qtype: u16,
     source: &Name,
-    matching: &'a Nsec3Rec,
-    covering: &'a Nsec3Rec,
+    matching: &'a KeptNsec3,
+    covering: &'a KeptNsec3,
     evidence: Nsec3Evidence<'a>,
 ) -> Option<Proven<'a>>
     requires { Says chain.now source.now evidence }
@@ -295,16 +295,16 @@ fn no_data_by_wildcard<'a>(
     chain: &HashedChain<'_, 'a>,
     qtype: u16,
     source: &Name,
-    matching: &'a Nsec3Rec,
-    covering: &'a Nsec3Rec,
-    at_source: &'a Nsec3Rec,
+    matching: &'a KeptNsec3,
+    covering: &'a KeptNsec3,
+    at_source: &'a KeptNsec3,
 ) -> Option<Proven<'a>>
     requires { IsTrue (nsec3_matches chain.now.parameters at_source.now source.now) }
     ensures { result
         ≡ no_data_by_wildcard chain.now.held chain.now.moment chain.now.apex chain.now.parameters
         qtype source.now matching.now covering.now at_source.now }
 {
-    if deny_type_below(&at_source.types, qtype) {
+    if deny_type_below(&at_source.types(), qtype) {
         no_data(
             chain.zone(),
             chain.moment(),

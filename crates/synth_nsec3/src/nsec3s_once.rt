@@ -1,14 +1,14 @@
 ghost use Rattle.std.specs.Prelude.{◌≡◌, ◌∷◌, []};
 ghost use Rattle.cache_meaning.specs.Nsec3Steps.{nsec3s_once, same_nsec3_arc};
 
-use denial_records::Nsec3Rec;
+use denial_records::KeptNsec3;
 use synth_nsec::Denials;
 
 /// Three NSEC3 records of one chain, each once.
 pub(crate) fn nsec3s_once<'a>(
-    first: &'a Nsec3Rec,
-    second: &'a Nsec3Rec,
-    third: &'a Nsec3Rec,
+    first: &'a KeptNsec3,
+    second: &'a KeptNsec3,
+    third: &'a KeptNsec3,
 ) -> Denials<'a>
     ensures { result ≡ nsec3s_once (first.now ∷ second.now ∷ third.now ∷ []) }
 {
@@ -21,8 +21,8 @@ pub(crate) fn nsec3s_once<'a>(
     }
 }
 
-fn same_nsec3_arc(nsec3: &Nsec3Rec, other: &Nsec3Rec) -> bool
+fn same_nsec3_arc(nsec3: &KeptNsec3, other: &KeptNsec3) -> bool
     ensures { result ≡ same_nsec3_arc nsec3.now other.now }
 {
-    nsec3.hash == other.hash && nsec3.next == other.next
+    nsec3.hash() == other.hash() && nsec3.next() == other.next()
 }

@@ -19,8 +19,8 @@ use crate::met::one_met;
 use crate::nsec_span::{ByOwner, nsec_in};
 use crate::nsec3_span::{ByHash, NO_HASH, nsec3_in};
 use cache_meaning::{Chain, Place};
-use denial_records::{HASH_OCTETS, Nsec3Rec, NsecRec, Record};
-use dname::{Name, Octets, OutOfMemory};
+use denial_records::{HASH_OCTETS, KeptNsec, KeptNsec3, Record};
+use dname::{LentName, Name, Octets, OutOfMemory};
 use range_index::{Arcs, Met};
 use std::alloc::Global;
 use std::marker::Model;
@@ -99,7 +99,7 @@ impl ChainRecords {
         ensures { result ≡ is_of_chain self.now.chain item.now }
     {
         match (&self.spans, item) {
-            (ChainSpans::Nsec(_), Record::Nsec(nsec)) => self.zone == nsec.zone,
+            (ChainSpans::Nsec(_), Record::Nsec(nsec)) => self.zone.lent() == nsec.zone(),
             (
                 ChainSpans::Nsec3 {
                     salt,
@@ -108,16 +108,16 @@ impl ChainRecords {
                 },
                 Record::Nsec3(nsec3),
             ) => {
-                let its_salt = nsec3.salt.as_slice();
-                self.zone == nsec3.zone
-                    && are_same(salt.as_slice(), *iterations, its_salt, nsec3.iterations)
+                let its_salt = nsec3.salt();
+                self.zone.lent() == nsec3.zone()
+                    && are_same(salt.as_slice(), *iterations, its_salt, nsec3.iterations())
             }
             _ => false,
         }
     }
 
     /// The NSEC record whose arc has the name.
-    pub(crate) fn nsec_at(&self, name: &Name) -> Option<(&NsecRec, Place)>
+    pub(crate) fn nsec_at(&self, name: &Name) -> Option<(&KeptNsec, Place)>
         ensures record { IsChosen (as_nsec_at self.now.chain.zone name.now) self.now.records
             (option_map (λ found. found.0.now) result) }
         ensures place { IfSome result (λ found.
@@ -135,7 +135,7 @@ impl ChainRecords {
         salt: &[u8],
         iterations: u16,
         hash: &[u8; HASH_OCTETS],
-    ) -> Option<(&Nsec3Rec, Place)>
+    ) -> Option<(&KeptNsec3, Place)>
         ensures record { IsChosen
             (as_nsec3_at self.now.chain.zone (parameters_by salt.now iterations) hash.now)
             self.now.records (option_map (λ found. found.0.now) result) }
@@ -160,7 +160,7 @@ impl ChainRecords {
         ensures chain { IfOk result (λ made. chain_of (arc_value item) ≡ Some made.chain) }
         ensures records { IfOk result (λ made. made.records ≡ arc_value item ∷ []) }
     {
-        let zone = zone_of(&item).copy();
+        let zone = zone_of(&item).name();
         let spans = spans_of(alloc, item)?;
         Ok(ChainRecords { zone, spans })
     }
@@ -232,13 +232,13 @@ fn are_same(salt: &[u8], iterations: u16, other_salt: &[u8], other_iterations: u
 }
 
 // The apex of the zone that the record is of.
-fn zone_of(item: &Record) -> &Name
-    ensures { result.now ≡ zone_of item.now }
+fn zone_of(item: &Record) -> LentName<'_>
+    ensures { result ≡ zone_of item.now }
 {
     match item {
-        Record::Set(set) => &set.zone,
-        Record::Nsec(nsec) => &nsec.zone,
-        Record::Nsec3(nsec3) => &nsec3.zone,
+        Record::Set(set) => set.zone(),
+        Record::Nsec(nsec) => nsec.zone(),
+        Record::Nsec3(nsec3) => nsec3.zone(),
     }
 }
 
@@ -252,8 +252,8 @@ fn spans_of(alloc: Global, item: Arc<Record>) -> Result<ChainSpans, OutOfMemory>
     let record: &Record = &item;
     match record {
         Record::Nsec3(nsec3) => {
-            let salt = nsec3.salt.copy(alloc)?;
-            let iterations = nsec3.iterations;
+            let salt = Octets::of(alloc, nsec3.salt())?;
+            let iterations = nsec3.iterations();
             Ok(ChainSpans::Nsec3 {
                 salt,
                 iterations,
@@ -302,7 +302,7 @@ fn spans_without(
 {
     match (spans, item) {
         (ChainSpans::Nsec(arcs), Record::Nsec(nsec)) => {
-            Ok(ChainSpans::Nsec(arcs.without(alloc, &nsec.zone, &nsec.owner)?))
+            Ok(ChainSpans::Nsec(arcs.without(alloc, &nsec.zone().name(), &nsec.owner().name())?))
         }
         (
             ChainSpans::Nsec3 {
@@ -314,7 +314,7 @@ fn spans_without(
         ) => Ok(ChainSpans::Nsec3 {
             salt: salt.copy(alloc)?,
             iterations: *iterations,
-            arcs: arcs.without(alloc, NO_HASH, &nsec3.hash)?,
+            arcs: arcs.without(alloc, NO_HASH, nsec3.hash())?,
         }),
         _ => unreachable!(),
     }

@@ -9,7 +9,7 @@ ghost use Rattle.std.specs.Str.{bytes_eq};
 
 use crate::placed::placed;
 use cache_meaning::Place;
-use denial_records::{HASH_OCTETS, Nsec3Rec, Record};
+use denial_records::{HASH_OCTETS, KeptNsec3, Record};
 use range_index::{Arcs, RingSpan, hash_mark};
 
 /// NSEC3 records as spans from their hashes to the next (RFC 5155, section 3.1.7), sought by the first octets of the hash.
@@ -33,22 +33,22 @@ impl RingSpan<Record> for ByHash {
 
     ghost mark = { λ frame key. hash_mark key };
 
-    fn start_key(item: &Record) -> &[u8; HASH_OCTETS] {
+    fn start_key(item: &Record) -> [u8; HASH_OCTETS] {
         match item {
-            Record::Nsec3(nsec3) => &nsec3.hash,
-            _ => NO_HASH,
+            Record::Nsec3(nsec3) => *nsec3.hash(),
+            _ => *NO_HASH,
         }
     }
 
-    fn end_key(item: &Record) -> &[u8; HASH_OCTETS] {
+    fn end_key(item: &Record) -> [u8; HASH_OCTETS] {
         match item {
-            Record::Nsec3(nsec3) => &nsec3.next,
-            _ => NO_HASH,
+            Record::Nsec3(nsec3) => *nsec3.next(),
+            _ => *NO_HASH,
         }
     }
 
-    fn frame(_item: &Record) -> &[u8; HASH_OCTETS] {
-        NO_HASH
+    fn frame(_item: &Record) -> [u8; HASH_OCTETS] {
+        *NO_HASH
     }
 
     fn mark(_within: &[u8; HASH_OCTETS], key: &[u8; HASH_OCTETS]) -> u64 {
@@ -62,7 +62,7 @@ impl RingSpan<Record> for ByHash {
 pub(crate) fn nsec3_in<'a>(
     arcs: &'a Arcs<Record, ByHash>,
     hash: &[u8; HASH_OCTETS],
-) -> Option<(&'a Nsec3Rec, Place)>
+) -> Option<(&'a KeptNsec3, Place)>
     requires { AreNsec3s arcs.now }
     ensures record { MatchOption result
         (filter (span_has (slice_cmp nat_cmp) nsec3_start nsec3_end hash.now) arcs.now ≡ [])
@@ -77,7 +77,7 @@ pub(crate) fn nsec3_in<'a>(
     }
 }
 
-fn nsec3_of(item: &Record) -> &Nsec3Rec
+fn nsec3_of(item: &Record) -> &KeptNsec3
     requires { IsNsec3 item.now }
     ensures { Record.Nsec3 result.now ≡ item.now }
 {

@@ -9,7 +9,7 @@ ghost use Rattle.cache_meaning.specs.Evidence.{nsec_matches};
 
 use crate::placed::placed;
 use cache_meaning::Place;
-use denial_records::{NsecRec, Record};
+use denial_records::{KeptNsec, Record};
 use dname::Name;
 use range_index::{Arcs, RingSpan, name_mark};
 
@@ -33,27 +33,27 @@ impl RingSpan<Record> for ByOwner {
 
     ghost mark = { name_mark };
 
-    fn start_key(item: &Record) -> &Name {
+    fn start_key(item: &Record) -> Name {
         match item {
-            Record::Set(set) => &set.owner,
-            Record::Nsec(nsec) => &nsec.owner,
-            Record::Nsec3(nsec3) => &nsec3.zone,
+            Record::Set(set) => set.owner().name(),
+            Record::Nsec(nsec) => nsec.owner().name(),
+            Record::Nsec3(nsec3) => nsec3.zone().name(),
         }
     }
 
-    fn end_key(item: &Record) -> &Name {
+    fn end_key(item: &Record) -> Name {
         match item {
-            Record::Set(set) => &set.owner,
-            Record::Nsec(nsec) => &nsec.next,
-            Record::Nsec3(nsec3) => &nsec3.zone,
+            Record::Set(set) => set.owner().name(),
+            Record::Nsec(nsec) => nsec.next().name(),
+            Record::Nsec3(nsec3) => nsec3.zone().name(),
         }
     }
 
-    fn frame(item: &Record) -> &Name {
+    fn frame(item: &Record) -> Name {
         match item {
-            Record::Set(set) => &set.zone,
-            Record::Nsec(nsec) => &nsec.zone,
-            Record::Nsec3(nsec3) => &nsec3.zone,
+            Record::Set(set) => set.zone().name(),
+            Record::Nsec(nsec) => nsec.zone().name(),
+            Record::Nsec3(nsec3) => nsec3.zone().name(),
         }
     }
 
@@ -69,7 +69,7 @@ pub(crate) fn nsec_in<'a>(
     arcs: &'a Arcs<Record, ByOwner>,
     zone: &Name,
     name: &Name,
-) -> Option<(&'a NsecRec, Place)>
+) -> Option<(&'a KeptNsec, Place)>
     requires { AreOf (record { zone = zone.now; chain = NsecChain }) arcs.now }
     ensures record { MatchOption result
         (filter (span_has canonical_cmp nsec_start nsec_end name.now) arcs.now ≡ [])
@@ -84,7 +84,7 @@ pub(crate) fn nsec_in<'a>(
     }
 }
 
-fn nsec_of(item: &Record) -> &NsecRec
+fn nsec_of(item: &Record) -> &KeptNsec
     requires { IsNsec item.now }
     ensures { Record.Nsec result.now ≡ item.now }
 {

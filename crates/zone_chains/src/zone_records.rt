@@ -16,7 +16,7 @@ use crate::chain_records::ChainRecords;
 use crate::changes::{chains_held, chains_with, chains_without};
 use crate::zone_chains::ZoneChains;
 use cache_meaning::{Chain, Place};
-use denial_records::{HASH_OCTETS, Nsec3Rec, NsecRec, Record};
+use denial_records::{HASH_OCTETS, KeptNsec, KeptNsec3, Record};
 use dname::{Name, OutOfMemory};
 use range_index::Met;
 use std::alloc::Global;
@@ -89,7 +89,7 @@ impl ZoneRecords {
     }
 
     /// The NSEC record whose arc, from its owner name to the next, has the name, and where in it (RFC 4034, section 4.1.1).
-    pub fn nsec_at(&self, name: &Name) -> Option<(&NsecRec, Place)>
+    pub fn nsec_at(&self, name: &Name) -> Option<(&KeptNsec, Place)>
         ensures record { IsChosen (as_nsec_at self.now.apex name.now) (records_in self.now)
             (option_map (λ found. found.0.now) result) }
         ensures place { IfSome result (λ found.
@@ -113,7 +113,7 @@ impl ZoneRecords {
         salt: &[u8],
         iterations: u16,
         hash: &[u8; HASH_OCTETS],
-    ) -> Option<(&Nsec3Rec, Place)>
+    ) -> Option<(&KeptNsec3, Place)>
         ensures record { IsChosen
             (as_nsec3_at self.now.apex (parameters_by salt.now iterations) hash.now)
             (records_in self.now) (option_map (λ found. found.0.now) result) }

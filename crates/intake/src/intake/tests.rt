@@ -2,7 +2,7 @@ use super::draft::{EXAMPLE, FLAGS, GOOD, NOW, Row, Section, message};
 use super::*;
 use crate::Taken;
 use denial_records::Record;
-use dname::{Name, OctetsList};
+use dname::Name;
 use std::alloc::AllocError;
 use std::test::Fail;
 
@@ -34,10 +34,9 @@ fn tell(
     rtype: u16,
     life: u32,
     items: usize,
-    signatures: &OctetsList,
+    signatures: usize,
 ) -> Result<(), AllocError> {
     text_of(owner, out)?;
-    let signatures = signatures.len();
     write!(out, " {rtype} {life} {items} {signatures}, ")
 }
 
@@ -45,20 +44,22 @@ fn tell_record(out: &mut String, record: &Record) -> Result<(), AllocError> {
     match record {
         Record::Set(set) => tell(
             out,
-            &set.owner,
-            set.rtype,
-            set.life,
-            set.items.len(),
-            &set.signatures,
+            &set.owner().name(),
+            set.rtype(),
+            set.life(),
+            set.items().count(),
+            set.signatures().count(),
         ),
         Record::Nsec(nsec) => {
-            tell(out, &nsec.owner, 47, nsec.life, 1, &nsec.signatures)?;
-            text_of(&nsec.next, out)?;
+            let signatures = nsec.signatures().count();
+            tell(out, &nsec.owner().name(), 47, nsec.life(), 1, signatures)?;
+            text_of(&nsec.next().name(), out)?;
             out.push_str(" next, ")
         }
         Record::Nsec3(nsec3) => {
-            tell(out, &nsec3.zone, 50, nsec3.life, 1, &nsec3.signatures)?;
-            let (iterations, opt_out) = (nsec3.iterations, nsec3.opt_out);
+            let signatures = nsec3.signatures().count();
+            tell(out, &nsec3.zone().name(), 50, nsec3.life(), 1, signatures)?;
+            let (iterations, opt_out) = (nsec3.iterations(), nsec3.opt_out());
             write!(out, "{iterations} iterations, opt-out {opt_out}, ")
         }
     }

@@ -4,7 +4,7 @@ ghost use Rattle.std.specs.Prelude.{◌≤◌, ◌<◌};
 use super::records::{hash_of, name, nsec, nsec3, set};
 use crate::{Chain, Place, Store, ZoneRef};
 use cache_meaning::{PlainStore, PlainZone};
-use denial_records::{Batch, HASH_OCTETS, Nsec3Rec, NsecRec, Record, RecordList, SetRec};
+use denial_records::{Batch, HASH_OCTETS, KeptNsec, KeptNsec3, KeptSet, Record, RecordList};
 use dname::{Name, OutOfMemory};
 use std::alloc::Global;
 use std::test::Fail;
@@ -109,31 +109,33 @@ fn same_chain(one: Chain<'_>, other: Chain<'_>) -> bool {
     }
 }
 
-fn same_set(one: Option<&SetRec>, other: Option<&SetRec>) -> bool {
+fn same_set(one: Option<&KeptSet>, other: Option<&KeptSet>) -> bool {
     match (one, other) {
         (None, None) => true,
         (Some(one), Some(other)) => {
-            one.owner == other.owner && one.rtype == other.rtype && one.expiry == other.expiry
+            one.owner() == other.owner()
+                && one.rtype() == other.rtype()
+                && one.expiry() == other.expiry()
         }
         _ => false,
     }
 }
 
-fn same_nsec(one: Option<(&NsecRec, Place)>, other: Option<(&NsecRec, Place)>) -> bool {
+fn same_nsec(one: Option<(&KeptNsec, Place)>, other: Option<(&KeptNsec, Place)>) -> bool {
     match (one, other) {
         (None, None) => true,
         (Some((one, place)), Some((other, other_place))) => {
-            one.owner == other.owner && one.expiry == other.expiry && place == other_place
+            one.owner() == other.owner() && one.expiry() == other.expiry() && place == other_place
         }
         _ => false,
     }
 }
 
-fn same_nsec3(one: Option<(&Nsec3Rec, Place)>, other: Option<(&Nsec3Rec, Place)>) -> bool {
+fn same_nsec3(one: Option<(&KeptNsec3, Place)>, other: Option<(&KeptNsec3, Place)>) -> bool {
     match (one, other) {
         (None, None) => true,
         (Some((one, place)), Some((other, other_place))) => {
-            one.hash == other.hash && one.expiry == other.expiry && place == other_place
+            *one.hash() == *other.hash() && one.expiry() == other.expiry() && place == other_place
         }
         _ => false,
     }

@@ -2,7 +2,7 @@
 
 use super::records::name;
 use crate::Store;
-use denial_records::{Batch, Record, RecordList, SetRec};
+use denial_records::{Batch, KeptSet, Record, RecordList, SetRec};
 use dname::{Name, OctetsList};
 use std::alloc::Global;
 use std::test::Fail;
@@ -23,7 +23,7 @@ fn numbered(number: u32) -> Result<Name, Fail> {
 
 // A set of the root zone at the numbered name, of the type.
 fn numbered_set(alloc: Global, number: u32, rtype: u16, expiry: u64) -> Result<Record, Fail> {
-    Ok(Record::Set(SetRec {
+    let set = SetRec {
         zone: Name::root(),
         owner: numbered(number)?,
         rtype,
@@ -31,7 +31,8 @@ fn numbered_set(alloc: Global, number: u32, rtype: u16, expiry: u64) -> Result<R
         expiry,
         items: OctetsList::empty(alloc),
         signatures: OctetsList::empty(alloc),
-    }))
+    };
+    Ok(Record::Set(KeptSet::of(alloc, &set)?))
 }
 
 // So many sets from a number on, each expiring a second after the one before.

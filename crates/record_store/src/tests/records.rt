@@ -1,6 +1,8 @@
 //! Records of some zones below `example`.
 
-use denial_records::{HASH_OCTETS, Nsec3Rec, NsecRec, Record, SetRec, TypeSet};
+use denial_records::{
+    HASH_OCTETS, KeptNsec, KeptNsec3, KeptSet, Nsec3Rec, NsecRec, Record, SetRec, TypeSet,
+};
 use dname::{Name, NameFault, Octets, OctetsList};
 use std::alloc::Global;
 use std::test::Fail;
@@ -17,7 +19,7 @@ pub(crate) fn set(
     rtype: u16,
     expiry: u64,
 ) -> Result<Record, Fail> {
-    Ok(Record::Set(SetRec {
+    let set = SetRec {
         zone: name(zone)?,
         owner: name(owner)?,
         rtype,
@@ -25,7 +27,8 @@ pub(crate) fn set(
         expiry,
         items: OctetsList::empty(alloc),
         signatures: OctetsList::empty(alloc),
-    }))
+    };
+    Ok(Record::Set(KeptSet::of(alloc, &set)?))
 }
 
 pub(crate) fn nsec(
@@ -35,7 +38,7 @@ pub(crate) fn nsec(
     next: &[u8],
     expiry: u64,
 ) -> Result<Record, Fail> {
-    Ok(Record::Nsec(NsecRec {
+    let nsec = NsecRec {
         zone: name(zone)?,
         owner: name(owner)?,
         next: name(next)?,
@@ -44,7 +47,8 @@ pub(crate) fn nsec(
         expiry,
         image: Octets::of(alloc, b"")?,
         signatures: OctetsList::empty(alloc),
-    }))
+    };
+    Ok(Record::Nsec(KeptNsec::of(alloc, &nsec)?))
 }
 
 /// The NSEC3 record from one hash to another, each a number in its last octet.
@@ -56,7 +60,7 @@ pub(crate) fn nsec3(
     next: u8,
     expiry: u64,
 ) -> Result<Record, Fail> {
-    Ok(Record::Nsec3(Nsec3Rec {
+    let nsec3 = Nsec3Rec {
         zone: name(zone)?,
         hash: hash_of(hash),
         next: hash_of(next),
@@ -68,7 +72,8 @@ pub(crate) fn nsec3(
         expiry,
         image: Octets::of(alloc, b"")?,
         signatures: OctetsList::empty(alloc),
-    }))
+    };
+    Ok(Record::Nsec3(KeptNsec3::of(alloc, &nsec3)?))
 }
 
 /// The hash whose first octet is the number.

@@ -1,7 +1,10 @@
 use super::write_reply;
 use crate::ReplyBuffer;
 use arrayvec::ArrayVec;
-use denial_records::{Denial, Kind, Nsec3Rec, NsecRec, SetRec, TypeSet, Verdict};
+use denial_records::{
+    Denial, HASH_OCTETS, KeptNsec, KeptNsec3, KeptSet, Kind, Nsec3Rec, NsecRec, SetRec, TypeSet,
+    Verdict,
+};
 use dname::{Name, NameFault, Octets, OctetsList, OutOfMemory};
 use dnswire::{Edns, Question};
 use std::alloc::Global;
@@ -74,8 +77,8 @@ fn list(alloc: Global, item: &[u8]) -> Result<OctetsList, OutOfMemory> {
     Ok(list)
 }
 
-fn set(alloc: Global, rtype: u16, item: &[u8], signature: &[u8]) -> Result<SetRec, Fail> {
-    Ok(SetRec {
+fn set(alloc: Global, rtype: u16, item: &[u8], signature: &[u8]) -> Result<KeptSet, Fail> {
+    let set = SetRec {
         zone: name(EXAMPLE)?,
         owner: name(EXAMPLE)?,
         rtype,
@@ -83,10 +86,43 @@ fn set(alloc: Global, rtype: u16, item: &[u8], signature: &[u8]) -> Result<SetRe
         expiry: 5000,
         items: list(alloc, item)?,
         signatures: list(alloc, signature)?,
-    })
+    };
+    Ok(KeptSet::of(alloc, &set)?)
 }
 
-fn verdict<'a>(kind: Kind, soa: Option<&'a SetRec>, first: Option<Denial<'a>>) -> Verdict<'a> {
+fn nsec(alloc: Global) -> Result<KeptNsec, Fail> {
+    let nsec = NsecRec {
+        zone: name(EXAMPLE)?,
+        owner: name(A_EXAMPLE)?,
+        next: name(B_EXAMPLE)?,
+        types: TypeSet::read(alloc, TYPES)?,
+        life: 3600,
+        expiry: 5000,
+        image: Octets::of(alloc, NSEC)?,
+        signatures: list(alloc, NSEC_SIGNATURE)?,
+    };
+    Ok(KeptNsec::of(alloc, &nsec)?)
+}
+
+// Of that owner, which is its own next one.
+fn nsec3(alloc: Global, hash: [u8; HASH_OCTETS]) -> Result<KeptNsec3, Fail> {
+    let nsec3 = Nsec3Rec {
+        zone: name(EXAMPLE)?,
+        hash,
+        next: hash,
+        salt: Octets::of(alloc, b"")?,
+        iterations: 0,
+        opt_out: false,
+        types: TypeSet::read(alloc, TYPES)?,
+        life: 3600,
+        expiry: 5000,
+        image: Octets::of(alloc, b"image")?,
+        signatures: list(alloc, b"signature")?,
+    };
+    Ok(KeptNsec3::of(alloc, &nsec3)?)
+}
+
+fn verdict<'a>(kind: Kind, soa: Option<&'a KeptSet>, first: Option<Denial<'a>>) -> Verdict<'a> {
     Verdict {
         kind,
         answer_set: None,
@@ -166,16 +202,7 @@ fn the_flags(rt: HostRuntime) -> Result<(), Fail> {
 #[test]
 fn the_proof_of_no_data(rt: HostRuntime) -> Result<(), Fail> {
     let soa = set(rt.alloc(), 6, SOA, SOA_SIGNATURE)?;
-    let nsec = NsecRec {
-        zone: name(EXAMPLE)?,
-        owner: name(A_EXAMPLE)?,
-        next: name(B_EXAMPLE)?,
-        types: TypeSet::read(rt.alloc(), TYPES)?,
-        life: 3600,
-        expiry: 5000,
-        image: Octets::of(rt.alloc(), NSEC)?,
-        signatures: list(rt.alloc(), NSEC_SIGNATURE)?,
-    };
+    let nsec = nsec(rt.alloc())?;
     let verdict = verdict(Kind::NoData, Some(&soa), Some(Denial::Nsec(&nsec)));
     let mut out = ReplyBuffer::new();
 
@@ -216,19 +243,7 @@ fn the_proof_of_no_data(rt: HostRuntime) -> Result<(), Fail> {
 #[test]
 fn the_owner_of_an_nsec3_record(rt: HostRuntime) -> Result<(), Fail> {
     let hash = *b"\x17\x4e\xb2\x40\x9f\xe2\x8b\xcb\x48\x87\xa1\x83\x6f\x95\x7f\x0a\x84\x25\xe2\x7b";
-    let nsec3 = Nsec3Rec {
-        zone: name(EXAMPLE)?,
-        hash,
-        next: hash,
-        salt: Octets::of(rt.alloc(), b"")?,
-        iterations: 0,
-        opt_out: false,
-        types: TypeSet::read(rt.alloc(), TYPES)?,
-        life: 3600,
-        expiry: 5000,
-        image: Octets::of(rt.alloc(), b"image")?,
-        signatures: list(rt.alloc(), b"signature")?,
-    };
+    let nsec3 = nsec3(rt.alloc(), hash)?;
     let edns = Edns {
         size: 0,
         dnssec: true,

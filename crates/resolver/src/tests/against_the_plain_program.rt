@@ -3,7 +3,7 @@ ghost use Rattle.std.specs.Prelude.{◌≤◌, ◌<◌};
 
 use super::records::{Hashing, ZONE, name, nsec, nsec3, set};
 use cache_meaning::PlainStore;
-use denial_records::{Batch, Denial, Kind, Record, RecordList, SetRec, Verdict};
+use denial_records::{Batch, Denial, KeptSet, Kind, Record, RecordList, Verdict};
 use dname::OutOfMemory;
 use record_store::Store;
 use std::alloc::Global;
@@ -189,17 +189,17 @@ struct Said {
     third: u64,
 }
 
-fn expiry_of_set(set: &Option<&SetRec>) -> u64 {
+fn expiry_of_set(set: &Option<&KeptSet>) -> u64 {
     match set {
-        Some(set) => set.expiry,
+        Some(set) => set.expiry(),
         None => 0,
     }
 }
 
 fn expiry_of(denial: &Option<Denial<'_>>) -> u64 {
     match denial {
-        Some(Denial::Nsec(nsec)) => nsec.expiry,
-        Some(Denial::Nsec3(nsec3)) => nsec3.expiry,
+        Some(Denial::Nsec(nsec)) => nsec.expiry(),
+        Some(Denial::Nsec3(nsec3)) => nsec3.expiry(),
         None => 0,
     }
 }

@@ -1,6 +1,6 @@
 //! Records of the zone `example`.
 
-use denial_records::{Nsec3Rec, NsecRec, Record, SetRec, TypeSet};
+use denial_records::{KeptNsec, KeptNsec3, KeptSet, Nsec3Rec, NsecRec, Record, SetRec, TypeSet};
 use dname::{Name, NameFault, Octets, OctetsList, OutOfMemory};
 use nsec3_hash::hash_name;
 use std::alloc::Global;
@@ -31,7 +31,7 @@ pub(crate) fn set(
     life: u32,
     expiry: u64,
 ) -> Result<Record, Fail> {
-    Ok(Record::Set(SetRec {
+    let set = SetRec {
         zone: name(ZONE)?,
         owner: name(owner)?,
         rtype,
@@ -39,7 +39,8 @@ pub(crate) fn set(
         expiry,
         items: list_of(alloc, SOA_DATA)?,
         signatures: OctetsList::empty(alloc),
-    }))
+    };
+    Ok(Record::Set(KeptSet::of(alloc, &set)?))
 }
 
 pub(crate) fn nsec(
@@ -50,7 +51,7 @@ pub(crate) fn nsec(
     life: u32,
     expiry: u64,
 ) -> Result<Record, Fail> {
-    Ok(Record::Nsec(NsecRec {
+    let nsec = NsecRec {
         zone: name(ZONE)?,
         owner: name(owner)?,
         next: name(next)?,
@@ -59,7 +60,8 @@ pub(crate) fn nsec(
         expiry,
         image: Octets::of(alloc, b"")?,
         signatures: OctetsList::empty(alloc),
-    }))
+    };
+    Ok(Record::Nsec(KeptNsec::of(alloc, &nsec)?))
 }
 
 /// By what names are hashed, and whether the Opt-Out flag is set.
@@ -80,7 +82,7 @@ pub(crate) fn nsec3(
     life: u32,
     expiry: u64,
 ) -> Result<Record, Fail> {
-    Ok(Record::Nsec3(Nsec3Rec {
+    let nsec3 = Nsec3Rec {
         zone: name(ZONE)?,
         hash: hash_name(&name(owner)?, hashing.salt, hashing.iterations),
         next: hash_name(&name(next)?, hashing.salt, hashing.iterations),
@@ -92,5 +94,6 @@ pub(crate) fn nsec3(
         expiry,
         image: Octets::of(alloc, b"")?,
         signatures: OctetsList::empty(alloc),
-    }))
+    };
+    Ok(Record::Nsec3(KeptNsec3::of(alloc, &nsec3)?))
 }

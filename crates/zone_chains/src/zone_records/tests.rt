@@ -2,7 +2,7 @@ ghost use Rattle.std.specs.Prelude.{IsTrue};
 ghost use Rattle.zone_chains.specs.Zone.{IsDenialOf};
 
 use super::*;
-use denial_records::TypeSet;
+use denial_records::{Nsec3Rec, NsecRec, TypeSet};
 use dname::{NameFault, Octets, OctetsList};
 use std::test::Fail;
 
@@ -29,7 +29,8 @@ fn nsec(alloc: Global, owner: u8, next: u8, life: u32) -> Result<Arc<Record>, Fa
         image: Octets::of(alloc, b"")?,
         signatures: OctetsList::empty(alloc),
     };
-    Ok(Arc::new(alloc, Record::Nsec(nsec))?)
+    let kept = KeptNsec::of(alloc, &nsec)?;
+    Ok(Arc::new(alloc, Record::Nsec(kept))?)
 }
 
 // From one hash to another, in the chain of a salt of one octet.
@@ -47,7 +48,8 @@ fn nsec3(alloc: Global, salt: u8, hash: u8, next: u8, life: u32) -> Result<Arc<R
         image: Octets::of(alloc, b"")?,
         signatures: OctetsList::empty(alloc),
     };
-    Ok(Arc::new(alloc, Record::Nsec3(nsec3))?)
+    let kept = KeptNsec3::of(alloc, &nsec3)?;
+    Ok(Arc::new(alloc, Record::Nsec3(kept))?)
 }
 
 fn is_denial_of(apex: &Name, item: &Record) -> bool
@@ -55,8 +57,8 @@ fn is_denial_of(apex: &Name, item: &Record) -> bool
 {
     match item {
         Record::Set(_) => false,
-        Record::Nsec(nsec) => nsec.zone == *apex,
-        Record::Nsec3(nsec3) => nsec3.zone == *apex,
+        Record::Nsec(nsec) => nsec.zone() == apex.lent(),
+        Record::Nsec3(nsec3) => nsec3.zone() == apex.lent(),
     }
 }
 
@@ -79,14 +81,14 @@ fn put(alloc: Global, zone: ZoneRecords, item: Arc<Record>) -> Result<(ZoneRecor
 // The life of the NSEC record that has the name, and whether it is the name's own.
 fn at_name(zone: &ZoneRecords, octet: u8) -> Result<Option<(u32, bool)>, Fail> {
     Ok(match zone.nsec_at(&name(octet)?) {
-        Some((found, place)) => Some((found.life, place == Place::Start)),
+        Some((found, place)) => Some((found.life(), place == Place::Start)),
         None => None,
     })
 }
 
 fn at_hash(zone: &ZoneRecords, salt: u8, octet: u8) -> Option<(u32, bool)> {
     match zone.nsec3_at(&[salt], 12, &[octet; 20]) {
-        Some((found, place)) => Some((found.life, place == Place::Start)),
+        Some((found, place)) => Some((found.life(), place == Place::Start)),
         None => None,
     }
 }

@@ -10,7 +10,7 @@ returns-in-Some-at_encloser c =
     let zone = c.args.zone.now in
     let closer = c.loop-encloser.next_closer in
     let chain = c.loop-encloser.invariant.chain in
-    let under = sym (λ k. is_under (c.name.ensures k) (c.apex.ensures k)) ∙ sym c.is_under.ensures ∙ c.if-not-is_under.false in
+    let under = sym (λ k. is_under ((c.lent.ensures ∙ c.name.ensures) k) ((c.lent-in-Some.ensures ∙ c.apex.ensures) k)) ∙ sym c.is_under.ensures ∙ c.if-not-is_under.false in
     encloser_gives zone.held c.args.now zone.apex closer.parameters c.args.qtype c.in-Some.ensures.1.0 c.in-Some.encloser.name closer.name c.in-Some.ensures.1.1 under c.in-Some-at_encloser.proof c.in-Some-at_encloser.ensures
     ∙ ap (λ (p : HashParameters). by_enclosers zone.held c.args.now zone.apex p c.args.qtype closer.name) chain
     ∙ sym c.loop-encloser.invariant.goes_on
@@ -21,7 +21,7 @@ loop-encloser-preserved c =
     let closer = c.loop-encloser.next_closer in
     let encloser = c.in-Some.encloser in
     let chain = c.loop-encloser.invariant.chain in
-    let under = sym (λ k. is_under (c.name.ensures k) (c.apex.ensures k)) ∙ sym c.is_under.ensures ∙ c.if-not-is_under.false in
+    let under = sym (λ k. is_under ((c.lent.ensures ∙ c.name.ensures) k) ((c.lent-in-Some.ensures ∙ c.apex.ensures) k)) ∙ sym c.is_under.ensures ∙ c.if-not-is_under.false in
     record {
       chain = c.in-Some.ensures.0 ∙ chain;
       goes_on = c.loop-encloser.invariant.goes_on

@@ -19,17 +19,3 @@ returns-then-not-is_under c = λ group is taken stored.
     let names = nsec_same c.args.image only.stored.parts c.in-Some.parts only.reads reads in
     let under = c.is_under.ensures.1 (subst (λ name. IsUnder name c.args.group.agreed.signer) names.0 only.inside) in
     cc
-
-pub returns : goal.returns
-returns c = λ group is. record {
-  kept = rw c.life-life.ensures (kept_own c.args.now group c.args.group _ c.args.signatures c.requires.passes is (ap is_own_type c.requires.rtype));
-  type_is = sym is.rtype_is ∙ c.requires.rtype;
-  parts = c.in-Some.parts;
-  item_is = sym is.items_are;
-  reads = rw (c.as_slice.ensures, c.in-Some.is) at c.in_ok-parts.ensures;
-  next_inside = c.is_under.ensures.0 c.if-not-is_under.false;
-  next_is = refl;
-  types_are = refl;
-  signatures_are = is.signatures_are;
-  expiry_is = cc;
-}

@@ -16,23 +16,3 @@ returns-in_default-2 c = λ group is taken stored.
     let none : (parts : Nsec3Parts) → IsNsec3 c.args.image parts → ⊥ = rw (c.as_slice.ensures, c.in_default-2.is) at c.in_ok-parts.ensures in
     let only = nsec3_only c.args.now group c.args.group c.args.image c.args.signatures taken c.requires.rtype is stored in
     none only.stored.parts only.reads
-
-pub returns : goal.returns
-returns c = λ group is. record {
-  kept = rw c.life-life.ensures (subst (λ owner. IsKept c.args.now group c.args.group.agreed.signer owner (life_in c.args.group)) is.owner_is (kept_own c.args.now group c.args.group _ c.args.signatures c.requires.passes is (ap is_own_type c.requires.rtype)));
-  type_is = sym is.rtype_is ∙ c.requires.rtype;
-  parts = c.in-Some-2.parts;
-  item_is = sym is.items_are;
-  reads = rw (c.as_slice.ensures, c.in-Some-2.is) at c.in_ok-parts.ensures;
-  sha1 = omega arith;
-  flags_known = omega arith;
-  few_iterations = omega arith;
-  hashed = subst (λ owner. IsHashedOwner owner c.args.group.agreed.signer c.in-Some.hash) is.owner_is c.in-Some.ensures;
-  next_is = refl;
-  salt_is = refl;
-  iterations_are = refl;
-  opt_out_is = refl;
-  types_are = refl;
-  signatures_are = is.signatures_are;
-  expiry_is = cc;
-}

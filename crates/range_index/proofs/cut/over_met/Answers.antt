@@ -5,7 +5,7 @@ use Rattle.range_index.proofs.cut.over_met.Goals as goal
 pub returns-clause-met : goal.returns-clause-met
 returns-clause-met g c =
     IsOverMet-found _ g.met.R.Key.Ord.total g.R.RingSpan.start g.R.RingSpan.end c.args.list.now c.requires.arcs c.args.span.now
-    c.start_key-start.result.now c.end_key.result.now _ _ _ _ c.start_key-start.ensures c.end_key.ensures
+    c.start_key-start.result c.end_key.result _ _ _ _ c.start_key-start.ensures c.end_key.ensures
     c.starts_before.ensures.value c.starts_before-2.ensures.value c.trimmed-last.ensures c.min-to.ensures c.requires.over
 
 pub starts_before-requires-clause-parted : goal.starts_before-requires-clause-parted

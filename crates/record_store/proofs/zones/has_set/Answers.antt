@@ -22,7 +22,7 @@ loop-place-init c =
 pub loop-place-preserved : goal.loop-place-preserved
 loop-place-preserved c =
     one_more c.args.sets.now c.find_at-from.ensures.in_order c.requires.sets c.args.apex.now c.loop-place.place (arc_value c.get.result.now) (omega arith) c.get.ensures
-    (λ same. names_differ c.zone_of-zone.result.now c.args.apex.now (sym c.if-eq.false ∙ c.eq.ensures) (c.zone_of-zone.ensures ∙ (ap zone_of c.deref.ensures ∙ same)))
+    (λ same. names_differ c.zone_of-zone.result c.args.apex.now (sym c.if-eq.false ∙ c.eq.ensures.value) (c.zone_of-zone.ensures ∙ (ap zone_of c.deref.ensures ∙ same)))
     c.loop-place.invariant
 
 pub returns-clause-no : goal.returns-clause-no
@@ -32,7 +32,7 @@ pub returns-then-eq-clause-yes : goal.returns-then-eq-clause-yes
 returns-then-eq-clause-yes c is = (
   arc_value c.get.result.now,
   (c.loop-place.place, omega arith, sym c.get.ensures),
-  ap zone_of (sym c.deref.ensures) ∙ (sym c.zone_of-zone.ensures ∙ name_equal c.zone_of-zone.result.now c.args.apex.now (sym c.eq.ensures ∙ c.if-eq.true)),
+  ap zone_of (sym c.deref.ensures) ∙ (sym c.zone_of-zone.ensures ∙ name_equal c.zone_of-zone.result c.args.apex.now (sym c.eq.ensures.value ∙ c.if-eq.true)),
 )
 
 pub returns-then-first_of_zone-first-clause-no : goal.returns-then-first_of_zone-first-clause-no

@@ -12,4 +12,4 @@ returns-then-hand_nothing_on c =
     c.denial_at_source.ensures
     ∙ (λ k. denial_at_source chain.held chain.moment chain.apex chain.parameters c.args.qtype (c.requires.wildcard k) matching c.args.covering.now)
     ∙ where_both (nsec3_matches chain.parameters matching encloser) (hand_nothing_on matching.types chain.apex encloser) _ c.requires.matches
-    (sym (λ k. hand_nothing_on matching.types (c.apex.ensures k) encloser) ∙ sym c.hand_nothing_on.ensures ∙ c.if-hand_nothing_on.true)
+    (sym (λ k. hand_nothing_on (c.types.ensures k) ((c.lent.ensures ∙ c.apex.ensures) k) (c.lent-2.ensures k)) ∙ sym c.hand_nothing_on.ensures ∙ c.if-hand_nothing_on.true)

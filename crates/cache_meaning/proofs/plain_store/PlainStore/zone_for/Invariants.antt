@@ -5,8 +5,8 @@ use Rattle.cache_meaning.specs.Held.{zone_of}
 use Rattle.cache_meaning.specs.Zones.{self_and_above, zone_for}
 use Rattle.cache_meaning.proofs.plain_store.PlainStore.zone_for.Given as goal
 
-abbrev pub invariant-loop-apex : goal.invariant-loop-apex
-invariant-loop-apex l = zone_for l.self l.name l.qtype ≡ find (λ zone. list_any (λ item. same_name (zone_of item) zone) l.self.records) (self_and_above l.zone)
+abbrev pub invariant-loop-zone : goal.invariant-loop-zone
+invariant-loop-zone l = zone_for l.self l.name l.qtype ≡ find (λ zone. list_any (λ item. same_name (zone_of item) zone) l.self.records) (self_and_above l.zone)
 
-abbrev pub decreases-loop-apex : goal.decreases-loop-apex
-decreases-loop-apex l = length l.zone
+abbrev pub decreases-loop-zone : goal.decreases-loop-zone
+decreases-loop-zone l = length l.zone

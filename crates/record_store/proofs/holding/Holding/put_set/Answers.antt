@@ -13,7 +13,7 @@ invariant_of-result c =
     (arc_value c.in_ok-goings.goings) c.deref.result.now c.deref.ensures c.in_ok-goings.ensures.records
     (arc_value c.in_ok-goings-2.goings) c.deref-4.result.now c.deref-4.ensures c.in_ok-goings-2.ensures.records c.in_ok-goings-2.ensures.apart
     (arc_value c.in_ok-sets.sets) sets
-    (arc_value c.in_ok-zones.zones) (arc_value c.self.inside.zones) c.zone_of.result.now refl (c.zone_of.ensures ∙ ap zone_of c.deref-2.ensures) c.in_ok-zones.ensures.zones c.in_ok-zones.ensures.order c.in_ok-zones.ensures.was_ordered).0
+    (arc_value c.in_ok-zones.zones) (arc_value c.self.inside.zones) c.zone_of.result refl (c.zone_of.ensures ∙ ap zone_of c.deref-2.ensures) c.in_ok-zones.ensures.zones c.in_ok-zones.ensures.order c.in_ok-zones.ensures.was_ordered).0
 
 pub returns : goal.returns
 returns c =
@@ -22,4 +22,4 @@ returns c =
     (arc_value c.in_ok-goings.goings) c.deref.result.now c.deref.ensures c.in_ok-goings.ensures.records
     (arc_value c.in_ok-goings-2.goings) c.deref-4.result.now c.deref-4.ensures c.in_ok-goings-2.ensures.records c.in_ok-goings-2.ensures.apart
     (arc_value c.in_ok-sets.sets) sets
-    (arc_value c.in_ok-zones.zones) (arc_value c.self.inside.zones) c.zone_of.result.now refl (c.zone_of.ensures ∙ ap zone_of c.deref-2.ensures) c.in_ok-zones.ensures.zones c.in_ok-zones.ensures.order c.in_ok-zones.ensures.was_ordered).1
+    (arc_value c.in_ok-zones.zones) (arc_value c.self.inside.zones) c.zone_of.result refl (c.zone_of.ensures ∙ ap zone_of c.deref-2.ensures) c.in_ok-zones.ensures.zones c.in_ok-zones.ensures.order c.in_ok-zones.ensures.was_ordered).1

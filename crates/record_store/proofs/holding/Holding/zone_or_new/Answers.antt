@@ -23,6 +23,6 @@ returns-in_ok-new-in-None c =
     let zones = arc_value c.self.inside.zones in
     let zone = arc_value c.in_ok-new-in-None.field-0 in
     let made : zone ≡ c.of.result = c.in_ok-new-in-None.ensures.ok in
-    let its = none_for goings (arc_value c.self.inside.sets) zones c.self.invariant c.args.item.now zone (ap (λ (z : OneZone). z.apex) made ∙ (c.of.ensures.apex ∙ (c.copy.ensures ∙ c.zone_of-in-None.ensures))) (ap (λ (z : OneZone). z.chains) made ∙ c.of.ensures.chains)
+    let its = none_for goings (arc_value c.self.inside.sets) zones c.self.invariant c.args.item.now zone (ap (λ (z : OneZone). z.apex) made ∙ (c.of.ensures.apex ∙ c.zone_of-in-None.ensures)) (ap (λ (z : OneZone). z.chains) made ∙ c.of.ensures.chains)
     (λ each has same. c.in-None.ensures.zone each (subst (λ (l : List OneZone). Contains l each) (sym c.deref.ensures) has) (same ∙ sym c.zone_of.ensures)) in
     subst (λ held. IsZoneFor held c.args.item.now zone) c.self.view_is its

@@ -3,7 +3,7 @@ use Rattle.std.specs.List.{list_any}
 use Rattle.dname.specs.Tests.{same_name}
 use Rattle.cache_meaning.specs.Held.{zone_of}
 use Rattle.cache_meaning.specs.Views.{shared_records}
-use Rattle.cache_meaning.proofs.plain_store.PlainStore.apex.Given as goal
+use Rattle.cache_meaning.proofs.plain_store.PlainStore.has_zone.Given as goal
 
 abbrev pub invariant-loop-item : goal.invariant-loop-item
 invariant-loop-item l =

@@ -2,7 +2,7 @@ use Rattle.std.proofs.Common.{◌∙◌, ap, subst}
 use Rattle.std.proofs.lemmas.Bool.{false≢true}
 use Rattle.denial_records.specs.TypeSet.{has_bit, IsTypeSet}
 use Rattle.denial_records.proofs.TypeSetLemmas.{look_here, look_past, look_end}
-use Rattle.denial_records.proofs.type_set.TypeSet.has.Goals as goal
+use Rattle.denial_records.proofs.type_set.LentTypes.has.Goals as goal
 
 pub returns-then-block-window-clause-answer : goal.returns-then-block-window-clause-answer
 returns-then-block-window-clause-answer c =
