@@ -57,8 +57,9 @@ pub(crate) trait Block<T: Drop>: Drop {
             → PartsAtMark mark_of mark p (entries self.now)
             → result ≡ prefix_len p (entries self.now) };
 
-    /// The entries with `items` in place of those in `from..to`, in one block of as many parts, or a page that is neither
-    /// small nor too long. None where that can't be, and for want of memory.
+    /// The entries with `items` in place of those in `from..to`, in one block of as many parts, or a page that has at
+    /// least a quarter of what it may have, or no fewer entries than before, and isn't too long. None where that can't be, and for
+    /// want of memory.
     fn replaced(
         &self,
         alloc: Global,

@@ -1,5 +1,5 @@
 //! A page: one to `MOST` entries.
-ghost use Rattle.std.specs.Prelude.{◌≡◌, ◌<◌, ◌≤◌, ◌+◌, ◌-◌, ◌++◌, Bool, length, get_or, take, drop, map, IfOk};
+ghost use Rattle.std.specs.Prelude.{◌≡◌, ◌<◌, ◌≤◌, ◌+◌, ◌-◌, ◌++◌, Bool, length, get_or, take, drop, map, IfOk, IsTrue};
 ghost use Rattle.std.specs.Arc.{arc_value};
 ghost use Rattle.std.specs.List.{flat_map};
 ghost use Rattle.page_list.specs.declared.short.TheConstants.{MOST};
@@ -14,6 +14,14 @@ use crate::{Block, Entry, OutOfMemory};
 use std::alloc::Global;
 use std::marker::Model;
 use std::sync::Arc;
+
+// Whether a page of `before` entries may be exchanged for one of `count`: neither too long, nor made smaller than a quarter of what
+// it may have.
+fn may_have(before: usize, count: usize) -> bool
+    ensures { IsTrue result → (0 < count) × (count ≤ MOST) }
+{
+    0 < count && count <= MOST && (MOST / 4 <= count || before <= count)
+}
 
 #[derive(Drop)]
 pub(crate) struct Page<T> {
@@ -184,7 +192,7 @@ impl<T: Drop> Block<T> for Page<T> {
     ) -> Option<Arc<Self>> {
         let kept = from + (self.len() - to);
         let count = kept.checked_add(items.len())?;
-        if count < MOST / 2 || count > MOST {
+        if !may_have(self.len(), count) {
             return None;
         }
         match self.with(alloc, from, to, items, count) {

@@ -96,7 +96,7 @@ fn own_owners(list: &PageList<u64>) -> usize {
     count
 }
 
-// Each page of several has at least half of what it may have, and so does each shelf and each bookcase.
+// Each page of several has at least a quarter of what it may have, each shelf and each bookcase half.
 fn is_filled(list: &PageList<u64>) -> bool {
     let mut pages = 0usize;
     let mut shelves = 0usize;
@@ -115,7 +115,7 @@ fn is_filled(list: &PageList<u64>) -> bool {
         }
     }
     let half = MOST / 2;
-    (pages <= 1 || few >= half)
+    (pages <= 1 || few >= MOST / 4)
         && (shelves <= 1 || few_pages >= half)
         && (list.entries.bookcases.count() <= 1 || few_shelves >= half)
 }
