@@ -1,4 +1,4 @@
-use Rattle.std.proofs.Common.{◌≡◌, ℕ, ◌+◌, ◌-◌, ◌<◌, ◌≤◌, Bool, true, false, List, [], ◌∷◌, length, get_or, take, inl, inr, arith, refl, sym, ap, subst, ◌∙◌}
+use Rattle.std.proofs.Common.{◌≡◌, ℕ, zero, suc, ◌+◌, ◌-◌, ◌<◌, ◌≤◌, Bool, true, false, List, [], ◌∷◌, length, get_or, take, inl, inr, arith, refl, sym, ap, subst, ◌∙◌}
 use denote.Ref.{Bor}
 use denote.Param.Members.{Shared}
 use Rattle.std.specs.Fn.{FnReturnsAt}
@@ -6,9 +6,9 @@ use Rattle.std.proofs.lemmas.Fn.{says_at}
 use Rattle.std.proofs.lemmas.List.{get_or_read}
 use Rattle.std.specs.List.{flat_map, prefix_len}
 use Rattle.std.specs.List.Sorted.{IsPartitionedBy}
-use Rattle.page_list.proofs.Rows.{length_more, entry_at}
+use Rattle.page_list.proofs.Rows.{length_more, entry_at, length_along, length_all}
 use Rattle.page_list.specs.Marks.{Marked, mark_of}
-use Rattle.page_list.specs.Search.{IsBehindLesser, IsTestAt, IsTestOf, HasNarrowed}
+use Rattle.page_list.specs.Search.{IsBehindLesser, IsTestAt, IsTestOf, HasNarrowed, BeginsLesser, BeginsGreater}
 use Rattle.std.proofs.lemmas.List.Sums.{prefix_len_is, prefix_len_passes, prefix_len_stops}
 use Rattle.std.proofs.lemmas.Bool.{cases_lt}
 use Rattle.std.proofs.lemmas.List.Elements.{Contains-get_or}
@@ -76,6 +76,34 @@ HasNarrowed-to_run g f mark xs low high behind le in_xs greater = record {
       let f' : p (get_or xs high d) ≡ false = test.parts.greater (get_or xs high d) (Contains-get_or xs high d (omega arith)) (greater d (omega arith)) in
       cc);
 }
+
+some_before : {X Y : Type 0} (f : Y → List X) (blocks : List Y) (low k : ℕ) → k < length (flat_map f (take low blocks)) → 0 < low
+some_before f blocks zero k lt = absurd (omega (arith, lt))
+some_before f blocks (suc low) k lt = omega arith
+
+-- the same of blocks: up to one that begins with a lesser mark, and from one on that begins with a greater one
+pub HasNarrowed-to_blocks : {X F Y : Type 0} (g : Shared F (Bor X × Unit {0}) Bool) (f : F) (mark : ℕ) (entries_of : Y → List (Marked X)) (blocks : List Y) (low high : ℕ) → low < high → high ≤ length blocks → (0 < low → BeginsLesser entries_of blocks mark low) → (high < length blocks → BeginsGreater entries_of blocks mark high) → HasNarrowed (flat_map entries_of blocks) (IsTestAt g f mark (flat_map entries_of blocks)) (length (flat_map entries_of (take low blocks))) (length (flat_map entries_of (take high blocks)))
+HasNarrowed-to_blocks g f mark entries_of blocks low high order in_blocks lesser greater =
+    let xs = flat_map entries_of blocks in
+    record {
+      order = length_along entries_of blocks low high (omega arith);
+      in_range = omega (arith, length_along entries_of blocks high (length blocks) in_blocks, length_all entries_of blocks (length blocks) (omega arith));
+      below = λ p test parted k d lt.
+          let start = length (flat_map entries_of (take low blocks)) in
+          let begins = lesser (some_before entries_of blocks low k lt) in
+          parted k start d (omega arith) begins.in_range (test.parts.lesser (get_or xs start d) (Contains-get_or xs start d begins.in_range) (begins.lesser d));
+      above = λ p test parted k d from lt.
+          let start = length (flat_map entries_of (take high blocks)) in
+          elim (cases_lt high (length blocks)) [
+            | inl less ↦
+                (let begins = greater less in
+                false_from (p (get_or xs k d)) (λ passes.
+                let t : p (get_or xs start d) ≡ true = parted start k d from lt passes in
+                let f' : p (get_or xs start d) ≡ false = test.parts.greater (get_or xs start d) (Contains-get_or xs start d begins.in_range) (begins.greater d) in
+                cc))
+            | inr all ↦ absurd (omega (arith, length_all entries_of blocks high all))
+          ];
+    }
 
 -- `prefix_len_is`, at any default
 prefix_len_at : {X : Type 0} (p : X → Bool) (xs : List X) (n : ℕ) → n ≤ length xs → ((k : ℕ) (d : X) → k < n → p (get_or xs k d) ≡ true) → ((d : X) → n < length xs → p (get_or xs n d) ≡ false) → n ≡ prefix_len p xs

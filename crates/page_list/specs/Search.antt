@@ -1,5 +1,6 @@
 -- No public clause cites this module.
-use Rattle.std.specs.Prelude.{◌≡◌, ℕ, ◌-◌, ◌<◌, ◌≤◌, Bool, true, false, List, length, get_or}
+use Rattle.std.specs.Prelude.{◌≡◌, ℕ, ◌-◌, ◌<◌, ◌≤◌, Bool, true, false, List, length, get_or, take}
+use Rattle.std.specs.List.{flat_map}
 use Rattle.std.specs.Fn.{FnReturnsAt}
 use Rattle.std.specs.List.Sorted.{IsPartitionedBy}
 use Rattle.page_list.specs.Marks.{Marked, mark_of, PartsAtMark}
@@ -26,3 +27,13 @@ pub record HasNarrowed {X : Type 0} (xs : List X) (IsTest : (X → Bool) → Typ
 pub record IsBehindLesser {X : Type 0} (mark : ℕ) (entries : List (Marked X)) (place : ℕ) : Type 0 where
   pub in_range : place ≤ length entries
   pub lesser : (d : Marked X) → 0 < place → mark_of (get_or entries (place - 1) d) < mark
+
+-- the first entry of the block p has a lesser mark
+pub record BeginsLesser {X Y : Type 0} (entries_of : Y → List (Marked X)) (blocks : List Y) (mark p : ℕ) : Type 0 where
+  pub in_range : length (flat_map entries_of (take p blocks)) < length (flat_map entries_of blocks)
+  pub lesser : (d : Marked X) → mark_of (get_or (flat_map entries_of blocks) (length (flat_map entries_of (take p blocks))) d) < mark
+
+-- the first entry of the block p has a greater mark
+pub record BeginsGreater {X Y : Type 0} (entries_of : Y → List (Marked X)) (blocks : List Y) (mark p : ℕ) : Type 0 where
+  pub in_range : length (flat_map entries_of (take p blocks)) < length (flat_map entries_of blocks)
+  pub greater : (d : Marked X) → mark < mark_of (get_or (flat_map entries_of blocks) (length (flat_map entries_of (take p blocks))) d)

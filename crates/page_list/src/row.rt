@@ -5,7 +5,7 @@ ghost use Rattle.std.specs.List.Sorted.{IsPartitionedBy};
 ghost use Rattle.std.specs.Arc.{arc_value};
 ghost use Rattle.page_list.specs.Marks.{Marked, mark_of, PartsAtMark};
 ghost use Rattle.page_list.specs.Rows.{IsPlace, IsSeam, IsShelf, IsShelved, Shelved, block_of, shifted};
-ghost use Rattle.page_list.specs.Search.{IsTestOf, IsTestAt, HasNarrowed};
+ghost use Rattle.page_list.specs.Search.{IsTestOf, IsTestAt, HasNarrowed, BeginsLesser, BeginsGreater};
 
 use crate::parts::{items_before, items_from};
 use crate::slot::Slot;
@@ -13,6 +13,9 @@ use crate::{Block, Entry, OutOfMemory};
 use std::alloc::{AllocError, Global};
 use std::marker::{Model, PhantomData};
 use std::sync::Arc;
+
+/// Of so many blocks the first entry's mark is read at first.
+const STRIDE: usize = 4;
 
 /// Shared blocks, seen as the list of them.
 #[derive(Drop)]
@@ -333,8 +336,8 @@ impl<T: Drop, B: Block<T>> Row<T, B> {
             (length (flat_map B.entries (take result self.now)))
             (length (flat_map B.entries (take (result + 1) self.now))) }
     {
-        let mut low = 0;
-        let mut high = self.count();
+        let mut low = self.last_lesser(mark);
+        let mut high = self.first_greater(low, mark);
         while high - low > 1 {
             let middle = low + (high - low) / 2;
             if self.starts_before(middle, mark, before) {
@@ -344,6 +347,59 @@ impl<T: Drop, B: Block<T>> Row<T, B> {
             }
         }
         low
+    }
+
+    // A block whose first entry has a lesser mark, or the first block; where marks never fall, the last such. Every fourth is
+    // read first: none of these reads waits for another, as those of a search by halves would.
+    fn last_lesser(&self, mark: u64) -> usize
+        requires { 0 < length self.now }
+        ensures in_range { result < length self.now }
+        ensures lesser { 0 < result
+            → BeginsLesser B.entries self.now mark result }
+    {
+        let count = self.count();
+        let mut last = 0;
+        let mut at = STRIDE;
+        while at < count {
+            if self.mark_of(at) < mark {
+                last = at;
+            }
+            at = at.saturating_add(STRIDE);
+        }
+        while last + 1 < count && self.mark_of(last + 1) < mark {
+            last += 1;
+        }
+        last
+    }
+
+    // The first block behind `low` whose first entry has a greater mark, or the end.
+    fn first_greater(&self, low: usize, mark: u64) -> usize
+        requires { low < length self.now }
+        ensures order { low < result }
+        ensures in_range { result ≤ length self.now }
+        ensures greater { result < length self.now
+            → BeginsGreater B.entries self.now mark result }
+    {
+        let count = self.count();
+        let mut first = low + 1;
+        while first < count {
+            if self.mark_of(first) > mark {
+                return first;
+            }
+            first += 1;
+        }
+        first
+    }
+
+    // The mark of the first entry of the block `p`.
+    fn mark_of(&self, p: usize) -> u64
+        requires { p < length self.now }
+        ensures some { length (flat_map B.entries (take p self.now))
+            < length (flat_map B.entries self.now) }
+        ensures first { (a : Marked T) → result ≡ mark_of (get_or (flat_map B.entries self.now)
+            (length (flat_map B.entries (take p self.now))) a) }
+    {
+        self.slots[p].mark()
     }
 
     // Whether the first entry of the block `p` comes before; the block is read only where its mark doesn't tell.

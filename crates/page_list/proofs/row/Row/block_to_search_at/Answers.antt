@@ -1,7 +1,15 @@
 use Rattle.std.proofs.Common.{◌∙◌, arith}
 use Rattle.page_list.proofs.Rows.{length_along}
-use Rattle.page_list.proofs.Search.{HasNarrowed-up, HasNarrowed-down}
+use Rattle.page_list.proofs.Search.{HasNarrowed-up, HasNarrowed-down, HasNarrowed-to_blocks}
 use Rattle.page_list.proofs.row.Row.block_to_search_at.Goals as goal
+
+pub loop-high-init : goal.loop-high-init
+loop-high-init g c = record {
+  order = c.first_greater-high.ensures.order;
+  in_range = c.first_greater-high.ensures.in_range;
+  narrowed =
+      HasNarrowed-to_blocks g.F.Fn c.args.before.now c.args.mark g.B.Block.entries c.args.self.now c.last_lesser-low.result c.first_greater-high.result c.first_greater-high.ensures.order c.first_greater-high.ensures.in_range c.last_lesser-low.ensures.lesser c.first_greater-high.ensures.greater;
+}
 
 pub loop-high-preserved-then-starts_before : goal.loop-high-preserved-then-starts_before
 loop-high-preserved-then-starts_before g c = record {
