@@ -7,9 +7,8 @@ ghost use Rattle.range_index.specs.Arcs.{span_has, is_apart, AreOfFrame, IsArcs,
 ghost use Rattle.range_index.specs.Steps.{IsTrimmed, IsPlainMet, IsOverMet};
 
 use crate::ring_span::ByStart;
-use crate::search::starts_before;
+use crate::search::{span_has, starts_before};
 use crate::{Met, OutOfMemory, RingSpan};
-use dname::arc_has;
 use page_list::MarkedList;
 use std::alloc::Global;
 use std::sync::Arc;
@@ -24,7 +23,7 @@ pub(crate) fn list_with<T: Drop, R: RingSpan<T>>(
     ensures { IfOk result (λ made.
         made ≡ arcs_with R.Key.Ord.cmp R.start R.end (arc_value span) list.now) }
 {
-    if R::start_key(&span).cmp(&R::end_key(&span)).is_lt() {
+    if R::compare_ends(&span).is_lt() {
         with_plain(alloc, list, span)
     } else {
         with_over(alloc, list, span)
@@ -37,7 +36,7 @@ pub(crate) fn met_in<T: Drop, R: RingSpan<T>>(list: &MarkedList<T, ByStart<R>>, 
     ensures { FailInRuns (is_apart R.Key.Ord.cmp R.start R.end span.now) list.now
         result.from result.to result.last }
 {
-    if R::start_key(&span).cmp(&R::end_key(&span)).is_lt() {
+    if R::compare_ends(&span).is_lt() {
         plain_met(list, span)
     } else {
         over_met(list, span)
@@ -141,7 +140,8 @@ fn trimmed<T: Drop, R: RingSpan<T>>(
         return high;
     }
     let last: &T = list.get(high - 1);
-    if arc_has(&R::start_key(last), &R::end_key(last), key) {
+    let started = R::compare_start(last, key).is_le();
+    if span_has::<T, R>(last, key, started) {
         high - 1
     } else {
         high

@@ -3,11 +3,14 @@ ghost use Rattle.std.specs.Prelude.{◌≡◌, ◌<◌, ℕ};
 ghost use Rattle.std.specs.declared.cmp.Ordering.TheVariants.{Less};
 
 use page_list::Marking;
+use std::cmp::Ordering;
 use std::marker::PhantomData;
 
 /// How entries are spans, as a type of its own, so that one type of entries may be spans in several ways. What is known of an
 /// entry's arc: from its start on, and before its end. Where the end isn't after the start, the arc goes over the end of the
 /// order, and one whose start is its end is the whole ring.
+///
+/// The spans of a list are compared in place. Keys by value are asked for only of a new span, whose keys are sought.
 ///
 /// A key has a mark of eight octets, by which it is sought first. It is reckoned from a frame, as a name's from a zone's apex,
 /// and the spans of a list have one frame.
@@ -30,6 +33,16 @@ pub trait RingSpan<T> {
 
     fn frame(span: &T) -> Self::Key
         ensures { result ≡ frame span.now };
+
+    fn compare_start(span: &T, key: &Self::Key) -> Ordering
+        ensures { result ≡ Self.Key.Ord.cmp (start span.now) key.now };
+
+    fn compare_end(span: &T, key: &Self::Key) -> Ordering
+        ensures { result ≡ Self.Key.Ord.cmp (end span.now) key.now };
+
+    /// How the span's start compares with its end.
+    fn compare_ends(span: &T) -> Ordering
+        ensures { result ≡ Self.Key.Ord.cmp (start span.now) (end span.now) };
 
     fn mark(within: &Self::Key, key: &Self::Key) -> u64
         ensures { result ≡ mark within.now key.now };

@@ -28,7 +28,7 @@ pub(crate) fn starts_upto<T: Drop, R: RingSpan<T>>(
 {
     list.find_at(
         R::mark(frame, key),
-        |span| R::start_key(span).cmp(key).is_le(),
+        |span| R::compare_start(span, key).is_le(),
     )
 }
 
@@ -47,7 +47,7 @@ pub(crate) fn starts_before<T: Drop, R: RingSpan<T>>(
 {
     list.find_at(
         R::mark(frame, key),
-        |span| R::start_key(span).cmp(key).is_lt(),
+        |span| R::compare_start(span, key).is_lt(),
     )
 }
 
@@ -92,19 +92,19 @@ pub(crate) fn span_has<T: Drop, R: RingSpan<T>>(span: &T, key: &R::Key, started:
     requires { started ≡ is_le (R.Key.Ord.cmp (R.start span.now) key.now) }
     ensures { result ≡ span_has R.Key.Ord.cmp R.start R.end key.now span.now }
 {
-    let before_end = key.cmp(&R::end_key(span)).is_lt();
+    let before_end = R::compare_end(span, key).is_gt();
     if started == before_end {
         return started;
     }
     // only over the end of the order is one of the two enough
-    !R::start_key(span).cmp(&R::end_key(span)).is_lt()
+    !R::compare_ends(span).is_lt()
 }
 
 pub(crate) fn place_in<T: Drop, R: RingSpan<T>>(span: &T, key: &R::Key, started: bool) -> Place
     requires { started ≡ is_le (R.Key.Ord.cmp (R.start span.now) key.now) }
     ensures { result ≡ place_of (R.Key.Ord.cmp (R.start span.now) key.now) }
 {
-    if started && R::start_key(span).cmp(key) == Ordering::Equal {
+    if started && R::compare_start(span, key) == Ordering::Equal {
         Place::Start
     } else {
         Place::Inside

@@ -2,7 +2,7 @@
 ghost use Rattle.std.specs.Prelude.{◌≡◌, ◌<◌, ◌≤◌, ◌*◌, ◌+◌, ◌^◌};
 ghost use Rattle.record_store.specs.Marks.{mixed, hash_of, upper, zone_part, set_number};
 
-use dname::Name;
+use dname::{LentName, Name};
 
 // An odd number, as near to 2 ^ 64 over the golden ratio as one is.
 const FACTOR: u64 = 0x9E37_79B9_7F4A_7C15;
@@ -13,8 +13,15 @@ const HALF: u64 = 0x1_0000_0000;
 pub(crate) fn set_number(zone: &Name, owner: &Name, rtype: u16) -> u64
     ensures { result ≡ set_number zone.now owner.now rtype }
 {
+    lent_set_number(&zone.lent(), &owner.lent(), rtype)
+}
+
+/// The same, of names that are lent.
+pub(crate) fn lent_set_number(zone: &LentName<'_>, owner: &LentName<'_>, rtype: u16) -> u64
+    ensures { result ≡ set_number zone.now owner.now rtype }
+{
     let hash = mixed(hash_of(owner.wire()), u64::from(rtype));
-    first_of_zone(zone) + upper(hash)
+    zone_number(zone.wire()) + upper(hash)
 }
 
 /// The least number that a set of the zone may have.
@@ -22,7 +29,15 @@ pub(crate) fn first_of_zone(zone: &Name) -> u64
     ensures value { result ≡ zone_part zone.now * 2 ^ 32 }
     ensures room { result + 2 ^ 32 ≤ 2 ^ 64 }
 {
-    upper(hash_of(zone.wire())) * HALF
+    zone_number(zone.wire())
+}
+
+// The same, of the apex's wire form.
+fn zone_number(apex: &[u8]) -> u64
+    ensures value { result ≡ upper (hash_of apex.now) * 2 ^ 32 }
+    ensures room { result + 2 ^ 32 ≤ 2 ^ 64 }
+{
+    upper(hash_of(apex)) * HALF
 }
 
 fn mixed(hash: u64, number: u64) -> u64

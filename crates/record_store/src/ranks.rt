@@ -1,11 +1,12 @@
 //! The orders in which records are held.
 ghost use Rattle.std.specs.Prelude.{◌≡◌};
 ghost use Rattle.cache_meaning.specs.Held.{zone_of, expiry_of, key_cmp, set_key_cmp, nsec_key_cmp, nsec3_key_cmp};
+ghost use Rattle.dname.specs.Name.{canonical_cmp};
 ghost use Rattle.record_store.specs.Ranks.{going_cmp, set_cmp, apex_cmp};
 
-use crate::marks::set_number;
+use crate::marks::lent_set_number;
 use denial_records::{KeptNsec, KeptNsec3, KeptSet, Record};
-use dname::Name;
+use dname::{LentName, Name};
 use ordered_list::{Marking, Ranking};
 use std::cmp::Ordering;
 use zone_chains::ZoneRecords;
@@ -47,7 +48,7 @@ impl Marking<Record> for BySet {
 
     fn mark(item: &Record) -> u64 {
         match item {
-            Record::Set(set) => set_number(&set.zone().name(), &set.owner().name(), set.rtype()),
+            Record::Set(set) => lent_set_number(&set.zone(), &set.owner(), set.rtype()),
             _ => 0,
         }
     }
@@ -123,14 +124,12 @@ fn key_cmp(item: &Record, other: &Record) -> Ordering
         (Record::Set(_), _) => Ordering::Less,
         (_, Record::Set(_)) => Ordering::Greater,
         (Record::Nsec(nsec), Record::Nsec(other)) => nsec_key_cmp(nsec, other),
-        (Record::Nsec(nsec), Record::Nsec3(other)) => nsec
-            .zone()
-            .cmp(&other.zone())
-            .then(Ordering::Less),
-        (Record::Nsec3(nsec3), Record::Nsec(other)) => nsec3
-            .zone()
-            .cmp(&other.zone())
-            .then(Ordering::Greater),
+        (Record::Nsec(nsec), Record::Nsec3(other)) => {
+            zone_cmp(&nsec.zone(), &other.zone()).then(Ordering::Less)
+        }
+        (Record::Nsec3(nsec3), Record::Nsec(other)) => {
+            zone_cmp(&nsec3.zone(), &other.zone()).then(Ordering::Greater)
+        }
         (Record::Nsec3(nsec3), Record::Nsec3(other)) => nsec3_key_cmp(nsec3, other),
     }
 }
@@ -138,7 +137,7 @@ fn key_cmp(item: &Record, other: &Record) -> Ordering
 fn set_key_cmp(set: &KeptSet, other: &KeptSet) -> Ordering
     ensures { result ≡ set_key_cmp set.now other.now }
 {
-    set.zone().cmp(&other.zone()).then_with(|| set
+    zone_cmp(&set.zone(), &other.zone()).then_with(|| set
         .owner()
         .cmp(&other.owner())
         .then(set.rtype().cmp(&other.rtype())))
@@ -147,21 +146,30 @@ fn set_key_cmp(set: &KeptSet, other: &KeptSet) -> Ordering
 fn nsec_key_cmp(nsec: &KeptNsec, other: &KeptNsec) -> Ordering
     ensures { result ≡ nsec_key_cmp nsec.now other.now }
 {
-    nsec.zone()
-        .cmp(&other.zone())
-        .then(nsec.owner().cmp(&other.owner()))
+    zone_cmp(&nsec.zone(), &other.zone()).then_with(|| nsec.owner().cmp(&other.owner()))
 }
 
 fn nsec3_key_cmp(nsec3: &KeptNsec3, other: &KeptNsec3) -> Ordering
     ensures { result ≡ nsec3_key_cmp nsec3.now other.now }
 {
-    let by_salt = nsec3.salt().cmp(other.salt());
-    nsec3.zone().cmp(&other.zone()).then(
-        nsec3
-            .iterations()
-            .cmp(&other.iterations())
-            .then(by_salt.then(nsec3.hash().cmp(other.hash()))),
-    )
+    zone_cmp(&nsec3.zone(), &other.zone()).then_with(|| nsec3
+        .iterations()
+        .cmp(&other.iterations())
+        .then_with(|| nsec3
+            .salt()
+            .cmp(other.salt())
+            .then_with(|| nsec3.hash().cmp(other.hash()))))
+}
+
+// Canonical order. Most records that are compared are of one zone, and that is seen without taking names apart.
+fn zone_cmp(zone: &LentName<'_>, other: &LentName<'_>) -> Ordering
+    ensures { result ≡ canonical_cmp zone.now other.now }
+{
+    if *zone == *other {
+        Ordering::Equal
+    } else {
+        zone.cmp(other)
+    }
 }
 
 /// The apex of the zone that signed the record.

@@ -16,11 +16,11 @@ ghost use Rattle.zone_chains.specs.Changes.{joined, parted, records_with, record
 ghost use Rattle.zone_chains.specs.Met.{IsMet};
 
 use crate::met::one_met;
-use crate::nsec_span::{ByOwner, nsec_in};
+use crate::nsec_span::{ByOwner, nsec_in, zone_of};
 use crate::nsec3_span::{ByHash, NO_HASH, nsec3_in};
 use cache_meaning::{Chain, Place};
 use denial_records::{HASH_OCTETS, KeptNsec, KeptNsec3, Record};
-use dname::{LentName, Name, Octets, OutOfMemory};
+use dname::{Name, Octets, OutOfMemory};
 use range_index::{Arcs, Met};
 use std::alloc::Global;
 use std::marker::Model;
@@ -229,17 +229,6 @@ fn are_same(salt: &[u8], iterations: u16, other_salt: &[u8], other_iterations: u
         (parameters_by other_salt.now other_iterations) }
 {
     salt == other_salt && iterations == other_iterations
-}
-
-// The apex of the zone that the record is of.
-fn zone_of(item: &Record) -> LentName<'_>
-    ensures { result ≡ zone_of item.now }
-{
-    match item {
-        Record::Set(set) => set.zone(),
-        Record::Nsec(nsec) => nsec.zone(),
-        Record::Nsec3(nsec3) => nsec3.zone(),
-    }
 }
 
 // The record alone.

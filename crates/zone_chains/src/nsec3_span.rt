@@ -11,6 +11,7 @@ use crate::placed::placed;
 use cache_meaning::Place;
 use denial_records::{HASH_OCTETS, KeptNsec3, Record};
 use range_index::{Arcs, RingSpan, hash_mark};
+use std::cmp::Ordering;
 
 /// NSEC3 records as spans from their hashes to the next (RFC 5155, section 3.1.7), sought by the first octets of the hash.
 pub(crate) struct ByHash;
@@ -34,21 +35,27 @@ impl RingSpan<Record> for ByHash {
     ghost mark = { λ frame key. hash_mark key };
 
     fn start_key(item: &Record) -> [u8; HASH_OCTETS] {
-        match item {
-            Record::Nsec3(nsec3) => *nsec3.hash(),
-            _ => *NO_HASH,
-        }
+        *start_of(item)
     }
 
     fn end_key(item: &Record) -> [u8; HASH_OCTETS] {
-        match item {
-            Record::Nsec3(nsec3) => *nsec3.next(),
-            _ => *NO_HASH,
-        }
+        *end_of(item)
     }
 
     fn frame(_item: &Record) -> [u8; HASH_OCTETS] {
         *NO_HASH
+    }
+
+    fn compare_start(item: &Record, key: &[u8; HASH_OCTETS]) -> Ordering {
+        start_of(item).cmp(key)
+    }
+
+    fn compare_end(item: &Record, key: &[u8; HASH_OCTETS]) -> Ordering {
+        end_of(item).cmp(key)
+    }
+
+    fn compare_ends(item: &Record) -> Ordering {
+        start_of(item).cmp(end_of(item))
     }
 
     fn mark(_within: &[u8; HASH_OCTETS], key: &[u8; HASH_OCTETS]) -> u64 {
@@ -56,6 +63,26 @@ impl RingSpan<Record> for ByHash {
     }
 
     ghost marks_rise = { λ frame. hashes_rise };
+}
+
+// The hash at which an NSEC3 record's span starts.
+fn start_of(item: &Record) -> &[u8; HASH_OCTETS]
+    ensures { result.now ≡ nsec3_start item.now }
+{
+    match item {
+        Record::Nsec3(nsec3) => nsec3.hash(),
+        _ => NO_HASH,
+    }
+}
+
+// The hash at which it ends.
+fn end_of(item: &Record) -> &[u8; HASH_OCTETS]
+    ensures { result.now ≡ nsec3_end item.now }
+{
+    match item {
+        Record::Nsec3(nsec3) => nsec3.next(),
+        _ => NO_HASH,
+    }
 }
 
 /// The NSEC3 record whose span has the hash, and where in it.
