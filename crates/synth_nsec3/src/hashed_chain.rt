@@ -1,8 +1,10 @@
 ghost use Rattle.std.specs.Prelude.{◌≡◌};
 ghost use Rattle.cache_meaning.specs.Lent.{parameters_by};
+ghost use Rattle.nsec3_hash.specs.IteratedHash.{hash_of};
 ghost use Rattle.synth_nsec3.specs.Nsec3Evidence.{IsFound};
 
 use crate::nsec3_evidence::Nsec3Evidence;
+use denial_records::HASH_OCTETS;
 use dname::Name;
 use nsec3_hash::hash_name;
 use record_store::{Place, ZoneRef};
@@ -72,11 +74,12 @@ impl<'z, 'a> HashedChain<'z, 'a> {
         self.zone.apex()
     }
 
-    /// What the record that speaks of the name says, if it may be used. It hashes the name, once.
+    /// What the record that speaks of the name says, if it may be used. It hashes the name, once, or not where the chain keeps its
+    /// hash.
     pub(crate) fn evidence(&self, name: &Name) -> Option<Nsec3Evidence<'a>>
         ensures { IsFound self.now name.now result }
     {
-        let hash = hash_name(name, self.salt, self.iterations);
+        let hash = self.hash_of(name);
         let (nsec3, place) = self.zone.nsec3_at(self.salt, self.iterations, &hash)?;
         if u64::from(self.moment) >= nsec3.expiry() {
             return None;
@@ -85,6 +88,17 @@ impl<'z, 'a> HashedChain<'z, 'a> {
             Place::Start => Some(Nsec3Evidence::Matches(nsec3)),
             Place::Inside if nsec3.opt_out() => Some(Nsec3Evidence::Spans(nsec3)),
             Place::Inside => Some(Nsec3Evidence::Covers(nsec3)),
+        }
+    }
+
+    // The hash of the name: the one that the chain keeps, or a new one.
+    fn hash_of(&self, name: &Name) -> [u8; HASH_OCTETS]
+        ensures { result
+            ≡ hash_of name.now self.now.parameters.salt self.now.parameters.iterations }
+    {
+        match self.zone.kept_hash(name, self.salt, self.iterations) {
+            Some(hash) => *hash,
+            None => hash_name(name, self.salt, self.iterations),
         }
     }
 }

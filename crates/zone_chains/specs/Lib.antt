@@ -4,3 +4,4 @@ pub mod Spans
 pub mod Chains
 pub mod Changes
 pub mod Met
+pub mod ApexHashes

@@ -9,12 +9,14 @@ ghost use Rattle.range_index.specs.Marks.{name_mark};
 ghost use Rattle.cache_meaning.specs.Zones.{as_nsec_at, as_nsec3_at};
 ghost use Rattle.cache_meaning.specs.Evidence.{nsec_matches};
 ghost use Rattle.cache_meaning.specs.Lent.{lent_chain, parameters_by, place_by};
+ghost use Rattle.nsec3_hash.specs.IteratedHash.{hash_of};
 ghost use Rattle.zone_chains.specs.Zone.{IsChosen};
 ghost use Rattle.zone_chains.specs.Views.{IsDenial, IsOfKind, apart_in};
 ghost use Rattle.zone_chains.specs.Spans.{kind_by, records_by};
 ghost use Rattle.zone_chains.specs.Changes.{joined, parted, records_with, records_without};
 ghost use Rattle.zone_chains.specs.Met.{IsMet};
 
+use crate::apex_hashes::{ApexHashes, hashes_for, shared};
 use crate::met::one_met;
 use crate::nsec_span::{ByOwner, nsec_in, zone_of};
 use crate::nsec3_span::{ByHash, NO_HASH, nsec3_in};
@@ -31,6 +33,8 @@ use std::sync::Arc;
 pub struct ChainRecords {
     zone: Name,
     spans: ChainSpans,
+    // For speed alone: nothing is seen of them.
+    hashes: Option<Arc<ApexHashes>>,
 }
 
 #[derive(Drop)]
@@ -154,6 +158,21 @@ impl ChainRecords {
         }
     }
 
+    /// The hash of a name by that salt and number of iterations, where the chain keeps it.
+    pub(crate) fn kept_hash(
+        &self,
+        name: &Name,
+        salt: &[u8],
+        iterations: u16,
+    ) -> Option<&[u8; HASH_OCTETS]>
+        ensures { IfSome result (λ hash. hash.now ≡ hash_of name.now salt.now iterations) }
+    {
+        match &self.hashes {
+            Some(hashes) => hashes.hash(name, salt, iterations),
+            None => None,
+        }
+    }
+
     /// A chain with one record, which is of it.
     pub(crate) fn alone(alloc: Global, item: Arc<Record>) -> Result<ChainRecords, OutOfMemory>
         requires { IsDenial (arc_value item) }
@@ -161,8 +180,13 @@ impl ChainRecords {
         ensures records { IfOk result (λ made. made.records ≡ arc_value item ∷ []) }
     {
         let zone = zone_of(&item).name();
+        let hashes = hashes_for(alloc, &item)?;
         let spans = spans_of(alloc, item)?;
-        Ok(ChainRecords { zone, spans })
+        Ok(ChainRecords {
+            zone,
+            spans,
+            hashes,
+        })
     }
 
     /// With a record of the chain, in the place of those that it displaces.
@@ -174,6 +198,7 @@ impl ChainRecords {
         Ok(ChainRecords {
             zone: self.zone.copy(),
             spans,
+            hashes: shared(&self.hashes)?,
         })
     }
 
@@ -186,6 +211,7 @@ impl ChainRecords {
         Ok(ChainRecords {
             zone: self.zone.copy(),
             spans,
+            hashes: shared(&self.hashes)?,
         })
     }
 

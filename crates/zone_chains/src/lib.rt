@@ -4,6 +4,7 @@
 //! `specs/Zones.antt`).
 #![tactic(auto)]
 
+mod apex_hashes;
 mod chain_records;
 mod changes;
 mod met;
