@@ -1,5 +1,6 @@
 -- Octets that are put one after the other are put at once.
-use Rattle.std.proofs.Common.{◌≡◌, ℕ, ◌+◌, ◌<◌, ◌≤◌, true, List, [], ◌∷◌, ◌++◌, length, Option, Some, None, is_none, refl, sym, ◌∙◌, ap, arith, append_assoc, append-nil, length-append, inl, inr}
+use Rattle.std.proofs.Common.{◌≡◌, Bool, false, ℕ, ◌+◌, ◌<◌, ◌≤◌, true, List, [], ◌∷◌, ◌++◌, length, Option, Some, None, is_none, refl, sym, ◌∙◌, ap, arith, append_assoc, append-nil, length-append, inl, inr}
+use Rattle.std.specs.Prelude.{if◌then◌else◌}
 use Rattle.std.specs.List.{fold}
 use Rattle.std.proofs.lemmas.List.Sums.{fold-append}
 use Rattle.std.proofs.lemmas.Bool.Decides.{nat_tests, leb_tells}
@@ -43,17 +44,29 @@ some-put limit written (octet ∷ octets) h =
       | inr gt ↦ some-put-stop limit written octets octet gt.1
     ]
 
-pub put-over : (limit : ℕ) (octets : List ℕ) → put (record { limit = limit; written = None }) octets ≡ record { limit = limit; written = None }
+put-over : (limit : ℕ) (octets : List ℕ) → put (record { limit = limit; written = None }) octets ≡ record { limit = limit; written = None }
 unfolding put
 put-over limit octets = rw over-put refl
 
-pub put-room : (limit : ℕ) (written octets : List ℕ) → length written + length octets ≤ limit → put (record { limit = limit; written = Some written }) octets ≡ record { limit = limit; written = Some (written ++ octets) }
+put-room : (limit : ℕ) (written octets : List ℕ) → length written + length octets ≤ limit → put (record { limit = limit; written = Some written }) octets ≡ record { limit = limit; written = Some (written ++ octets) }
 unfolding put
 put-room limit written octets h = rw (some-put limit written octets (omega arith), fits limit (written ++ octets) (omega (arith, length-append written octets))) refl
 
-pub put-beyond : (limit : ℕ) (written octets : List ℕ) → length written ≤ limit → limit < length written + length octets → put (record { limit = limit; written = Some written }) octets ≡ record { limit = limit; written = None }
+put-beyond : (limit : ℕ) (written octets : List ℕ) → length written ≤ limit → limit < length written + length octets → put (record { limit = limit; written = Some written }) octets ≡ record { limit = limit; written = None }
 unfolding put
 put-beyond limit written octets h beyond = rw (some-put limit written octets h, exceeds limit (written ++ octets) (omega (arith, length-append written octets))) refl
+
+-- a draft that is over has nothing, whatever stands in its place
+pub put-fitting : (limit : ℕ) (over : Bool) (written octets : List ℕ) → length written + length octets ≤ limit
+    → put (record { limit = limit; written = if over then None else Some written }) octets
+    ≡ record { limit = limit; written = if over then None else Some (written ++ octets) }
+put-fitting limit true written octets h = put-over limit octets
+put-fitting limit false written octets h = put-room limit written octets h
+
+pub put-too_long : (limit : ℕ) (over : Bool) (written octets : List ℕ) → length written ≤ limit → limit < length written + length octets
+    → put (record { limit = limit; written = if over then None else Some written }) octets ≡ record { limit = limit; written = None }
+put-too_long limit true written octets h beyond = put-over limit octets
+put-too_long limit false written octets h beyond = put-beyond limit written octets h beyond
 
 -- a blank draft takes what is within the limit
 pub put-blank : (limit : ℕ) (octets : List ℕ) → put (blank limit) octets ≡ record { limit = limit; written = within limit octets }

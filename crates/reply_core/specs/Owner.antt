@@ -6,5 +6,5 @@ use Rattle.reply_core.specs.declared.owner.Owner.TheVariants.{Name, Hashed}
 
 -- the labels of an owner name
 abbrev pub labels_of : Owner → List Label
-labels_of (Name name) = name.now
-labels_of (Hashed text zone) = text ∷ zone.now
+labels_of (Name name) = name
+labels_of (Hashed text zone) = text ∷ zone

@@ -18,7 +18,7 @@ pub(crate) struct Draft {
 }
 
 impl Model for Draft {
-    ghost use Rattle.std.specs.Prelude.{◌≡◌, ◌≤◌, true, [], length, if◌then◌else◌, Some, None};
+    ghost use Rattle.std.specs.Prelude.{◌≤◌, length, if◌then◌else◌, Some, None};
     ghost use Rattle.reply_core.specs.Draft.{Contents};
     ghost use Rattle.reply_core.specs.declared.draft.TheConstants.{MAX_REPLY};
 
@@ -29,8 +29,7 @@ impl Model for Draft {
       written = (if d.over then None else Some d.octets.items);
     } };
 
-    ghost invariant = { λ d. (d.limit ≤ MAX_REPLY) × (d.over ≡ true → d.octets.items ≡ [])
-        × (length d.octets.items ≤ d.limit) };
+    ghost invariant = { λ d. (d.limit ≤ MAX_REPLY) × (length d.octets.items ≤ d.limit) };
 }
 
 impl Draft {
@@ -60,11 +59,7 @@ impl Draft {
     pub(crate) fn put(&mut self, octets: &[u8])
         ensures { self.new ≡ put self.old octets.now }
     {
-        if self.over {
-            return;
-        }
         if self.octets.len() + octets.len() > self.limit {
-            self.octets.clear();
             self.over = true;
             return;
         }
@@ -83,6 +78,9 @@ impl Draft {
         ensures value { result.now ≡ octets_of self.now.written }
         ensures fits { length result.now ≤ MAX_REPLY }
     {
+        if self.over {
+            return &[];
+        }
         self.octets.as_slice()
     }
 }

@@ -3,14 +3,14 @@ ghost use Rattle.dname.specs.Name.{wire_of};
 ghost use Rattle.reply_core.specs.Draft.{put};
 
 use crate::draft::Draft;
-use dname::Name;
+use dname::LentName;
 
 /// The owner name of records.
 #[derive(Debug, Drop)]
 pub(crate) enum Owner<'a> {
-    Name(&'a Name),
+    Name(LentName<'a>),
     /// The text of a hash in front of its zone (RFC 5155, section 3), which may have more octets than a name.
-    Hashed([u8; 32], &'a Name),
+    Hashed([u8; 32], LentName<'a>),
 }
 
 impl Owner<'_> {
@@ -23,7 +23,7 @@ impl Owner<'_> {
         match self {
             Owner::Name(name) => draft.put(name.wire()),
             Owner::Hashed(text, zone) => {
-                put_label(draft, text);
+                draft.put(&label_of(text));
                 draft.put(zone.wire());
             }
         }
@@ -31,9 +31,10 @@ impl Owner<'_> {
 }
 
 // The label that is a hash's text, after its length.
-fn put_label(draft: &mut Draft, text: &[u8; 32])
-    ensures { draft.new ≡ put draft.old (length text.now ∷ text.now) }
+fn label_of(text: &[u8; 32]) -> [u8; 33]
+    ensures { result ≡ length text.now ∷ text.now }
 {
-    draft.put(&[32]);
-    draft.put(text.as_slice());
+    let mut label = [32; 33];
+    label[1..].copy_from_slice(text);
+    label
 }

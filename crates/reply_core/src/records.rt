@@ -14,13 +14,13 @@ use crate::draft::Draft;
 use crate::owner::Owner;
 use denial_records::{Denial, KeptNsec, KeptNsec3, KeptSet};
 use dname::types::{IN_CLASS, NSEC_TYPE, NSEC3_TYPE, RRSIG_TYPE};
-use dname::{Name, Packed};
+use dname::{LentName, Name, Packed};
 use nsec3_hash::to_base32hex;
 
 // The records of a set with this owner, and its signatures where the client wants them.
-fn put_set(draft: &mut Draft, ttl: u32, dnssec: bool, owner: &Name, set: &KeptSet)
+fn put_set(draft: &mut Draft, ttl: u32, dnssec: bool, owner: LentName<'_>, set: &KeptSet)
     ensures { draft.new ≡ put draft.old
-        (flat_map (record_octets ttl) (set_records dnssec owner.now (kept.Set set.now))) }
+        (flat_map (record_octets ttl) (set_records dnssec owner.entry (kept.Set set.now))) }
 {
     let owner = Owner::Name(owner);
     put_list(draft, ttl, &owner, set.rtype(), &set.items());
@@ -34,7 +34,7 @@ pub(crate) fn put_soa(draft: &mut Draft, ttl: u32, dnssec: bool, soa: Option<&Ke
         (listed (option_copied soa.entry)))) }
 {
     if let Some(soa) = soa {
-        put_set(draft, ttl, dnssec, &soa.owner().name(), soa);
+        put_set(draft, ttl, dnssec, soa.owner(), soa);
     }
 }
 
@@ -50,7 +50,7 @@ pub(crate) fn put_answer(
         (flat_map (set_records dnssec owner.now) (listed (option_copied answer.entry)))) }
 {
     if let Some(answer) = answer {
-        put_set(draft, ttl, dnssec, owner, answer);
+        put_set(draft, ttl, dnssec, owner.lent(), answer);
     }
 }
 
@@ -73,8 +73,7 @@ fn put_nsec(draft: &mut Draft, ttl: u32, nsec: &KeptNsec)
     ensures { draft.new ≡ put draft.old
         (flat_map (record_octets ttl) (proof_records true (kept.Nsec nsec.now))) }
 {
-    let name = nsec.owner().name();
-    let owner = Owner::Name(&name);
+    let owner = Owner::Name(nsec.owner());
     put_record(draft, ttl, &owner, NSEC_TYPE, nsec.image());
     put_list(draft, ttl, &owner, RRSIG_TYPE, &nsec.signatures());
 }
@@ -83,8 +82,7 @@ fn put_nsec3(draft: &mut Draft, ttl: u32, nsec3: &KeptNsec3)
     ensures { draft.new ≡ put draft.old
         (flat_map (record_octets ttl) (proof_records true (kept.Nsec3 nsec3.now))) }
 {
-    let zone = nsec3.zone().name();
-    let owner = Owner::Hashed(to_base32hex(nsec3.hash()), &zone);
+    let owner = Owner::Hashed(to_base32hex(nsec3.hash()), nsec3.zone());
     put_record(draft, ttl, &owner, NSEC3_TYPE, nsec3.image());
     put_list(draft, ttl, &owner, RRSIG_TYPE, &nsec3.signatures());
 }
