@@ -1,4 +1,5 @@
 pub mod KeptLemmas
+pub mod OffsetLemmas
 pub mod PartsLemmas
 pub mod RisingLemmas
 pub mod TypeSetLemmas

@@ -1,6 +1,7 @@
 ghost use Rattle.std.specs.Prelude.{◌≡◌, IfOk};
 
-use crate::pieces::{name_at, piece_at, push_all, types_at};
+use crate::kept_strings::KeptStrings;
+use crate::pieces::push_all;
 use crate::{LentTypes, NsecRec};
 use dname::{LentName, OutOfMemory, Pack, Packed};
 use std::alloc::Global;
@@ -11,7 +12,7 @@ use std::marker::Model;
 pub struct KeptNsec {
     expiry: u64,
     life: u32,
-    pack: Pack,
+    strings: KeptStrings<5>,
 }
 
 impl Model for KeptNsec {
@@ -21,9 +22,9 @@ impl Model for KeptNsec {
 
     ghost use Rattle.denial_records.specs.Kept.{nsec_in, HoldsNsec};
 
-    ghost view = { λ k. nsec_in k.pack k.life k.expiry };
+    ghost view = { λ k. nsec_in k.strings k.life k.expiry };
 
-    ghost invariant = { λ k. HoldsNsec k.pack };
+    ghost invariant = { λ k. HoldsNsec k.strings };
 }
 
 impl KeptNsec {
@@ -41,7 +42,7 @@ impl KeptNsec {
         Ok(KeptNsec {
             expiry: nsec.expiry,
             life: nsec.life,
-            pack,
+            strings: KeptStrings::of(pack)?,
         })
     }
 
@@ -52,7 +53,7 @@ impl KeptNsec {
         Ok(KeptNsec {
             expiry: self.expiry,
             life: self.life,
-            pack: self.pack.copy(alloc)?,
+            strings: self.strings.copy(alloc)?,
         })
     }
 
@@ -60,28 +61,28 @@ impl KeptNsec {
     pub fn zone(&self) -> LentName<'_>
         ensures { result ≡ self.now.zone }
     {
-        name_at(&self.pack, 0)
+        self.strings.name(0)
     }
 
     /// The owner name.
     pub fn owner(&self) -> LentName<'_>
         ensures { result ≡ self.now.owner }
     {
-        name_at(&self.pack, 1)
+        self.strings.name(1)
     }
 
     /// The next owner name in canonical order.
     pub fn next(&self) -> LentName<'_>
         ensures { result ≡ self.now.next }
     {
-        name_at(&self.pack, 2)
+        self.strings.name(2)
     }
 
     /// The types that there are at the owner name.
     pub fn types(&self) -> LentTypes<'_>
         ensures { result ≡ self.now.types }
     {
-        types_at(&self.pack, 3)
+        self.strings.types(3)
     }
 
     /// The TTL that it may have at most, in seconds.
@@ -102,13 +103,13 @@ impl KeptNsec {
     pub fn image(&self) -> &[u8]
         ensures { result.now ≡ self.now.image }
     {
-        piece_at(&self.pack, 4)
+        self.strings.get(4)
     }
 
     /// The data of each RRSIG record.
     pub fn signatures(&self) -> Packed<'_>
         ensures { result ≡ self.now.signatures }
     {
-        self.pack.packed().behind(5)
+        self.strings.behind(5)
     }
 }

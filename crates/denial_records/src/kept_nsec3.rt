@@ -1,6 +1,7 @@
 ghost use Rattle.std.specs.Prelude.{◌≡◌, IfOk};
 
-use crate::pieces::{name_at, piece_at, push_all, types_at};
+use crate::kept_strings::KeptStrings;
+use crate::pieces::push_all;
 use crate::{HASH_OCTETS, LentTypes, Nsec3Rec};
 use dname::{LentName, OutOfMemory, Pack, Packed};
 use std::alloc::Global;
@@ -15,7 +16,7 @@ pub struct KeptNsec3 {
     opt_out: bool,
     hash: [u8; HASH_OCTETS],
     next: [u8; HASH_OCTETS],
-    pack: Pack,
+    strings: KeptStrings<4>,
 }
 
 impl Model for KeptNsec3 {
@@ -25,9 +26,9 @@ impl Model for KeptNsec3 {
 
     ghost use Rattle.denial_records.specs.Kept.{nsec3_in, HoldsNsec3};
 
-    ghost view = { λ k. nsec3_in k.pack k.hash k.next k.iterations k.opt_out k.life k.expiry };
+    ghost view = { λ k. nsec3_in k.strings k.hash k.next k.iterations k.opt_out k.life k.expiry };
 
-    ghost invariant = { λ k. HoldsNsec3 k.pack };
+    ghost invariant = { λ k. HoldsNsec3 k.strings };
 }
 
 impl KeptNsec3 {
@@ -48,7 +49,7 @@ impl KeptNsec3 {
             opt_out: nsec3.opt_out,
             hash: nsec3.hash,
             next: nsec3.next,
-            pack,
+            strings: KeptStrings::of(pack)?,
         })
     }
 
@@ -63,7 +64,7 @@ impl KeptNsec3 {
             opt_out: self.opt_out,
             hash: self.hash,
             next: self.next,
-            pack: self.pack.copy(alloc)?,
+            strings: self.strings.copy(alloc)?,
         })
     }
 
@@ -71,7 +72,7 @@ impl KeptNsec3 {
     pub fn zone(&self) -> LentName<'_>
         ensures { result ≡ self.now.zone }
     {
-        name_at(&self.pack, 0)
+        self.strings.name(0)
     }
 
     /// The owner's hashed name.
@@ -92,7 +93,7 @@ impl KeptNsec3 {
     pub fn salt(&self) -> &[u8]
         ensures { result.now ≡ self.now.salt }
     {
-        piece_at(&self.pack, 1)
+        self.strings.get(1)
     }
 
     /// How often the hash is taken again, the first time not counted.
@@ -113,7 +114,7 @@ impl KeptNsec3 {
     pub fn types(&self) -> LentTypes<'_>
         ensures { result ≡ self.now.types }
     {
-        types_at(&self.pack, 2)
+        self.strings.types(2)
     }
 
     /// The TTL that it may have at most, in seconds.
@@ -134,13 +135,13 @@ impl KeptNsec3 {
     pub fn image(&self) -> &[u8]
         ensures { result.now ≡ self.now.image }
     {
-        piece_at(&self.pack, 3)
+        self.strings.get(3)
     }
 
     /// The data of each RRSIG record.
     pub fn signatures(&self) -> Packed<'_>
         ensures { result ≡ self.now.signatures }
     {
-        self.pack.packed().behind(4)
+        self.strings.behind(4)
     }
 }

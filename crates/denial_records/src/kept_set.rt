@@ -1,7 +1,8 @@
 ghost use Rattle.std.specs.Prelude.{◌≡◌, IfOk};
 
 use crate::SetRec;
-use crate::pieces::{name_at, pack_of, piece_at, push_all};
+use crate::kept_strings::KeptStrings;
+use crate::pieces::{pack_of, push_all};
 use dname::{LentName, OutOfMemory, Pack, Packed};
 use std::alloc::Global;
 use std::marker::Model;
@@ -12,7 +13,7 @@ pub struct KeptSet {
     expiry: u64,
     life: u32,
     rtype: u16,
-    pack: Pack,
+    strings: KeptStrings<3>,
 }
 
 impl Model for KeptSet {
@@ -22,9 +23,9 @@ impl Model for KeptSet {
 
     ghost use Rattle.denial_records.specs.Kept.{set_in, HoldsSet};
 
-    ghost view = { λ k. set_in k.pack k.rtype k.life k.expiry };
+    ghost view = { λ k. set_in k.strings k.rtype k.life k.expiry };
 
-    ghost invariant = { λ k. HoldsSet k.pack };
+    ghost invariant = { λ k. HoldsSet k.strings };
 }
 
 impl KeptSet {
@@ -42,7 +43,7 @@ impl KeptSet {
             expiry: set.expiry,
             life: set.life,
             rtype: set.rtype,
-            pack,
+            strings: KeptStrings::of(pack)?,
         })
     }
 
@@ -54,7 +55,7 @@ impl KeptSet {
             expiry: self.expiry,
             life: self.life,
             rtype: self.rtype,
-            pack: self.pack.copy(alloc)?,
+            strings: self.strings.copy(alloc)?,
         })
     }
 
@@ -62,14 +63,14 @@ impl KeptSet {
     pub fn zone(&self) -> LentName<'_>
         ensures { result ≡ self.now.zone }
     {
-        name_at(&self.pack, 0)
+        self.strings.name(0)
     }
 
     /// The owner name.
     pub fn owner(&self) -> LentName<'_>
         ensures { result ≡ self.now.owner }
     {
-        name_at(&self.pack, 1)
+        self.strings.name(1)
     }
 
     /// Its type.
@@ -97,13 +98,13 @@ impl KeptSet {
     pub fn items(&self) -> Packed<'_>
         ensures { result ≡ self.now.items }
     {
-        Packed::of(piece_at(&self.pack, 2))
+        Packed::of(self.strings.get(2))
     }
 
     /// The data of each RRSIG record.
     pub fn signatures(&self) -> Packed<'_>
         ensures { result ≡ self.now.signatures }
     {
-        self.pack.packed().behind(3)
+        self.strings.behind(3)
     }
 }

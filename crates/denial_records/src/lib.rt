@@ -9,6 +9,7 @@ mod batch;
 mod kept_nsec;
 mod kept_nsec3;
 mod kept_set;
+mod kept_strings;
 mod nsec3_parts;
 mod nsec3_rec;
 mod nsec_parts;
