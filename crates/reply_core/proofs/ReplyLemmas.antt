@@ -1,11 +1,11 @@
 -- A reply is whole within the limit, and else truncated.
-use Rattle.std.proofs.Common.{◌≡◌, ℕ, ◌≤◌, true, false, List, ◌++◌, length, Some, None, is_none, inl, inr, refl, ◌∙◌, ap}
-use Rattle.std.specs.Prelude.{nat_le, if◌then◌else◌}
+use Rattle.std.proofs.Common.{◌≡◌, ℕ, ◌≤◌, true, false, List, ◌++◌, length, Some, None, is_none, inl, inr, refl, sym, ◌∙◌, ap}
+use Rattle.std.specs.Prelude.{nat_le, slice_set, slice_index_or, if◌then◌else◌}
 use Rattle.std.specs.List.{flat_map}
 use Rattle.std.proofs.lemmas.Bool.Decides.{leb_tells}
 use Rattle.byteorder.specs.Endian.{big_bytes}
-use Rattle.reply_core.specs.Count.{count16}
-use Rattle.reply_core.specs.Draft.{Contents, within, put, blank}
+use Rattle.reply_core.specs.Count.{count16, HasPut}
+use Rattle.reply_core.specs.Draft.{Contents, within, put, set_octet, blank}
 use Rattle.reply_core.specs.Reply.{ReplyRecord, record_octets, header_octets}
 use Rattle.reply_core.proofs.DraftLemmas.{put-put, put-blank, fits}
 use Rattle.reply_core.proofs.RecordLemmas.{put-records}
@@ -52,8 +52,46 @@ header-counts id flags questions additionals answers authorities =
     ap (λ n. header_with id flags questions additionals n (big_bytes 2 (count16 authorities))) (big_bytes-low16 (length answers))
     ∙ ap (header_with id flags questions additionals (big_bytes 2 (length answers))) (big_bytes-low16 (length authorities))
 
-pub put-parts : (ttl : ℕ) (draft : Contents) (head asked opt : List ℕ) (answers authorities : List ReplyRecord)
-    → put (put (put (put (put draft head) asked) (flat_map (record_octets ttl) answers)) (flat_map (record_octets ttl) authorities)) opt
-    ≡ put draft (head ++ asked ++ flat_map (record_octets ttl) (answers ++ authorities) ++ opt)
-put-parts ttl draft head asked opt answers authorities =
-    rw (put-records ttl (put (put draft head) asked) answers authorities) (simp put-put)
+-- a reply's parts, one after the other
+pub put-parts : (ttl : ℕ) (blank with_head asked with_answers with_both all : Contents) (head question opt : List ℕ) (a b : ℕ) (answers authorities : List ReplyRecord)
+    → with_head ≡ put blank head → asked ≡ put with_head question
+    → HasPut ttl asked with_answers a answers → HasPut ttl with_answers with_both b authorities → all ≡ put with_both opt
+    → all ≡ put blank (head ++ question ++ flat_map (record_octets ttl) (answers ++ authorities) ++ opt)
+put-parts ttl blank with_head asked with_answers with_both all head question opt a b answers authorities is1 is2 one two is3 =
+    rw (is3, two.octets, one.octets, is2, is1, put-records ttl (put (put blank head) question) answers authorities) (simp put-put)
+
+-- numbers of answers and authorities over those of a header
+abbrev set_four : List ℕ → ℕ → ℕ → ℕ → ℕ → List ℕ
+set_four octets a b c d = slice_set (slice_set (slice_set (slice_set octets 6 a) 7 b) 8 c) 9 d
+
+set_four-header : (id flags questions additionals answers authorities : ℕ) (first second rest : List ℕ)
+    → first ≡ big_bytes 2 answers → second ≡ big_bytes 2 authorities
+    → set_four (header_octets id flags questions 0 0 additionals ++ rest) (slice_index_or first 0 0) (slice_index_or first 1 0) (slice_index_or second 0 0) (slice_index_or second 1 0)
+    ≡ header_octets id flags questions answers authorities additionals ++ rest
+set_four-header id flags questions additionals answers authorities first second rest is1 is2 = rw (is1, is2) refl
+
+set_four-within : (limit : ℕ) (octets : List ℕ) (a b c d : ℕ) → length (set_four octets a b c d) ≡ length octets
+    → set_octet (set_octet (set_octet (set_octet (record { limit = limit; written = within limit octets }) 6 a) 7 b) 8 c) 9 d
+    ≡ record { limit = limit; written = within limit (set_four octets a b c d) }
+set_four-within limit octets a b c d same =
+    elim (leb_tells (length octets) limit) [
+      | inl le ↦ rw (same, le.0) refl
+      | inr gt ↦ rw (same, gt.0) refl
+    ]
+
+pub counts-set : (limit id flags questions additionals answers authorities : ℕ) (first second rest : List ℕ) (before after : Contents)
+    → first ≡ big_bytes 2 answers → second ≡ big_bytes 2 authorities
+    → after ≡ set_octet (set_octet (set_octet (set_octet before 6 (slice_index_or first 0 0)) 7 (slice_index_or first 1 0)) 8 (slice_index_or second 0 0)) 9 (slice_index_or second 1 0)
+    → before ≡ put (blank limit) (header_octets id flags questions 0 0 additionals ++ rest)
+    → after ≡ put (blank limit) (header_octets id flags questions answers authorities additionals ++ rest)
+counts-set limit id flags questions additionals answers authorities first second rest before after is1 is2 is was =
+    let octets = header_octets id flags questions 0 0 additionals ++ rest in
+    let a = slice_index_or first 0 0 in
+    let b = slice_index_or first 1 0 in
+    let c = slice_index_or second 0 0 in
+    let d = slice_index_or second 1 0 in
+    is
+    ∙ ap (λ draft. set_octet (set_octet (set_octet (set_octet draft 6 a) 7 b) 8 c) 9 d) (was ∙ put-blank limit octets)
+    ∙ set_four-within limit octets a b c d refl
+    ∙ ap (λ octets. record { limit = limit; written = within limit octets }) (set_four-header id flags questions additionals answers authorities first second rest is1 is2)
+    ∙ sym (put-blank limit (header_octets id flags questions answers authorities additionals ++ rest))

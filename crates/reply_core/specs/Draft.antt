@@ -1,6 +1,7 @@
 -- No public clause cites this module. Octets that are put one after the other, up to a limit.
-use Rattle.std.specs.Prelude.{ℕ, if◌then◌else◌, nat_le, List, [], ◌∷◌, ◌++◌, length, Option, Some, None}
+use Rattle.std.specs.Prelude.{ℕ, if◌then◌else◌, nat_le, List, [], ◌∷◌, ◌++◌, length, slice_set, Option, Some, None}
 use Rattle.std.specs.List.{fold}
+use Rattle.std.specs.Option.{option_map}
 
 -- what a draft has: the octets that were put, or none once there were more than the limit
 pub record Contents : Type 0 where
@@ -21,6 +22,13 @@ unfoldable pub put : Contents → List ℕ → Contents
 put draft octets = record {
   limit = draft.limit;
   written = fold (put_octet draft.limit) draft.written octets;
+}
+
+-- the draft with an octet in place of that at a place
+abbrev pub set_octet : Contents → ℕ → ℕ → Contents
+set_octet draft at octet = record {
+  limit = draft.limit;
+  written = option_map (λ octets. slice_set octets at octet) draft.written;
 }
 
 -- a draft with nothing in it

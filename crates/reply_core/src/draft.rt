@@ -1,5 +1,5 @@
 ghost use Rattle.std.specs.Prelude.{◌≡◌, ◌≤◌, length, is_none};
-ghost use Rattle.reply_core.specs.Draft.{put, blank, octets_of};
+ghost use Rattle.reply_core.specs.Draft.{put, set_octet, blank, octets_of};
 ghost use Rattle.reply_core.specs.declared.draft.TheConstants.{MAX_REPLY};
 
 use arrayvec::ArrayVec;
@@ -65,6 +65,15 @@ impl Draft {
         }
         let fitted = self.octets.try_extend_from_slice(octets).is_ok();
         prove!(fitted);
+    }
+
+    /// Writes an octet over the one at place `at`, where there is one.
+    pub(crate) fn set(&mut self, at: usize, octet: u8)
+        ensures { self.new ≡ set_octet self.old at octet }
+    {
+        if at < self.octets.len() {
+            self.octets.as_mut_slice()[at] = octet;
+        }
     }
 
     /// Whether more was put than the limit.

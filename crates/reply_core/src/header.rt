@@ -1,6 +1,6 @@
-ghost use Rattle.std.specs.Prelude.{◌≡◌, ◌≤◌, length, Some};
+ghost use Rattle.std.specs.Prelude.{◌≡◌, ◌≤◌, ◌++◌, ℕ, List, length, Some};
 ghost use Rattle.reply_core.specs.Reply.{wants_dnssec, flag, rcode_of, head_of, flags_of, reply_flags, header_octets, opt_octets, opt_count, bare_octets};
-ghost use Rattle.reply_core.specs.Draft.{put};
+ghost use Rattle.reply_core.specs.Draft.{put, blank};
 ghost use Rattle.dnswire.specs.declared.edns.TheConstants.{LEAST_PAYLOAD};
 ghost use Rattle.dnswire.specs.declared.question.TheConstants.{MAX_ASKED};
 
@@ -70,6 +70,21 @@ pub(crate) fn put_header(
         ≡ put draft.old (header_octets id flags questions answers authorities additionals) }
 {
     draft.put(&header(id, flags, questions, answers, authorities, additionals));
+}
+
+/// Writes these numbers of answers and authorities over those of the header with which the draft begins.
+pub(crate) fn set_counts(draft: &mut Draft, answers: u16, authorities: u16)
+    ensures { (limit id flags questions additionals : ℕ) (rest : List ℕ)
+        → draft.old ≡ put (blank limit) (header_octets id flags questions 0 0 additionals ++ rest)
+        → draft.new ≡ put (blank limit)
+        (header_octets id flags questions answers authorities additionals ++ rest) }
+{
+    let [answers_high, answers_low] = answers.to_be_bytes();
+    let [authorities_high, authorities_low] = authorities.to_be_bytes();
+    draft.set(6, answers_high);
+    draft.set(7, answers_low);
+    draft.set(8, authorities_high);
+    draft.set(9, authorities_low);
 }
 
 fn header(

@@ -6,7 +6,6 @@
 #![tactic(auto)]
 
 mod ask;
-mod counts;
 mod draft;
 mod error;
 mod header;

@@ -1,17 +1,16 @@
 ghost use Rattle.std.specs.Prelude.{◌≡◌, ◌≤◌, ◌++◌, length, true, Some};
 ghost use Rattle.std.specs.List.{flat_map};
-ghost use Rattle.reply_core.specs.Count.{count16};
-ghost use Rattle.reply_core.specs.Draft.{put};
+ghost use Rattle.reply_core.specs.Count.{HasPut};
+ghost use Rattle.reply_core.specs.Draft.{put, blank};
 ghost use Rattle.reply_core.specs.Reply.{record_octets, reply_flags, answer_records, authority_records, whole_octets, truncated_octets, reply_octets, limit_of};
 ghost use Rattle.reply_core.specs.Shown.{shown_by};
 ghost use Rattle.dnswire.specs.declared.edns.TheConstants.{LEAST_PAYLOAD};
 ghost use Rattle.reply_core.specs.declared.draft.TheConstants.{MAX_REPLY};
 
 use crate::ReplyBuffer;
-use crate::counts::{count_denial, count_set};
 use crate::draft::{Draft, MAX_REPLY};
 use crate::header::{
-    opt_count, put_bare, put_header, put_opt, put_question, reply_flags, wants_dnssec,
+    opt_count, put_bare, put_header, put_opt, put_question, reply_flags, set_counts, wants_dnssec,
 };
 use crate::records::{put_answer, put_denial, put_soa};
 use denial_records::{Kind, Verdict};
@@ -33,27 +32,28 @@ fn fill(draft: &mut Draft, question: &Question, verdict: &Verdict<'_>)
         ≤ limit_of question.now.edns }
 {
     let limit = limit_of(question.edns);
-    draft.restart(limit);
-    put_whole(draft, question, verdict);
+    put_whole(draft, limit, question, verdict);
     if draft.is_over() {
         draft.restart(limit);
         put_truncated(draft, question, verdict.kind);
     }
 }
 
-fn put_whole(draft: &mut Draft, question: &Question, verdict: &Verdict<'_>)
+// The reply with all its records, in place of what the draft held.
+fn put_whole(draft: &mut Draft, limit: usize, question: &Question, verdict: &Verdict<'_>)
+    requires { limit ≤ MAX_REPLY }
     ensures { draft.new
-        ≡ put draft.old (whole_octets question.now (shown_by verdict.now) verdict.now.ttl) }
+        ≡ put (blank limit) (whole_octets question.now (shown_by verdict.now) verdict.now.ttl) }
 {
-    let answers = count_answers(question, verdict);
-    let authorities = count_authorities(question, verdict);
     let flags = reply_flags(question, verdict.kind, false);
     let opts = opt_count(question.edns);
-    put_header(draft, question.id, flags, 1, answers, authorities, opts);
+    draft.restart(limit);
+    put_header(draft, question.id, flags, 1, 0, 0, opts);
     put_question(draft, question);
-    put_answers(draft, question, verdict);
-    put_authorities(draft, question, verdict);
+    let answers = put_answers(draft, question, verdict);
+    let authorities = put_authorities(draft, question, verdict);
     put_opt(draft, 0, question.edns);
+    set_counts(draft, answers, authorities);
 }
 
 fn put_truncated(draft: &mut Draft, question: &Question, kind: Kind)
@@ -64,9 +64,10 @@ fn put_truncated(draft: &mut Draft, question: &Question, kind: Kind)
     put_bare(draft, question, flags, 0);
 }
 
-fn put_answers(draft: &mut Draft, question: &Question, verdict: &Verdict<'_>)
-    ensures { draft.new ≡ put draft.old (flat_map (record_octets verdict.now.ttl)
-        (answer_records question.now (shown_by verdict.now))) }
+// The records of the answer section, and their number modulo 2^16.
+fn put_answers(draft: &mut Draft, question: &Question, verdict: &Verdict<'_>) -> u16
+    ensures { HasPut verdict.now.ttl draft.old draft.new result
+        (answer_records question.now (shown_by verdict.now)) }
 {
     let dnssec = wants_dnssec(question);
     put_answer(
@@ -75,34 +76,19 @@ fn put_answers(draft: &mut Draft, question: &Question, verdict: &Verdict<'_>)
         dnssec,
         &question.name,
         verdict.answer_set,
-    );
+    )
 }
 
-fn put_authorities(draft: &mut Draft, question: &Question, verdict: &Verdict<'_>)
-    ensures { draft.new ≡ put draft.old (flat_map (record_octets verdict.now.ttl)
-        (authority_records question.now (shown_by verdict.now))) }
+// The records of the authority section, and their number modulo 2^16.
+fn put_authorities(draft: &mut Draft, question: &Question, verdict: &Verdict<'_>) -> u16
+    ensures { HasPut verdict.now.ttl draft.old draft.new result
+        (authority_records question.now (shown_by verdict.now)) }
 {
     let dnssec = wants_dnssec(question);
-    put_soa(draft, verdict.ttl, dnssec, verdict.soa);
-    put_denial(draft, verdict.ttl, dnssec, &verdict.first);
-    put_denial(draft, verdict.ttl, dnssec, &verdict.second);
-    put_denial(draft, verdict.ttl, dnssec, &verdict.third);
-}
-
-fn count_answers(question: &Question, verdict: &Verdict<'_>) -> u16
-    ensures { result ≡ count16 (answer_records question.now (shown_by verdict.now)) }
-{
-    count_set(verdict.answer_set, wants_dnssec(question))
-}
-
-fn count_authorities(question: &Question, verdict: &Verdict<'_>) -> u16
-    ensures { result ≡ count16 (authority_records question.now (shown_by verdict.now)) }
-{
-    let dnssec = wants_dnssec(question);
-    count_set(verdict.soa, dnssec)
-        .wrapping_add(count_denial(&verdict.first, dnssec))
-        .wrapping_add(count_denial(&verdict.second, dnssec))
-        .wrapping_add(count_denial(&verdict.third, dnssec))
+    put_soa(draft, verdict.ttl, dnssec, verdict.soa)
+        .wrapping_add(put_denial(draft, verdict.ttl, dnssec, &verdict.first))
+        .wrapping_add(put_denial(draft, verdict.ttl, dnssec, &verdict.second))
+        .wrapping_add(put_denial(draft, verdict.ttl, dnssec, &verdict.third))
 }
 
 const LEAST: usize = LEAST_PAYLOAD as usize;

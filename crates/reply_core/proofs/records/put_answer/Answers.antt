@@ -1,6 +1,5 @@
-use Rattle.std.proofs.Common.{sym}
-use Rattle.reply_core.proofs.DraftLemmas.{put-nil}
+use Rattle.reply_core.proofs.RecordLemmas.{has_put-none}
 use Rattle.reply_core.proofs.records.put_answer.Goals as goal
 
-pub returns-in_default : goal.returns-in_default
-returns-in_default c = rw c.in_default.is (sym (put-nil c.args.draft.now))
+pub returns-in-None : goal.returns-in-None
+returns-in-None c = rw c.in-None.is (has_put-none c.args.ttl c.args.draft.now)

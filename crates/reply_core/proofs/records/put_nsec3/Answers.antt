@@ -1,5 +1,8 @@
-use Rattle.reply_core.proofs.DraftLemmas.{put-put}
+use Rattle.std.proofs.Common.{refl}
+use Rattle.reply_core.proofs.RecordLemmas.{has_put-more}
 use Rattle.reply_core.proofs.records.put_nsec3.Goals as goal
 
 pub returns : goal.returns
-returns c = rw (c.put_list.ensures, c.put_record.ensures, c.image.ensures, c.signatures.ensures, c.to_base32hex.ensures, c.hash.ensures, c.zone.ensures) (put-put c.args.draft.now _ _)
+returns c =
+    rw (← c.image.ensures, ← c.signatures.ensures, ← c.zone.ensures, ← c.hash.ensures, ← c.to_base32hex.ensures)
+    (has_put-more _ _ _ _ _ _ _ _ c.put_record.ensures c.put_list.ensures refl)

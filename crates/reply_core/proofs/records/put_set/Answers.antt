@@ -1,5 +1,8 @@
-use Rattle.reply_core.proofs.RecordLemmas.{put-records}
+use Rattle.std.proofs.Common.{refl}
+use Rattle.reply_core.proofs.RecordLemmas.{has_put-both}
 use Rattle.reply_core.proofs.records.put_set.Goals as goal
 
 pub returns : goal.returns
-returns c = rw (c.put_signatures.ensures, c.put_list.ensures, c.rtype.ensures, c.items.ensures, c.signatures.ensures) (put-records c.args.ttl c.args.draft.now _ _)
+returns c =
+    rw (← c.rtype.ensures, ← c.items.ensures, ← c.signatures.ensures)
+    (has_put-both _ _ _ _ _ _ _ _ _ c.put_list-items.ensures c.put_signatures.ensures refl)

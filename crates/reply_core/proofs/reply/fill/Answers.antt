@@ -14,9 +14,9 @@ returns-then-is_over c =
     record {
       value =
           written-truncated limit whole truncated c.put_whole.new.draft c.put_truncated.new.draft
-          (c.put_whole.ensures ∙ ap (λ s. put s whole) (c.restart.ensures ∙ ap blank c.limit_of-limit.ensures.value))
+          (c.put_whole.ensures ∙ ap (λ most. put (blank most) whole) c.limit_of-limit.ensures.value)
           (sym c.is_over.ensures ∙ c.if-is_over.true)
-          (c.put_truncated.ensures.value ∙ ap (λ s. put s truncated) (c.restart-then-is_over.ensures ∙ ap blank c.limit_of-limit.ensures.value))
+          (c.put_truncated.ensures.value ∙ ap (λ s. put s truncated) (c.restart.ensures ∙ ap blank c.limit_of-limit.ensures.value))
           small;
       within_limit = either-within limit whole truncated small;
     }
@@ -26,7 +26,7 @@ returns-else-is_over c =
     let limit = limit_of c.args.question.now.edns in
     let whole = whole_octets c.args.question.now (shown_by c.args.verdict.now) c.args.verdict.now.ttl in
     let truncated = truncated_octets c.args.question.now c.args.verdict.now.kind in
-    let put_all : c.put_whole.new.draft ≡ put (blank limit) whole = c.put_whole.ensures ∙ ap (λ s. put s whole) (c.restart.ensures ∙ ap blank c.limit_of-limit.ensures.value) in
+    let put_all : c.put_whole.new.draft ≡ put (blank limit) whole = c.put_whole.ensures ∙ ap (λ most. put (blank most) whole) c.limit_of-limit.ensures.value in
     let some : is_none c.put_whole.new.draft.written ≡ false = sym c.is_over.ensures ∙ c.if-is_over.false in
     record {
       value = written-whole limit whole truncated c.put_whole.new.draft put_all some;

@@ -1,7 +1,7 @@
-use Rattle.std.proofs.Common.{false, ◌++◌, ◌∙◌, ap}
+use Rattle.std.proofs.Common.{ℕ, false, ◌++◌, ◌∙◌, ap, refl}
 use Rattle.std.specs.List.{flat_map}
 use Rattle.reply_core.specs.Count.{count16}
-use Rattle.reply_core.specs.Draft.{put}
+use Rattle.reply_core.specs.Draft.{Contents, put, blank}
 use Rattle.reply_core.specs.Reply.{record_octets, reply_flags, header_octets, answer_records, authority_records, opt_count, opt_octets}
 use Rattle.reply_core.specs.Shown.{shown_by}
 use Rattle.reply_core.proofs.ReplyLemmas.{header-counts, put-parts}
@@ -16,6 +16,13 @@ returns c =
     let authorities = authority_records question proof in
     let flags = reply_flags question proof.kind false in
     let opts = opt_count question.edns in
-    rw (c.put_opt.ensures, c.put_authorities.ensures, c.put_answers.ensures, c.put_question.ensures.value, c.put_header.ensures, c.opt_count-opts.ensures, c.reply_flags-flags.ensures, c.count_answers-answers.ensures, c.count_authorities-authorities.ensures)
-    (put-parts ttl c.args.draft.now (header_octets question.id flags 1 (count16 answers) (count16 authorities) opts) question.asked.items (opt_octets 0 question.edns) answers authorities
-    ∙ ap (λ head. put c.args.draft.now (head ++ question.asked.items ++ flat_map (record_octets ttl) (answers ++ authorities) ++ opt_octets 0 question.edns)) (header-counts question.id flags 1 opts answers authorities))
+    let rest = question.asked.items ++ flat_map (record_octets ttl) (answers ++ authorities) ++ opt_octets 0 question.edns in
+    let head : ℕ → ℕ → Contents = λ first second. put (blank c.args.limit) (header_octets question.id flags 1 first second opts ++ rest) in
+    c.set_counts.ensures c.args.limit question.id flags 1 opts rest
+    (put-parts ttl (blank c.args.limit) c.put_header.new.draft c.put_question.new.draft c.put_answers-answers.new.draft c.put_authorities-authorities.new.draft c.put_opt.new.draft
+    (header_octets question.id flags 1 0 0 opts) question.asked.items (opt_octets 0 question.edns) _ _ answers authorities
+    (rw (c.put_header.ensures, c.restart.ensures, c.opt_count-opts.ensures, c.reply_flags-flags.ensures) refl)
+    c.put_question.ensures.value c.put_answers-answers.ensures c.put_authorities-authorities.ensures c.put_opt.ensures)
+    ∙ ap (λ first. head first c.put_authorities-authorities.result) c.put_answers-answers.ensures.count
+    ∙ ap (head (count16 answers)) c.put_authorities-authorities.ensures.count
+    ∙ ap (λ octets. put (blank c.args.limit) (octets ++ rest)) (header-counts question.id flags 1 opts answers authorities)
