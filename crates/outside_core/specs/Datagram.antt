@@ -5,7 +5,7 @@ use Rattle.outside_core.specs.declared.datagram.Peer.{Peer}
 
 -- the datagram of a peer with these octets
 abbrev pub datagram_of : Peer → List ℕ → Datagram
-datagram_of peer octets = record { peer = peer; octets = record { items = octets } }
+datagram_of peer octets = record { peer = peer; octets = octets }
 
 -- the datagrams so far, where they are told, and then this one
 abbrev pub one_more_told : Option (List Datagram) → Datagram → Option (List Datagram)

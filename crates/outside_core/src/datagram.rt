@@ -1,8 +1,8 @@
 //! What links carry.
-ghost use Rattle.std.specs.Prelude.{◌≡◌, ◌≤◌, [], length};
+ghost use Rattle.std.specs.Prelude.{◌≡◌, ◌≤◌, length};
 ghost use Rattle.outside_core.specs.Datagram.{datagram_of};
 
-use arrayvec::ArrayVec;
+use crate::DatagramOctets;
 
 /// The most octets of a datagram. What a network gives beyond them is lost.
 pub const MAX_DATAGRAM: usize = 4096;
@@ -20,7 +20,7 @@ pub enum Peer {
 #[derive(Debug, PartialEq, Eq, Drop)]
 pub struct Datagram {
     pub peer: Peer,
-    pub octets: ArrayVec<u8, MAX_DATAGRAM>,
+    pub octets: DatagramOctets,
 }
 
 impl Datagram {
@@ -29,16 +29,19 @@ impl Datagram {
         requires { length octets.now ≤ 4096 }
         ensures { result ≡ datagram_of peer octets.now }
     {
-        let mut copy = ArrayVec::new();
-        let fitted = copy.try_extend_from_slice(octets).is_ok();
-        prove!(fitted);
-        Datagram { peer, octets: copy }
+        Datagram {
+            peer,
+            octets: DatagramOctets::of(octets),
+        }
     }
 
     /// The same datagram once more. It takes no memory.
     pub fn copy(&self) -> Datagram
         ensures { result ≡ self.now }
     {
-        Datagram::of(self.peer, self.octets.as_slice())
+        Datagram {
+            peer: self.peer,
+            octets: self.octets.copy(),
+        }
     }
 }

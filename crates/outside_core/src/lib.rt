@@ -9,6 +9,7 @@
 
 mod clock;
 mod datagram;
+mod datagram_octets;
 mod failed;
 mod fault_plan;
 mod gate;
@@ -32,6 +33,7 @@ mod udp;
 
 pub use clock::{Clock, FixedClock};
 pub use datagram::{Datagram, MAX_DATAGRAM, Peer};
+pub use datagram_octets::DatagramOctets;
 pub use failed::Failed;
 pub use gate::{Gate, OpenGate, Side};
 pub use harbor::Harbor;

@@ -3,7 +3,7 @@ ghost use Rattle.std.specs.Prelude.{◌≡◌, ◌≤◌, ◌^◌, ◌↔◌, le
 ghost use Rattle.outside_core.specs.Fault.{next_count, HasCause, Rose};
 ghost use Rattle.outside_core.specs.Udp.{harbor_faults, link_port, link_upstream, link_faults, client_number, peer_number, peer_at};
 
-use crate::{Datagram, Failed, Harbor, Link, MAX_DATAGRAM, Peer};
+use crate::{Datagram, Failed, Harbor, Link, Peer};
 use std::net::{Ipv4Addr, Net, SocketAddr, SocketAddrV4, UdpSocket};
 use std::sync::Wait;
 
@@ -50,7 +50,6 @@ impl<N: Net + Drop> Harbor for UdpHarbor<N> {
                 port,
                 upstream,
                 faults: 0,
-                landing: [0; MAX_DATAGRAM],
             }),
             Err(_) => Err(Failed::counted(&mut self.faults)),
         }
@@ -85,8 +84,6 @@ pub struct UdpLink {
     port: u16,
     upstream: u16,
     faults: u64,
-    // Where the socket puts what comes. A datagram is filled from it with its own octets alone.
-    landing: [u8; MAX_DATAGRAM],
 }
 
 impl Link for UdpLink {
@@ -109,14 +106,8 @@ impl Link for UdpLink {
         ensures counted { OnErr result
             (link_faults self.new ≡ next_count (link_faults self.old)) }
     {
-        match self.socket.recv_from(&mut self.landing) {
-            Ok((count, SocketAddr::V4(address))) => {
-                into.octets.clear();
-                let fitted = into
-                    .octets
-                    .try_extend_from_slice(&self.landing[..count])
-                    .is_ok();
-                prove!(fitted);
+        match into.octets.receive(&self.socket) {
+            Ok(SocketAddr::V4(address)) => {
                 into.peer = peer_of(address, self.upstream);
                 Ok(())
             }

@@ -128,4 +128,4 @@ IsDoneBy table now seen Upstream octets done =
 
 abbrev pub IsDone : List Slot → ℕ → List Batch → Datagram → Done → Type 0
 IsDone table now seen datagram done =
-    IsDoneBy table now seen datagram.peer datagram.octets.items done
+    IsDoneBy table now seen datagram.peer datagram.octets done

@@ -48,7 +48,7 @@ pub fn serve_datagram<R: Wait>(
     // After want of memory.
     ensures empty { OnErr result (out.new ≡ []) }
     ensures unmoved { OnErr result (IsUnmoved seat.old seat.new) }
-    ensures table { OnErr result (IsLeft core.old datagram.now.octets.items core.new) }
+    ensures table { OnErr result (IsLeft core.old datagram.now.octets core.new) }
 {
     out.clear();
     let octets = datagram.octets.as_slice();

@@ -49,13 +49,13 @@ fn served<R: Wait>(
 
 // A query, the answer with an ID below 256, and the next query.
 fn incoming(alloc: Global, id: u8) -> Result<Vec<Datagram>, OutOfMemory> {
-    let mut answer = Datagram::of(Peer::Upstream, ANSWER);
-    if let Some(low) = answer.octets.as_mut_slice().get_mut(1) {
+    let mut answer = Vec::from_slice(alloc, ANSWER)?;
+    if let Some(low) = answer.get_mut(1) {
         *low = id;
     }
     let mut incoming = Vec::new(alloc);
     incoming.push(Datagram::of(CLIENT, QUERY))?;
-    incoming.push(answer)?;
+    incoming.push(Datagram::of(Peer::Upstream, &answer))?;
     incoming.push(Datagram::of(OTHER, NEXT_QUERY))?;
     Ok(incoming)
 }
