@@ -175,3 +175,30 @@ fn a_chain_goes_when_it_is_asked_to(rt: HostRuntime) -> Result<(), Fail> {
     assert_eq!(rt; at_name(&left, b'a')?, Some((1, true)));
     Ok(())
 }
+
+// The hashes of `example` and `*.example` by a salt of one octet, 1, and 12 iterations, as Python's hashlib takes them.
+const OF_APEX: [u8; 20] = [
+    0x01, 0x60, 0x2e, 0x2a, 0xdb, 0xd0, 0x30, 0x25, 0x9a, 0xd1, 0x46, 0x8a, 0x9c, 0xe0, 0x0c, 0x0d,
+    0x57, 0x2f, 0x63, 0x1a,
+];
+
+const OF_WILDCARD: [u8; 20] = [
+    0xdf, 0xd3, 0x21, 0x51, 0x6a, 0xd1, 0x70, 0x8d, 0xac, 0xc0, 0xb0, 0xac, 0xe1, 0x3f, 0x13, 0xb2,
+    0x57, 0x5f, 0xb4, 0xe6,
+];
+
+#[test]
+fn a_chain_keeps_two_hashes(rt: HostRuntime) -> Result<(), Fail> {
+    let alloc = rt.alloc();
+    let zone = ZoneRecords::of(example()?);
+    assert!(rt; zone.kept_hash(&example()?, &[1], 12).is_none());
+    let (zone, _) = put(alloc, zone, nsec3(alloc, 1, 10, 20, 1)?)?;
+    let (zone, _) = put(alloc, zone, nsec3(alloc, 2, 10, 30, 2)?)?;
+    assert_eq!(rt; zone.kept_hash(&example()?, &[1], 12), Some(&OF_APEX));
+    assert_eq!(rt; zone.kept_hash(&name(b'*')?, &[1], 12), Some(&OF_WILDCARD));
+    assert!(rt; zone.kept_hash(&example()?, &[2], 12).is_some());
+    assert!(rt; zone.kept_hash(&name(b'a')?, &[1], 12).is_none());
+    assert!(rt; zone.kept_hash(&example()?, &[3], 12).is_none());
+    assert!(rt; zone.kept_hash(&example()?, &[1], 11).is_none());
+    Ok(())
+}
