@@ -1,8 +1,7 @@
-ghost use Rattle.std.specs.Prelude.{◌≡◌, ◌≤◌, ◌++◌, length, true, Some};
-ghost use Rattle.std.specs.List.{flat_map};
+ghost use Rattle.std.specs.Prelude.{◌≡◌, ◌≤◌, length, true, Some};
 ghost use Rattle.reply_core.specs.Count.{HasPut};
 ghost use Rattle.reply_core.specs.Draft.{put, blank};
-ghost use Rattle.reply_core.specs.Reply.{record_octets, reply_flags, answer_records, authority_records, whole_octets, truncated_octets, reply_octets, limit_of};
+ghost use Rattle.reply_core.specs.Reply.{reply_flags, answer_records, authority_records, whole_octets, truncated_octets, reply_octets, limit_of};
 ghost use Rattle.reply_core.specs.Shown.{shown_by};
 ghost use Rattle.dnswire.specs.declared.edns.TheConstants.{LEAST_PAYLOAD};
 ghost use Rattle.reply_core.specs.declared.draft.TheConstants.{MAX_REPLY};
