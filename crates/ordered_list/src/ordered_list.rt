@@ -173,6 +173,44 @@ impl<T: Drop, R: Ranking<T>> OrderedList<T, R> {
         let list = self.list.with_replaced(alloc, 0, n, Vec::new(alloc))?;
         Ok(OrderedList { list })
     }
+
+    /// Another owner of its entries: a list that may be changed in place, while this one stays.
+    pub fn try_clone(&self, alloc: Global) -> Result<OrderedList<T, R>, OutOfMemory>
+        ensures same { IfOk result (λ clone. clone ≡ self.now) }
+        ensures in_order { IsInOrder R.cmp self.now }
+    {
+        let list = self.list.with_replaced(alloc, 0, 0, Vec::new(alloc))?;
+        Ok(OrderedList { list })
+    }
+
+    /// The list with the entry in its place, and so in the place of the one that ranks equal, if there is one. What no other list
+    /// shares with it is changed where it lies.
+    pub fn into_with(self, alloc: Global, entry: Arc<T>) -> Result<OrderedList<T, R>, OutOfMemory>
+        ensures made { IfOk result (λ made. made ≡ with_entry R.cmp (arc_value entry) self) }
+        ensures in_order { IsInOrder R.cmp self }
+    {
+        self.with(alloc, entry)
+    }
+
+    /// The list without the entry that ranks equal with `like`. What no other list shares with it is changed where it lies.
+    pub fn into_without(self, alloc: Global, like: &T) -> Result<OrderedList<T, R>, OutOfMemory>
+        ensures made { IfOk result (λ made. made ≡ without_entry R.cmp like.now self) }
+        ensures in_order { IsInOrder R.cmp self }
+    {
+        self.without(alloc, like)
+    }
+
+    /// The list without its first `n` entries. What no other list shares with it is changed where it lies.
+    pub fn into_without_first(
+        self,
+        alloc: Global,
+        n: usize,
+    ) -> Result<OrderedList<T, R>, OutOfMemory>
+        requires { n ≤ length self }
+        ensures { IfOk result (λ made. made ≡ drop n self) }
+    {
+        self.without_first(alloc, n)
+    }
 }
 
 impl<'a, T: Drop, R: Ranking<T>> IntoIterator for &'a OrderedList<T, R> {
