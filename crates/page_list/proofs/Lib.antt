@@ -1,3 +1,4 @@
+pub mod InPlace
 pub mod Marks
 pub mod Pages
 pub mod Rows

@@ -65,7 +65,7 @@ pub shift_more : {X Y : Type 0} (w : X → Y) (os os' base : List Y) (from : Lis
 shift_more w os os' base from i x y h e s new inv =
     new ∙ (ap (λ z. z ++ y ∷ []) inv ∙ (append_assoc base (take i (map w from)) (y ∷ []) ∙ ap (λ z. base ++ z) (sym (take_mapped_more w from i x y h e s))))
 
-parts_set : {Y : Type 0} (ys : List Y) (p : ℕ) (y : Y) → p < length ys → take p ys ++ y ∷ drop (p + 1) ys ≡ set ys p y
+pub parts_set : {Y : Type 0} (ys : List Y) (p : ℕ) (y : Y) → p < length ys → take p ys ++ y ∷ drop (p + 1) ys ≡ set ys p y
 parts_set ys p y h =
     ap (λ z. z ++ y ∷ drop (p + 1) ys) (sym (take-set ys p y)) ∙ (ap (λ z. take p (set ys p y) ++ z) (sym (drop-set ys p y h)) ∙ take-append-drop p (set ys p y))
 

@@ -1,8 +1,8 @@
 -- Values and their marks.
-use Rattle.std.proofs.Common.{◌≡◌, ℕ, ◌+◌, ◌<◌, Bool, if◌then◌else◌, List, [], ◌∷◌, ◌++◌, length, get_or, take, drop, map, Contains, refl, sym, ap, ◌∙◌, subst, arith}
+use Rattle.std.proofs.Common.{◌≡◌, ℕ, ◌+◌, ◌<◌, Bool, if◌then◌else◌, List, [], ◌∷◌, ◌++◌, length, get_or, take, drop, map, Contains, append_assoc, refl, sym, ap, ◌∙◌, subst, arith}
 use Rattle.std.specs.List.{All, prefix_len}
 use Rattle.std.specs.List.Sorted.{IsPartitionedBy}
-use Rattle.std.proofs.lemmas.List.{map-append, length-map, get_or-map, take-map, drop-map}
+use Rattle.std.proofs.lemmas.List.{append-nil, map-append, length-map, get_or-map, take-map, drop-map}
 use Rattle.std.proofs.lemmas.List.Elements.{All-nil, All-cons, All-contains}
 use Rattle.page_list.specs.Marks.{Marked, mark_of, value_of, marked_by, PartsAtMark}
 
@@ -65,3 +65,17 @@ module _ {X : Type 0} (mark : X → ℕ) where
         ∙ (ap (λ z. (map (marked_by mark) (take from vs) ++ map (marked_by mark) xs) ++ z) back
         ∙ (ap (λ z. z ++ map (marked_by mark) (drop to vs)) (sym (map-append (marked_by mark) (take from vs) xs))
         ∙ (sym (map-append (marked_by mark) (take from vs ++ xs) (drop to vs)) ∙ ap (map (marked_by mark)) (sym replaced_values))))))
+
+  -- one value in place of a run
+  pub one_value : (entries items made : List (Marked X)) (x : X) (from to : ℕ) → made ≡ take from entries ++ items ++ drop to entries → items ≡ marked_by mark x ∷ [] → map value_of made ≡ take from (map value_of entries) ++ x ∷ drop to (map value_of entries)
+  one_value entries items made x from to is are =
+      replaced_values entries items made (x ∷ []) from to is are ∙ append_assoc (take from (map value_of entries)) (x ∷ []) (drop to (map value_of entries))
+
+  pub no_value : (entries none made : List (Marked X)) (from to : ℕ) → made ≡ take from entries ++ none ++ drop to entries → none ≡ [] → map value_of made ≡ take from (map value_of entries) ++ drop to (map value_of entries)
+  no_value entries none made from to is empty =
+      replaced_values entries none made [] from to is empty ∙ ap (λ z. z ++ drop to (map value_of entries)) (append-nil (take from (map value_of entries)))
+
+  -- the one entry that comes in
+  pub marked_item : (x read : X) (m : ℕ) (entry : Marked X) (items : List (Marked X)) → read ≡ x → m ≡ mark read → entry ≡ record { mark = m; value = x } → items ≡ entry ∷ [] → items ≡ marked_by mark x ∷ []
+  marked_item x read m entry items same told made is =
+      is ∙ ap (λ z. z ∷ []) (made ∙ ap (λ n. record { mark = n; value = x }) (told ∙ ap mark same))

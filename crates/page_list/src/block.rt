@@ -1,5 +1,5 @@
 //! A block: one or more entries that lie together, a page or a run of blocks.
-ghost use Rattle.std.specs.Prelude.{◌≡◌, ◌<◌, ◌≤◌, ◌++◌, Bool, List, length, take, drop, map, IfOk, IfSome, slice_index_or};
+ghost use Rattle.std.specs.Prelude.{◌≡◌, ◌<◌, ◌≤◌, ◌++◌, Bool, false, List, length, take, drop, map, IfOk, IfSome, IsTrue, slice_index_or};
 ghost use Rattle.std.specs.List.{flat_map, prefix_len};
 ghost use Rattle.std.specs.List.Sorted.{IsPartitionedBy};
 ghost use Rattle.std.specs.Arc.{arc_value};
@@ -72,6 +72,14 @@ pub(crate) trait Block<T: Drop>: Drop {
         ensures { IfSome result (λ made. entries (arc_value made)
             ≡ take from (entries self.now) ++ items.now
             ++ drop to (entries self.now)) };
+
+    /// The same where it lies. Nothing is changed where that can't be, and for want of memory.
+    fn replace(&mut self, alloc: Global, from: usize, to: usize, items: &[Entry<T>]) -> bool
+        requires order { from ≤ to }
+        requires in_range { to ≤ length (entries self.old) }
+        ensures done { IsTrue result → entries self.new
+            ≡ take from (entries self.old) ++ items.now ++ drop to (entries self.old) }
+        ensures same { result ≡ false → self.new ≡ self.old };
 
     /// The entries of `left` before `from`, `items`, and the entries of `right` from `to` on, in new blocks.
     fn spliced(

@@ -115,6 +115,10 @@ impl<T: Drop, B: Block<T>> Block<T> for Blocks<T, B> {
         }
     }
 
+    fn replace(&mut self, alloc: Global, from: usize, to: usize, items: &[Entry<T>]) -> bool {
+        self.row.replace(alloc, from, to, items)
+    }
+
     fn spliced(
         alloc: Global,
         left: &Self,

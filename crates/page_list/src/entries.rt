@@ -1,6 +1,7 @@
 //! Entries that lie in a row.
-ghost use Rattle.std.specs.Prelude.{◌≡◌, ◌≤◌, ◌+◌, ◌++◌, length, IfOk, IfSome, OnOk, vec_capacity, vec_len};
+ghost use Rattle.std.specs.Prelude.{◌≡◌, ◌<◌, ◌≤◌, ◌+◌, ◌++◌, ◌∷◌, false, length, take, drop, IfOk, IfSome, IsTrue, OnOk, vec_capacity, vec_len};
 
+use crate::parts::{items_before, items_from};
 use crate::{Entry, OutOfMemory};
 use std::alloc::{AllocError, Global};
 
@@ -23,6 +24,18 @@ pub(crate) fn entries_round<T: Drop>(
     Ok(all)
 }
 
+/// New owners of what stands in `items`.
+pub(crate) fn copies_of<T: Drop>(
+    alloc: Global,
+    items: &[Entry<T>],
+) -> Result<Vec<Entry<T>>, OutOfMemory>
+    ensures { IfOk result (λ all. all.items ≡ items.now) }
+{
+    let mut all = Vec::with_capacity(alloc, items.len())?;
+    put_onto(&mut all, items)?;
+    Ok(all)
+}
+
 fn total(one: usize, two: usize, three: usize) -> Option<usize>
     ensures { IfSome result (λ n. n ≡ one + two + three) }
 {
@@ -40,4 +53,85 @@ fn put_onto<T: Drop>(onto: &mut Vec<Entry<T>>, from: &[Entry<T>]) -> Result<(), 
         onto.push_reserved(entry.try_clone()?);
     }
     Ok(())
+}
+
+/// Puts `items` in place of the entries `from..to`: of one entry where it lies. Nothing is changed for want of memory.
+pub(crate) fn replace_entries<T: Drop>(
+    all: &mut Vec<Entry<T>>,
+    alloc: Global,
+    from: usize,
+    to: usize,
+    items: &[Entry<T>],
+) -> bool
+    requires order { from ≤ to }
+    requires in_range { to ≤ length all.old.items }
+    ensures done { IsTrue result
+        → all.new.items ≡ take from all.old.items ++ items.now ++ drop to all.old.items }
+    ensures same { result ≡ false → all.new.items ≡ all.old.items }
+{
+    if items.len() == 1 && to == from {
+        return insert_one(all, from, &items[0]);
+    }
+    if items.len() == 1 && to == from + 1 {
+        return exchange_one(all, from, &items[0]);
+    }
+    if items.is_empty() && to == from + 1 {
+        all.remove(from);
+        return true;
+    }
+    replace_all(all, alloc, from, to, items)
+}
+
+// Another owner of the entry, before the entry `at`.
+fn insert_one<T: Drop>(all: &mut Vec<Entry<T>>, at: usize, entry: &Entry<T>) -> bool
+    requires { at ≤ length all.old.items }
+    ensures done { IsTrue result
+        → all.new.items ≡ take at all.old.items ++ entry.now ∷ drop at all.old.items }
+    ensures same { result ≡ false → all.new.items ≡ all.old.items }
+{
+    if all.reserve_exact(1).is_err() {
+        return false;
+    }
+    match entry.try_clone() {
+        Ok(entry) => all.insert(at, entry).is_ok(),
+        Err(_) => false,
+    }
+}
+
+// Another owner of the entry, in the place of the entry `at`.
+fn exchange_one<T: Drop>(all: &mut Vec<Entry<T>>, at: usize, entry: &Entry<T>) -> bool
+    requires { at < length all.old.items }
+    ensures done { IsTrue result
+        → all.new.items ≡ take at all.old.items ++ entry.now ∷ drop (at + 1) all.old.items }
+    ensures same { result ≡ false → all.new.items ≡ all.old.items }
+{
+    match entry.try_clone() {
+        Ok(entry) => {
+            all[at] = entry;
+            true
+        }
+        Err(_) => false,
+    }
+}
+
+// The entries in a new vector.
+fn replace_all<T: Drop>(
+    all: &mut Vec<Entry<T>>,
+    alloc: Global,
+    from: usize,
+    to: usize,
+    items: &[Entry<T>],
+) -> bool
+    ensures done { IsTrue result
+        → all.new.items ≡ take from all.old.items ++ items.now ++ drop to all.old.items }
+    ensures same { result ≡ false → all.new.items ≡ all.old.items }
+{
+    let old = all.as_slice();
+    match entries_round(alloc, items_before(old, from), items, items_from(old, to)) {
+        Ok(made) => {
+            *all = made;
+            true
+        }
+        Err(_) => false,
+    }
 }

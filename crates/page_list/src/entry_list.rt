@@ -1,11 +1,12 @@
 //! The entries of a list, in shared pages.
 ghost use Rattle.std.specs.Prelude.{◌≡◌, ◌<◌, ◌≤◌, ◌++◌, [], Bool, length, take, drop, IfOk, slice_index_or};
-ghost use Rattle.std.specs.List.{prefix_len};
+ghost use Rattle.std.specs.List.{flat_map, prefix_len};
 ghost use Rattle.std.specs.List.Sorted.{IsPartitionedBy};
 ghost use Rattle.page_list.specs.Marks.{Marked, mark_of, PartsAtMark};
 ghost use Rattle.page_list.specs.Search.{IsTestOf};
 
 use crate::blocks::Blocks;
+use crate::entries::copies_of;
 use crate::page::Page;
 use crate::row::Row;
 use crate::splice::spliced_row;
@@ -101,13 +102,60 @@ impl<T: Drop> EntryList<T> {
         if let Some(bookcases) = old.replaced(alloc, from, to, items.as_slice()) {
             return Ok(EntryList { bookcases });
         }
-        let made = if old.count() == 0 {
-            Bookcase::made(alloc, items)?
-        } else {
-            spliced_row(alloc, old, from, items, old, to)?
-        };
+        respliced(alloc, old, from, to, items)
+    }
+
+    /// Another owner of its pages.
+    pub(crate) fn try_clone(&self, alloc: Global) -> Result<EntryList<T>, OutOfMemory>
+        ensures { IfOk result (λ clone. clone ≡ self.now) }
+    {
         Ok(EntryList {
-            bookcases: Row::of(alloc, made)?,
+            bookcases: self.bookcases.try_clone(alloc)?,
         })
     }
+
+    /// The list with `items` in place of the entries `from..to`. What no other list shares with it is changed where it lies,
+    /// if one page takes them all.
+    pub(crate) fn into_replaced(
+        self,
+        alloc: Global,
+        from: usize,
+        to: usize,
+        items: &[Entry<T>],
+    ) -> Result<EntryList<T>, OutOfMemory>
+        requires order { from ≤ to }
+        requires in_range { to ≤ length self }
+        ensures { IfOk result
+            (λ made. made ≡ take from self ++ items.now ++ drop to self) }
+    {
+        let EntryList { mut bookcases } = self;
+        if bookcases.replace(alloc, from, to, items) {
+            return Ok(EntryList { bookcases });
+        }
+        respliced(alloc, &bookcases, from, to, copies_of(alloc, items)?)
+    }
+}
+
+// The list of `old` with `items` in place of the entries `from..to`, in new pages there.
+fn respliced<T: Drop>(
+    alloc: Global,
+    old: &Row<T, Bookcase<T>>,
+    from: usize,
+    to: usize,
+    items: Vec<Entry<T>>,
+) -> Result<EntryList<T>, OutOfMemory>
+    requires order { from ≤ to }
+    requires in_range { to ≤ length (flat_map (λ bookcase. bookcase) old.now) }
+    ensures { IfOk result (λ made. made
+        ≡ take from (flat_map (λ bookcase. bookcase) old.now) ++ items.items
+        ++ drop to (flat_map (λ bookcase. bookcase) old.now)) }
+{
+    let made = if old.count() == 0 {
+        Bookcase::made(alloc, items)?
+    } else {
+        spliced_row(alloc, old, from, items, old, to)?
+    };
+    Ok(EntryList {
+        bookcases: Row::of(alloc, made)?,
+    })
 }

@@ -12,6 +12,7 @@ mod cut;
 mod entries;
 mod entry;
 mod entry_list;
+mod in_place;
 mod iter;
 mod marked_list;
 mod marking;

@@ -1,5 +1,5 @@
 //! The list itself.
-ghost use Rattle.std.specs.Prelude.{◌≡◌, ◌<◌, ◌≤◌, ◌↔◌, ◌++◌, [], Bool, length, take, drop, map, IfOk, IsTrue, slice_index_or};
+ghost use Rattle.std.specs.Prelude.{◌≡◌, ◌<◌, ◌≤◌, ◌↔◌, ◌++◌, ◌∷◌, [], Bool, length, take, drop, map, IfOk, IsTrue, slice_index_or};
 ghost use Rattle.std.specs.List.{prefix_len};
 ghost use Rattle.std.specs.List.Sorted.{IsPartitionedBy};
 ghost use Rattle.std.specs.Fn.{FnReturnsAt};
@@ -10,6 +10,7 @@ use crate::entry_list::EntryList;
 use crate::{Entry, Iter, Marking, NoMarks, OutOfMemory};
 use std::alloc::Global;
 use std::marker::{Model, PhantomData};
+use std::slice::from_ref;
 use std::sync::Arc;
 
 /// A list that stays, seen as the list of its entries: a change makes another list, which shares with it all that
@@ -122,6 +123,83 @@ impl<T: Drop, M: Marking<T>> MarkedList<T, M> {
             entries,
             by: PhantomData,
         })
+    }
+
+    /// Another owner of its entries: a list that may be changed where it lies, while this one stays.
+    pub fn try_clone(&self, alloc: Global) -> Result<MarkedList<T, M>, OutOfMemory>
+        ensures { IfOk result (λ clone. clone ≡ self.now) }
+    {
+        let entries = self.entries.try_clone(alloc)?;
+        Ok(MarkedList {
+            entries,
+            by: PhantomData,
+        })
+    }
+
+    /// The list with `item` in place of the entries `from..to`.
+    pub fn with_one(
+        &self,
+        alloc: Global,
+        from: usize,
+        to: usize,
+        item: Arc<T>,
+    ) -> Result<MarkedList<T, M>, OutOfMemory>
+        requires order { from ≤ to }
+        requires in_range { to ≤ length self.now }
+        ensures { IfOk result (λ made.
+            made ≡ take from self.now ++ arc_value item ∷ drop to self.now) }
+    {
+        self.try_clone(alloc)?.into_with_one(alloc, from, to, item)
+    }
+
+    /// The list without the entries `from..to`.
+    pub fn without_run(
+        &self,
+        alloc: Global,
+        from: usize,
+        to: usize,
+    ) -> Result<MarkedList<T, M>, OutOfMemory>
+        requires order { from ≤ to }
+        requires in_range { to ≤ length self.now }
+        ensures { IfOk result (λ made. made ≡ take from self.now ++ drop to self.now) }
+    {
+        self.try_clone(alloc)?.into_without_run(alloc, from, to)
+    }
+
+    /// The list with `item` in place of the entries `from..to`. What no other list shares with it is changed where it lies.
+    pub fn into_with_one(
+        self,
+        alloc: Global,
+        from: usize,
+        to: usize,
+        item: Arc<T>,
+    ) -> Result<MarkedList<T, M>, OutOfMemory>
+        requires order { from ≤ to }
+        requires in_range { to ≤ length self }
+        ensures { IfOk result (λ made. made ≡ take from self ++ arc_value item ∷ drop to self) }
+    {
+        let MarkedList { entries, by } = self;
+        let mark = M::mark(&item);
+        let entry = Entry::of(mark, item);
+        let entries = entries.into_replaced(alloc, from, to, from_ref(&entry))?;
+        Ok(MarkedList { entries, by })
+    }
+
+    /// The list without the entries `from..to`. What no other list shares with it is changed where it lies.
+    pub fn into_without_run(
+        self,
+        alloc: Global,
+        from: usize,
+        to: usize,
+    ) -> Result<MarkedList<T, M>, OutOfMemory>
+        requires order { from ≤ to }
+        requires in_range { to ≤ length self }
+        ensures { IfOk result (λ made. made ≡ take from self ++ drop to self) }
+    {
+        let MarkedList { entries, by } = self;
+        let none = Vec::new(alloc);
+        let entries = entries.into_replaced(alloc, from, to, none.as_slice())?;
+        Ok(MarkedList { entries, by })
     }
 }
 

@@ -201,6 +201,14 @@ impl<T: Drop> Block<T> for Page<T> {
         }
     }
 
+    fn replace(&mut self, alloc: Global, from: usize, to: usize, items: &[Entry<T>]) -> bool {
+        let kept = from + (self.len() - to);
+        let Some(count) = kept.checked_add(items.len()) else {
+            return false;
+        };
+        may_have(self.len(), count) && self.entries.replace(alloc, from, to, items)
+    }
+
     fn spliced(
         alloc: Global,
         left: &Self,

@@ -1,5 +1,5 @@
 //! A row of shared blocks.
-ghost use Rattle.std.specs.Prelude.{◌≡◌, ℕ, ◌<◌, ◌≤◌, ◌+◌, ◌++◌, [], Bool, length, get_or, set, take, drop, map, IfOk, IfSome, OnOk, slice_index_or, vec_capacity, vec_len};
+ghost use Rattle.std.specs.Prelude.{◌≡◌, ℕ, ◌<◌, ◌≤◌, ◌+◌, ◌++◌, [], Bool, false, length, get_or, set, take, drop, map, IfOk, IfSome, IsTrue, OnOk, slice_index_or, vec_capacity, vec_len};
 ghost use Rattle.std.specs.List.{flat_map, prefix_len};
 ghost use Rattle.std.specs.List.Sorted.{IsPartitionedBy};
 ghost use Rattle.std.specs.Arc.{arc_value};
@@ -7,6 +7,7 @@ ghost use Rattle.page_list.specs.Marks.{Marked, mark_of, PartsAtMark};
 ghost use Rattle.page_list.specs.Rows.{IsPlace, IsSeam, IsShelf, IsShelved, Shelved, block_of, shifted};
 ghost use Rattle.page_list.specs.Search.{IsTestOf, IsTestAt, HasNarrowed, BeginsLesser, BeginsGreater};
 
+use crate::in_place::replace_at;
 use crate::parts::{items_before, items_from};
 use crate::slot::Slot;
 use crate::{Block, Entry, OutOfMemory};
@@ -114,6 +115,18 @@ impl<T: Drop, B: Block<T>> Row<T, B> {
         })
     }
 
+    /// Another owner of each block.
+    pub(crate) fn try_clone(&self, alloc: Global) -> Result<Row<T, B>, OutOfMemory>
+        ensures { IfOk result (λ row. row ≡ self.now) }
+    {
+        let mut slots = Vec::with_capacity(alloc, self.slots.len())?;
+        shift_onto(&mut slots, self.slots.as_slice(), 0, 0)?;
+        Ok(Row {
+            slots,
+            of: PhantomData,
+        })
+    }
+
     /// How many blocks there are.
     pub(crate) fn count(&self) -> usize
         ensures { result ≡ length self.now }
@@ -176,6 +189,32 @@ impl<T: Drop, B: Block<T>> Row<T, B> {
             Ok(row) => Some(row),
             Err(_) => None,
         }
+    }
+
+    /// The row with `items` in place of the entries `from..to`, where one block takes them all: where it lies, as far as
+    /// nothing else shares it. Else nothing is changed.
+    pub(crate) fn replace(
+        &mut self,
+        alloc: Global,
+        from: usize,
+        to: usize,
+        items: &[Entry<T>],
+    ) -> bool
+        requires order { from ≤ to }
+        requires in_range { to ≤ length (flat_map B.entries self.old) }
+        ensures done { IsTrue result → flat_map B.entries self.new
+            ≡ take from (flat_map B.entries self.old) ++ items.now
+            ++ drop to (flat_map B.entries self.old) }
+        ensures same { result ≡ false → self.new ≡ self.old }
+        ensures count { length self.new ≡ length self.old }
+    {
+        let Some((p, x, y)) = self.block_of(from, to) else {
+            return false;
+        };
+        if self.total().checked_add(items.len()).is_none() {
+            return false;
+        }
+        replace_at::<T, B>(&mut self.slots, alloc, p, x, y, items)
     }
 
     // The block that has all of `from..to`, and both places in it; none where there are two of them or more.

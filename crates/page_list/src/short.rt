@@ -1,6 +1,9 @@
 //! One to `MOST` values.
-ghost use Rattle.std.specs.Prelude.{◌≡◌, ◌<◌, ◌≤◌, length};
+ghost use Rattle.std.specs.Prelude.{◌≡◌, ◌<◌, ◌≤◌, ◌+◌, ◌-◌, ◌++◌, false, length, take, drop, IsTrue};
 
+use crate::Entry;
+use crate::entries::replace_entries;
+use std::alloc::Global;
 use std::marker::Model;
 
 /// How many entries a page may have, and how many blocks a block of blocks.
@@ -46,5 +49,26 @@ impl<X> Short<X> {
     {
         let Short { items } = self;
         items
+    }
+}
+
+impl<T: Drop> Short<Entry<T>> {
+    /// Puts `items` in place of the entries `from..to`. Nothing is changed for want of memory.
+    pub(crate) fn replace(
+        &mut self,
+        alloc: Global,
+        from: usize,
+        to: usize,
+        items: &[Entry<T>],
+    ) -> bool
+        requires order { from ≤ to }
+        requires in_range { to ≤ length self.old }
+        requires some { 0 < from + length items.now + (length self.old - to) }
+        requires few { from + length items.now + (length self.old - to) ≤ MOST }
+        ensures done { IsTrue result
+            → self.new ≡ take from self.old ++ items.now ++ drop to self.old }
+        ensures same { result ≡ false → self.new ≡ self.old }
+    {
+        replace_entries(&mut self.items, alloc, from, to, items)
     }
 }
