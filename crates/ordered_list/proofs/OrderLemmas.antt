@@ -60,8 +60,8 @@ module _ {X : Type 0} (cmp : X → X → Ordering) where
   drop_in_order (suc n) (x ∷ xs) h = drop_in_order n xs (rest_in_order x xs h)
 
   -- what stands behind the first n, where nothing comes before it
-  pub dropped_in_order : {A : Type 0} (v : A → X) (n : ℕ) (xs : List X) → IsInOrder cmp xs → (none : List A) (made : List X) → none ≡ [] → made ≡ map v none ++ drop n xs → IsInOrder cmp made
-  dropped_in_order v n xs h none made empty is = subst (IsInOrder cmp) (sym (is ∙ ap (λ ys. map v ys ++ drop n xs) empty)) (drop_in_order n xs h)
+  pub dropped_in_order : (n : ℕ) (xs : List X) → IsInOrder cmp xs → (made : List X) → made ≡ drop n xs → IsInOrder cmp made
+  dropped_in_order n xs h made is = subst (IsInOrder cmp) (sym is) (drop_in_order n xs h)
 
   -- a test that holds of all that rank below an entry of which it holds
   pub partitioned : (p : X → Bool) (xs : List X) → IsInOrder cmp xs → ((x y : X) → cmp x y ≡ Less → p y ≡ true → p x ≡ true) → IsPartitionedBy p xs

@@ -139,18 +139,17 @@ module _ {X : Type 0} (cmp : X → X → Ordering) (total : IsTotalOrder cmp) (l
           let low : filter below xs ≡ [] = none_below xs high in
           rw (is, low) (ap (λ ys. x ∷ ys) (ap (λ ys. ys ++ filter above xs) (sym low) ∙ rest))
 
-  -- what a change of the place makes, of owners that v reads
-  module _ {A : Type 0} (v : A → X) (xs : List X) (h : IsInOrder cmp xs) (n m : ℕ) (start : n ≡ length (filter below xs)) (end : m ≡ n + length (filter level xs)) where
-    pub with_made : (none one : List A) (owner : A) (made : List X) → none ≡ [] → one ≡ none ++ owner ∷ [] → like ≡ v owner → made ≡ take n xs ++ map v one ++ drop m xs → made ≡ with_entry cmp (v owner) xs
-    with_made none one owner made empty pushed same is =
-        let alone : one ≡ owner ∷ [] = pushed ∙ ap (λ ys. ys ++ owner ∷ []) empty in
-        let at_like : take n xs ++ (like ∷ []) ++ drop m xs ≡ with_entry cmp like xs = rw (taken xs h n start, dropped xs h n m start end, append_assoc) refl in
-        is ∙ (ap (λ ys. take n xs ++ map v ys ++ drop m xs) alone ∙ (ap (λ e. take n xs ++ (e ∷ []) ++ drop m xs) (sym same) ∙ (at_like ∙ ap (λ e. with_entry cmp e xs) same)))
+  -- what a change of the place makes
+  module _ (xs : List X) (h : IsInOrder cmp xs) (n m : ℕ) (start : n ≡ length (filter below xs)) (end : m ≡ n + length (filter level xs)) where
+    pub with_made : (x : X) (made : List X) → like ≡ x → made ≡ take n xs ++ x ∷ drop m xs → made ≡ with_entry cmp x xs
+    with_made x made same is =
+        let at_like : take n xs ++ like ∷ drop m xs ≡ with_entry cmp like xs = rw (taken xs h n start, dropped xs h n m start end) refl in
+        is ∙ (ap (λ e. take n xs ++ e ∷ drop m xs) (sym same) ∙ (at_like ∙ ap (λ e. with_entry cmp e xs) same))
 
-    pub without_made : (none : List A) (made : List X) → none ≡ [] → made ≡ take n xs ++ map v none ++ drop m xs → made ≡ without_entry cmp like xs
-    without_made none made empty is =
-        let left : take n xs ++ [] ++ drop m xs ≡ without_entry cmp like xs = rw (taken xs h n start, dropped xs h n m start end, append-nil) (others xs h) in
-        is ∙ (ap (λ ys. take n xs ++ map v ys ++ drop m xs) empty ∙ left)
+    pub without_made : (made : List X) → made ≡ take n xs ++ drop m xs → made ≡ without_entry cmp like xs
+    without_made made is =
+        let left : take n xs ++ drop m xs ≡ without_entry cmp like xs = rw (taken xs h n start, dropped xs h n m start end) (others xs h) in
+        is ∙ left
 
   -- those below are the first ones
   pub below_first : (xs : List X) → IsInOrder cmp xs → IsPartitionedBy below xs

@@ -149,9 +149,7 @@ impl<T: Drop, R: Ranking<T>> OrderedList<T, R> {
         ensures in_order { IsInOrder R.cmp self.now }
     {
         let (from, to) = self.place(&entry);
-        let mut items = Vec::with_capacity(alloc, 1)?;
-        items.push(entry)?;
-        let list = self.list.with_replaced(alloc, from, to, items)?;
+        let list = self.list.with_one(alloc, from, to, entry)?;
         Ok(OrderedList { list })
     }
 
@@ -161,7 +159,7 @@ impl<T: Drop, R: Ranking<T>> OrderedList<T, R> {
         ensures in_order { IsInOrder R.cmp self.now }
     {
         let (from, to) = self.place(like);
-        let list = self.list.with_replaced(alloc, from, to, Vec::new(alloc))?;
+        let list = self.list.without_run(alloc, from, to)?;
         Ok(OrderedList { list })
     }
 
@@ -170,7 +168,7 @@ impl<T: Drop, R: Ranking<T>> OrderedList<T, R> {
         requires { n ≤ length self.now }
         ensures { IfOk result (λ made. made ≡ drop n self.now) }
     {
-        let list = self.list.with_replaced(alloc, 0, n, Vec::new(alloc))?;
+        let list = self.list.without_run(alloc, 0, n)?;
         Ok(OrderedList { list })
     }
 
@@ -179,7 +177,7 @@ impl<T: Drop, R: Ranking<T>> OrderedList<T, R> {
         ensures same { IfOk result (λ clone. clone ≡ self.now) }
         ensures in_order { IsInOrder R.cmp self.now }
     {
-        let list = self.list.with_replaced(alloc, 0, 0, Vec::new(alloc))?;
+        let list = self.list.try_clone(alloc)?;
         Ok(OrderedList { list })
     }
 
@@ -189,7 +187,10 @@ impl<T: Drop, R: Ranking<T>> OrderedList<T, R> {
         ensures made { IfOk result (λ made. made ≡ with_entry R.cmp (arc_value entry) self) }
         ensures in_order { IsInOrder R.cmp self }
     {
-        self.with(alloc, entry)
+        let (from, to) = self.place(&entry);
+        let OrderedList { list } = self;
+        let list = list.into_with_one(alloc, from, to, entry)?;
+        Ok(OrderedList { list })
     }
 
     /// The list without the entry that ranks equal with `like`. What no other list shares with it is changed where it lies.
@@ -197,7 +198,10 @@ impl<T: Drop, R: Ranking<T>> OrderedList<T, R> {
         ensures made { IfOk result (λ made. made ≡ without_entry R.cmp like.now self) }
         ensures in_order { IsInOrder R.cmp self }
     {
-        self.without(alloc, like)
+        let (from, to) = self.place(like);
+        let OrderedList { list } = self;
+        let list = list.into_without_run(alloc, from, to)?;
+        Ok(OrderedList { list })
     }
 
     /// The list without its first `n` entries. What no other list shares with it is changed where it lies.
@@ -209,7 +213,9 @@ impl<T: Drop, R: Ranking<T>> OrderedList<T, R> {
         requires { n ≤ length self }
         ensures { IfOk result (λ made. made ≡ drop n self) }
     {
-        self.without_first(alloc, n)
+        let OrderedList { list } = self;
+        let list = list.into_without_run(alloc, 0, n)?;
+        Ok(OrderedList { list })
     }
 }
 
