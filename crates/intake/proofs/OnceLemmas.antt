@@ -1,5 +1,5 @@
 -- A list of which the first of those that are alike is kept, where what is alike has the same key.
-use Rattle.std.proofs.Common.{◌≡◌, Bool, true, false, not, ◌||◌, List, [], ◌∷◌, ◌++◌, if◌then◌else◌, refl, sym, ◌∙◌, ap}
+use Rattle.std.proofs.Common.{◌≡◌, ◌<◌, length, arith, Bool, true, false, not, ◌||◌, List, [], ◌∷◌, ◌++◌, if◌then◌else◌, refl, sym, ◌∙◌, ap}
 use Rattle.std.specs.List.{filter, list_any}
 use Rattle.std.specs.Bool.{Decides}
 use Rattle.std.proofs.lemmas.Bool.Decides.{same_from_decides}
@@ -119,3 +119,10 @@ apart_once alike (x ∷ xs) = (
   any-filter_same (alike x) (λ z. not (alike x z)) false (λ z p. not_true (alike x z) p) (each_once alike xs),
   apart_filter alike (λ z. not (alike x z)) (each_once alike xs) (apart_once alike xs),
 )
+
+-- ---- no or one element
+
+pub few_once : {X : Type 0} (alike : X → X → Bool) (xs : List X) → length xs < 2 → xs ≡ each_once alike xs
+few_once alike [] few = refl
+few_once alike (x ∷ []) few = refl
+few_once alike (x ∷ y ∷ ys) few = absurd (omega arith)

@@ -6,8 +6,18 @@ use dname::{Octets, OctetsList, OutOfMemory};
 use std::alloc::Global;
 use std::collections::BTreeSet;
 
-/// The first of those octets that are equal, in order.
+/// The first of those octets that are equal, in order. One alone takes no memory.
 pub(crate) fn each_once(alloc: Global, octets: OctetsList) -> Result<OctetsList, OutOfMemory>
+    ensures { IfOk result (λ kept. kept ≡ each_once same_octets octets) }
+{
+    if octets.len() < 2 {
+        Ok(octets)
+    } else {
+        firsts_of(alloc, octets)
+    }
+}
+
+fn firsts_of(alloc: Global, octets: OctetsList) -> Result<OctetsList, OutOfMemory>
     ensures { IfOk result (λ kept. kept ≡ each_once same_octets octets) }
 {
     let new = are_new(alloc, octets.as_slice())?;
