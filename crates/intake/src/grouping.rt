@@ -11,6 +11,9 @@ use dname::{OutOfMemory, u16_at, u32_at};
 use dnswire::{Rr, RrList};
 use std::alloc::Global;
 
+// Room for so many piles is taken at once. An answer of more records may still have fewer groups.
+const FEW: usize = 8;
+
 /// The piles of the two sections' records.
 pub(crate) fn piles_of(
     alloc: Global,
@@ -22,8 +25,10 @@ pub(crate) fn piles_of(
     requires authority { All HasFixedPart authority }
     ensures { IfOk result (λ piles. piles.items ≡ piles_in now (answer ++ authority)) }
 {
-    let mut table = Table::new(alloc);
-    let mut signatures = Vec::new(alloc);
+    let covering = rrsigs_in(&answer).saturating_add(rrsigs_in(&authority));
+    let all = answer.len().saturating_add(authority.len());
+    let mut table = Table::new(alloc, all.saturating_sub(covering).min(FEW))?;
+    let mut signatures = Vec::with_capacity(alloc, covering)?;
     take_in(alloc, &mut table, &mut signatures, answer, now)?;
     take_in(alloc, &mut table, &mut signatures, authority, now)?;
     for signature in signatures {
@@ -31,6 +36,14 @@ pub(crate) fn piles_of(
         table.sign(&key, signature.octets)?;
     }
     Ok(table.piles)
+}
+
+// The number of RRSIG records, live or not.
+fn rrsigs_in(rrs: &RrList) -> usize {
+    rrs.as_slice()
+        .iter()
+        .filter(|rr| rr.rtype == RRSIG_TYPE)
+        .count()
 }
 
 // Puts the records into the table, and the live signatures behind those that there are.

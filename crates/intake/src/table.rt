@@ -1,4 +1,4 @@
-ghost use Rattle.std.specs.Prelude.{◌≡◌, [], ◌∷◌, ◌++◌, OnOk, None};
+ghost use Rattle.std.specs.Prelude.{◌≡◌, [], ◌∷◌, ◌++◌, IfOk, OnOk, None};
 ghost use Rattle.intake.specs.Pile.{IsTable, place_of, has_key, begun, key_of, with_record, signed};
 
 use crate::key::Key;
@@ -16,14 +16,15 @@ pub(crate) struct Table {
 }
 
 impl Table {
-    pub(crate) fn new(alloc: Global) -> Table
-        ensures table { IsTable result }
-        ensures piles { result.piles.items ≡ [] }
+    /// With room for so many piles.
+    pub(crate) fn new(alloc: Global, room: usize) -> Result<Table, OutOfMemory>
+        ensures table { IfOk result IsTable }
+        ensures piles { IfOk result (λ table. table.piles.items ≡ []) }
     {
-        Table {
-            piles: Vec::new(alloc),
+        Ok(Table {
+            piles: Vec::with_capacity(alloc, room)?,
             places: BTreeMap::new(alloc),
-        }
+        })
     }
 
     /// Takes in a record that is no RRSIG.

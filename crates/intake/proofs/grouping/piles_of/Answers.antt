@@ -12,14 +12,14 @@ pub loop-signature-init : goal.loop-signature-init
 loop-signature-init c = record {
   is_table = c.in_ok-take_in-2.ensures.table;
   piles_are = piles_of_both c.args.answer c.args.authority c.take_in.new.table.piles.items c.take_in-2.new.table.piles.items
-      (c.in_ok-take_in.ensures.piles ∙ ap (λ ps. fold with_data ps c.args.answer) c.new-table.ensures.piles)
+      (c.in_ok-take_in.ensures.piles ∙ ap (λ ps. fold with_data ps c.args.answer) c.in_ok-table.ensures.piles)
       c.in_ok-take_in-2.ensures.piles;
 }
 
 pub covered_key-key-requires : goal.covered_key-key-requires
 covered_key-key-requires c =
     let live = live_of_both c.args.now c.args.answer c.args.authority c.take_in.new.signatures.items c.take_in-2.new.signatures.items
-    (c.in_ok-take_in.ensures.live ∙ ap (λ rs. rs ++ filter (is_live c.args.now) c.args.answer) c.new-signatures.ensures.items)
+    (c.in_ok-take_in.ensures.live ∙ ap (λ rs. rs ++ filter (is_live c.args.now) c.args.answer) c.in_ok-signatures.ensures.items)
     c.in_ok-take_in-2.ensures.live in
     let all = c.into_iter-signature-iterator.ensures.into_iter_gives.0 ∙ live in
     let turn = YieldsList-turn (YieldsList-from_vec {s = c.into_iter-signature-iterator.result} (filter (is_live c.args.now) (c.args.answer ++ c.args.authority)) all (omega (arith, ap length all))) c.loop-signature.yielded c.loop-signature.signature-iterator c.loop-signature.yielded_by c.next.result c.next.new.self c.in-Some.signature c.in-Some.is c.next.ensures.steps in
@@ -36,7 +36,7 @@ loop-signature-preserved c =
 pub returns : goal.returns
 returns c =
     let live = live_of_both c.args.now c.args.answer c.args.authority c.take_in.new.signatures.items c.take_in-2.new.signatures.items
-    (c.in_ok-take_in.ensures.live ∙ ap (λ rs. rs ++ filter (is_live c.args.now) c.args.answer) c.new-signatures.ensures.items)
+    (c.in_ok-take_in.ensures.live ∙ ap (λ rs. rs ++ filter (is_live c.args.now) c.args.answer) c.in_ok-signatures.ensures.items)
     c.in_ok-take_in-2.ensures.live in
     let all = c.into_iter-signature-iterator.ensures.into_iter_gives.0 ∙ live in
     let end = YieldsList-end (YieldsList-from_vec {s = c.into_iter-signature-iterator.result} (filter (is_live c.args.now) (c.args.answer ++ c.args.authority)) all (omega (arith, ap length all))) c.loop-signature.yielded c.loop-signature.signature-iterator c.loop-signature.yielded_by c.next.result c.next.new.self c.in-None.is c.next.ensures.steps in
