@@ -19,6 +19,7 @@ use Rattle.held_laws.proofs.ListedLemmas.{both, name_equal, none_some}
 use Rattle.ordered_list.specs.Order.{IsInOrder, entry_at, with_entry}
 use Rattle.ordered_list.proofs.ChangeLemmas.{with_members, entry_some, entry_none}
 use Rattle.zone_chains.specs.Zone.{OneZone, third_for, is_of, chains_with, IsDenialOf}
+use Rattle.record_store.specs.Dropping.{AreSets}
 use Rattle.record_store.specs.Holding.{held_in, IsTied, AreBut, AreCleared, AreWith, IsWithApex}
 use Rattle.record_store.specs.Putting.{chains_for, IsZoneFor}
 use Rattle.record_store.specs.Ranks.{apex_cmp, set_cmp, keys_total}
@@ -49,24 +50,25 @@ set_is_no_denial apex (Nsec3 new) none denial = none_some (sym none)
 tie_turned : {X : Type 0} (cmp : X → X → Ordering) → IsTotalOrder cmp → (x y z : X) → cmp x z ≡ Equal → cmp y z ≡ Equal → cmp x y ≡ Equal
 tie_turned cmp total x y z tie tie' = grind (arith, common_steps, total)
 
-module _ (goings sets : List Record) (zones : List OneZone) (tied : IsTied goings sets zones) (new : Record) (none : chain_of new ≡ None) where
+module _ (goings sets : List Record) (apart : NoneDisplaces goings) (sets_are : AreSets goings sets) (new : Record) (none : chain_of new ≡ None) where
   pub cleared_none : entry_at set_cmp new sets ≡ None → (cleared : List Record) → cleared ≡ goings → AreCleared new goings cleared
   cleared_none missed cleared same item = (
-    λ h. (let old = subst (λ l. Contains l item) same h in (old, not_same (displaces new item) (λ is. (let tie = set_tie new item none is in entry_none set_cmp new sets missed item ((tied.sets_are item).1 (old, tie.0)) (set_tied item new tie.1))))),
+    λ h. (let old = subst (λ l. Contains l item) same h in (old, not_same (displaces new item) (λ is. (let tie = set_tie new item none is in entry_none set_cmp new sets missed item ((sets_are item).1 (old, tie.0)) (set_tied item new tie.1))))),
     λ h. subst (λ l. Contains l item) (sym same) h.0,
   )
 
   pub cleared_some : (old : Record) → entry_at set_cmp new sets ≡ Some old → (cleared : List Record) → AreBut old goings cleared → AreCleared new goings cleared
   cleared_some old is cleared but item =
       let found = entry_some set_cmp new sets old is in
-      let there = ((tied.sets_are old).0 found.0).0 in (
-        λ h. (let two = (but item).0 h in (two.0, not_same (displaces new item) (λ is'. two.1 (one_has_the_key goings tied.apart item old two.0 there (tie_turned key_cmp keys_total item old new (set_tie new item none is').1 (key_tied old new found.1)))))),
+      let there = ((sets_are old).0 found.0).0 in (
+        λ h. (let two = (but item).0 h in (two.0, not_same (displaces new item) (λ is'. two.1 (one_has_the_key goings apart item old two.0 there (tie_turned key_cmp keys_total item old new (set_tie new item none is').1 (key_tied old new found.1)))))),
         λ h. (but item).1 (h.0, λ same. true≢false (sym (displaces_either_way new old ∙ one_key_displaces old new (key_tied old new found.1)) ∙ (ap (displaces new) (sym same) ∙ h.1))),
       )
 
   pub old_there : (old : Record) → entry_at set_cmp new sets ≡ Some old → Contains goings old
-  old_there old is = ((tied.sets_are old).0 (entry_some set_cmp new sets old is).0).0
+  old_there old is = ((sets_are old).0 (entry_some set_cmp new sets old is).0).0
 
+module _ (goings sets : List Record) (zones : List OneZone) (tied : IsTied goings sets zones) (new : Record) (none : chain_of new ≡ None) where
   pub set_put : (zone : OneZone) → IsZoneFor (held_in goings zones) new zone → (cleared made sets' : List Record) → AreCleared new goings cleared → AreWith new cleared made → NoneDisplaces made → sets' ≡ with_entry set_cmp new sets
       → (zones' : List OneZone) → ((each : OneZone) → Contains zones' each ↔ ((each ≡ zone) ⊎ (Contains zones each × (each.apex ≡ zone.apex → ⊥)))) → IsInOrder apex_cmp zones'
       → IsPut goings zones new zone made sets' zones'
@@ -102,7 +104,7 @@ module _ (goings sets : List Record) (zones : List OneZone) (tied : IsTied going
 
   -- the same, by what the steps say
   pub set_made : (held : Held) → held_in goings zones ≡ held
-      → (cleared : List Record) (r : Record) → r ≡ new → AreCleared r held.records cleared
+      → (cleared : List Record) (r : Record) → r ≡ new → AreCleared r goings cleared
       → (made was : List Record) → was ≡ cleared → AreWith new was made → NoneDisplaces made
       → (sets' : List Record) → sets' ≡ with_entry set_cmp new sets
       → (zones' before : List OneZone) (name : List Label) → before ≡ zones → name ≡ zone_of new → IsWithApex name before zones' → IsInOrder apex_cmp zones' → IsInOrder apex_cmp before
@@ -111,7 +113,7 @@ module _ (goings sets : List Record) (zones : List OneZone) (tied : IsTied going
       let ordered' = subst (IsInOrder apex_cmp) is_zones ordered in
       let one = subst (λ l. IsWithApex (zone_of new) l zones') is_zones (subst (λ n. IsWithApex n before zones') is_apex with_apex) in
       let is = ⊎_elim (λ has. found_for goings sets zones tied new ordered' one.zone has one.at) (λ absent. none_for goings sets zones tied new one.zone one.at absent.0 absent.1) one.its in
-      let are' = subst (λ h. AreCleared new h.records cleared) (sym view) (subst (λ x. AreCleared x held.records cleared) same are) in
+      let are' = subst (λ x. AreCleared x goings cleared) same are in
       let with' = subst (λ l. AreWith new l made) is_cleared with in
       let put = set_put one.zone is cleared made sets' are' with' apart made_sets zones' one.members order in
       (put_tied goings sets zones tied new one.zone made sets' zones' put, subst (λ h. IsReordered (held_with h new) (held_in made zones')) view (put_reordered goings sets zones tied new one.zone made sets' zones' put ordered'))

@@ -6,12 +6,12 @@ ghost use Rattle.denial_records.specs.declared.record.Record.{Record};
 ghost use Rattle.cache_meaning.specs.Held.{chain_of, zone_of};
 ghost use Rattle.held_laws.specs.HeldLaws.{NoneDisplaces, IsReordered};
 ghost use Rattle.zone_chains.specs.Zone.{records_in, IsDenialOf, IsOneZone};
-ghost use Rattle.record_store.specs.Holding.{AreBut, IsTied, held_in, held_rest, rest_of};
+ghost use Rattle.record_store.specs.Holding.{AreBut, IsTied, held_in, rest_of};
 ghost use Rattle.ordered_list.specs.Order.{IsInOrder};
 ghost use Rattle.record_store.specs.Ranks.{apex_cmp};
 ghost use Rattle.record_store.specs.Dropping.{AreSets, IsZoneLeft, AreZonesLeft};
 
-use crate::holding::{Goings, Holding, Sets, Zones};
+use crate::holding::{Holding, Sets, Zones};
 use crate::ranks::zone_of;
 use crate::zones::{has_set, with_zone, without_zone, zone_at};
 use denial_records::Record;
@@ -22,17 +22,18 @@ use zone_chains::ZoneRecords;
 
 impl Holding {
     /// Without the record that goes first, and its chain where it was the last of it.
-    pub(crate) fn without_first(&self, alloc: Global) -> Result<Holding, OutOfMemory>
-        requires { 0 < length self.now.records }
-        ensures records { IfOk result (λ made. made.records ≡ drop 1 self.now.records) }
-        ensures chains { IfOk result (λ made. IsReordered (rest_of 1 self.now) made) }
+    pub(crate) fn without_first(self, alloc: Global) -> Result<Holding, OutOfMemory>
+        requires { 0 < length self.records }
+        ensures records { IfOk result (λ made. made.records ≡ drop 1 self.records) }
+        ensures chains { IfOk result (λ made. IsReordered (rest_of 1 self) made) }
     {
         let first = Arc::try_clone(self.goings.get(0))?;
         // That the records are in order is a clause of `len`.
         let _len = self.goings.len();
-        let goings = Arc::new(alloc, self.goings.without_first(alloc, 1)?)?;
-        let sets = self.sets_without(alloc, &goings, &first)?;
-        let zones = self.zones_without(alloc, &goings, &sets, &first)?;
+        let sets = self.sets_without(alloc, &first)?;
+        let zones = self.zones_without(alloc, &sets, &first)?;
+        let Holding { goings, .. } = self;
+        let goings = goings.into_without_first(alloc, 1)?;
         Ok(Holding {
             goings,
             sets,
@@ -40,16 +41,11 @@ impl Holding {
         })
     }
 
-    // The sets of the records that are left.
-    fn sets_without(
-        &self,
-        alloc: Global,
-        goings: &Goings,
-        gone: &Record,
-    ) -> Result<Arc<Sets, Global>, OutOfMemory>
+    // The sets of the records that are left without the first.
+    fn sets_without(&self, alloc: Global, gone: &Record) -> Result<Arc<Sets, Global>, OutOfMemory>
         requires there { Contains self.now.records gone.now }
-        requires left { AreBut gone.now self.now.records goings.now }
-        ensures { IfOk result (λ sets. AreSets goings.now (arc_value sets)) }
+        requires left { AreBut gone.now self.now.records (drop 1 self.now.records) }
+        ensures { IfOk result (λ sets. AreSets (drop 1 self.now.records) (arc_value sets)) }
     {
         match gone {
             Record::Set(_) => Ok(Arc::new(alloc, self.sets.without(alloc, gone)?)?),
@@ -57,21 +53,21 @@ impl Holding {
         }
     }
 
-    // The zones of the records that are left.
+    // The zones of the records that are left without the first.
     fn zones_without(
         &self,
         alloc: Global,
-        goings: &Goings,
         sets: &Sets,
         gone: &Record,
     ) -> Result<Arc<Zones, Global>, OutOfMemory>
         requires there { Contains self.now.records gone.now }
-        requires left { AreBut gone.now self.now.records goings.now }
-        requires apart { NoneDisplaces goings.now }
-        requires sets { AreSets goings.now sets.now }
-        ensures tied { IfOk result (λ zones. IsTied goings.now sets.now (arc_value zones)) }
+        requires left { AreBut gone.now self.now.records (drop 1 self.now.records) }
+        requires apart { NoneDisplaces (drop 1 self.now.records) }
+        requires sets { AreSets (drop 1 self.now.records) sets.now }
+        ensures tied { IfOk result (λ zones.
+            IsTied (drop 1 self.now.records) sets.now (arc_value zones)) }
         ensures same { IfOk result (λ zones.
-            IsReordered (held_rest goings.now self.now) (held_in goings.now (arc_value zones))) }
+            IsReordered (rest_of 1 self.now) (held_in (drop 1 self.now.records) (arc_value zones))) }
     {
         let Some(zone) = zone_at(&self.zones, &zone_of(gone)) else {
             return Arc::try_clone(&self.zones);

@@ -16,69 +16,65 @@ use std::sync::Arc;
 use zone_chains::{ChainRecords, ZoneRecords};
 
 /// Without a record that is there.
-pub(crate) fn without(
-    alloc: Global,
-    goings: &Goings,
-    gone: &Record,
-) -> Result<Arc<Goings, Global>, OutOfMemory>
-    requires there { Contains goings.now gone.now }
-    requires apart { NoneDisplaces goings.now }
-    ensures records { IfOk result (λ left. AreBut gone.now goings.now (arc_value left)) }
-    ensures apart { IfOk result (λ left. NoneDisplaces (arc_value left)) }
-    ensures fewer { IfOk result (λ left. length (arc_value left) < length goings.now) }
+pub(crate) fn without(alloc: Global, goings: Goings, gone: &Record) -> Result<Goings, OutOfMemory>
+    requires there { Contains goings gone.now }
+    requires apart { NoneDisplaces goings }
+    ensures records { IfOk result (λ left. AreBut gone.now goings left) }
+    ensures apart { IfOk result (λ left. NoneDisplaces left) }
+    ensures fewer { IfOk result (λ left. length left < length goings) }
 {
-    Ok(Arc::new(alloc, goings.without(alloc, gone)?)?)
+    goings.into_without(alloc, gone)
 }
 
 /// With a record that displaces none.
 pub(crate) fn with(
     alloc: Global,
-    goings: &Goings,
+    goings: Goings,
     new: Arc<Record, Global>,
-) -> Result<Arc<Goings, Global>, OutOfMemory>
-    requires apart { NoneDisplaces goings.now }
-    requires new { (item : Record) → Contains goings.now item → displaces (arc_value new) item
+) -> Result<Goings, OutOfMemory>
+    requires apart { NoneDisplaces goings }
+    requires new { (item : Record) → Contains goings item → displaces (arc_value new) item
         ≡ false }
-    ensures records { IfOk result (λ more. AreWith (arc_value new) goings.now (arc_value more)) }
-    ensures apart { IfOk result (λ more. NoneDisplaces (arc_value more)) }
+    ensures records { IfOk result (λ more. AreWith (arc_value new) goings more) }
+    ensures apart { IfOk result (λ more. NoneDisplaces more) }
 {
-    Ok(Arc::new(alloc, goings.with(alloc, new)?)?)
+    goings.into_with(alloc, new)
 }
 
 /// Without the records that go where the new denial record of the zone comes: those that it displaces, and those of the chain
 /// that goes for its own, if one does.
 pub(crate) fn without_gone(
     alloc: Global,
-    goings: &Arc<Goings, Global>,
+    goings: Goings,
     zone: &ZoneRecords,
     new: &Record,
-) -> Result<Arc<Goings, Global>, OutOfMemory>
-    requires apart { NoneDisplaces (arc_value goings.now) }
-    requires zone { IsZoneOf (arc_value goings.now) zone.now }
+) -> Result<Goings, OutOfMemory>
+    requires apart { NoneDisplaces goings }
+    requires zone { IsZoneOf goings zone.now }
     requires denial { IsDenialOf zone.now.apex new.now }
     ensures records { IfOk result (λ left.
         AreLeft new.now (third_for (chains_in zone.now) (chain_of new.now))
-        (arc_value goings.now) (arc_value left)) }
-    ensures apart { IfOk result (λ left. NoneDisplaces (arc_value left)) }
+        goings left) }
+    ensures apart { IfOk result (λ left. NoneDisplaces left) }
 {
-    let goings = without_third(alloc, Arc::try_clone(goings)?, zone, new)?;
+    let goings = without_third(alloc, goings, zone, new)?;
     without_displaced(alloc, goings, zone, new)
 }
 
 // Without the records that the new one displaces, which are the zone's.
 fn without_displaced(
     alloc: Global,
-    goings: Arc<Goings, Global>,
+    goings: Goings,
     zone: &ZoneRecords,
     new: &Record,
-) -> Result<Arc<Goings, Global>, OutOfMemory>
-    requires apart { NoneDisplaces (arc_value goings) }
+) -> Result<Goings, OutOfMemory>
+    requires apart { NoneDisplaces goings }
     requires denial { IsDenialOf zone.now.apex new.now }
     requires same { (old : Record) → displaces new.now old ≡ true
-        → Contains (arc_value goings) old ↔ Contains (records_in zone.now) old }
+        → Contains goings old ↔ Contains (records_in zone.now) old }
     ensures records { IfOk result (λ left.
-        AreCleared new.now (arc_value goings) (arc_value left)) }
-    ensures apart { IfOk result (λ left. NoneDisplaces (arc_value left)) }
+        AreCleared new.now goings left) }
+    ensures apart { IfOk result (λ left. NoneDisplaces left) }
 {
     // What the zone's chains have is a clause of `apex`.
     let _apex = zone.apex();
@@ -94,15 +90,15 @@ fn without_displaced(
 // Without the records of the chain that goes where the new denial record of the zone comes, if one does.
 fn without_third(
     alloc: Global,
-    goings: Arc<Goings, Global>,
+    goings: Goings,
     zone: &ZoneRecords,
     new: &Record,
-) -> Result<Arc<Goings, Global>, OutOfMemory>
-    requires apart { NoneDisplaces (arc_value goings) }
-    requires zone { IsZoneOf (arc_value goings) zone.now }
+) -> Result<Goings, OutOfMemory>
+    requires apart { NoneDisplaces goings }
+    requires zone { IsZoneOf goings zone.now }
     ensures records { IfOk result (λ left.
-        AreWithout (third_for (chains_in zone.now) (chain_of new.now)) (arc_value goings) (arc_value left)) }
-    ensures apart { IfOk result (λ left. NoneDisplaces (arc_value left)) }
+        AreWithout (third_for (chains_in zone.now) (chain_of new.now)) goings left) }
+    ensures apart { IfOk result (λ left. NoneDisplaces left) }
 {
     // What the zone's chains have is a clause of `apex`.
     let _apex = zone.apex();
@@ -113,22 +109,18 @@ fn without_third(
 }
 
 // Without the records of the chain.
-fn without_chain(
-    alloc: Global,
-    goings: Arc<Goings, Global>,
-    chain: &ChainRecords,
-) -> Result<Arc<Goings, Global>, OutOfMemory>
-    requires apart { NoneDisplaces (arc_value goings) }
+fn without_chain(alloc: Global, goings: Goings, chain: &ChainRecords) -> Result<Goings, OutOfMemory>
+    requires apart { NoneDisplaces goings }
     requires there { (item : Record) → Contains chain.now.records item
-        → Contains (arc_value goings) item }
-    requires all { (item : Record) → Contains (arc_value goings) item
+        → Contains goings item }
+    requires all { (item : Record) → Contains goings item
         → chain_of item ≡ Some chain.now.chain → Contains chain.now.records item }
     requires its { (item : Record) → Contains chain.now.records item
         → chain_of item ≡ Some chain.now.chain }
     requires once { AllPairs (λ one other. displaces one other ≡ false) chain.now.records }
     ensures records { IfOk result (λ left.
-        AreWithout (Some chain.now.chain) (arc_value goings) (arc_value left)) }
-    ensures apart { IfOk result (λ left. NoneDisplaces (arc_value left)) }
+        AreWithout (Some chain.now.chain) goings left) }
+    ensures apart { IfOk result (λ left. NoneDisplaces left) }
 {
     without_places(alloc, goings, chain, 0, chain.len())
 }
@@ -136,24 +128,24 @@ fn without_chain(
 // Without the chain's records at the places from one up to another.
 fn without_places(
     alloc: Global,
-    goings: Arc<Goings, Global>,
+    goings: Goings,
     chain: &ChainRecords,
     from: usize,
     to: usize,
-) -> Result<Arc<Goings, Global>, OutOfMemory>
-    requires apart { NoneDisplaces (arc_value goings) }
+) -> Result<Goings, OutOfMemory>
+    requires apart { NoneDisplaces goings }
     requires order { from ≤ to }
     requires in_range { to ≤ length chain.now.records }
     requires there { (item : Record) → IsAt chain.now.records from to item
-        → Contains (arc_value goings) item }
+        → Contains goings item }
     requires once { AllPairs (λ one other. displaces one other ≡ false) chain.now.records }
     ensures records { IfOk result (λ left.
-        AreElsewhere chain.now.records from to (arc_value goings) (arc_value left)) }
-    ensures apart { IfOk result (λ left. NoneDisplaces (arc_value left)) }
+        AreElsewhere chain.now.records from to goings left) }
+    ensures apart { IfOk result (λ left. NoneDisplaces left) }
 {
     let mut goings = goings;
     for i in from..to {
-        goings = without(alloc, &goings, chain.get(i))?;
+        goings = without(alloc, goings, chain.get(i))?;
     }
     Ok(goings)
 }

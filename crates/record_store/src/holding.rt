@@ -25,7 +25,7 @@ pub(crate) type Zones = OrderedList<ZoneRecords, ByApex>;
 /// zones. Seen as the records in that order and the chains of all zones.
 #[derive(Drop)]
 pub(crate) struct Holding {
-    pub(crate) goings: Arc<Goings, Global>,
+    pub(crate) goings: Goings,
     pub(crate) sets: Arc<Sets, Global>,
     pub(crate) zones: Arc<Zones, Global>,
 }
@@ -37,9 +37,9 @@ impl Model for Holding {
 
     ghost Value = { Held };
 
-    ghost view = { λ h. held_in (arc_value h.goings) (arc_value h.zones) };
+    ghost view = { λ h. held_in h.goings (arc_value h.zones) };
 
-    ghost invariant = { λ h. IsTied (arc_value h.goings) (arc_value h.sets) (arc_value h.zones) };
+    ghost invariant = { λ h. IsTied h.goings (arc_value h.sets) (arc_value h.zones) };
 }
 
 impl Holding {
@@ -47,7 +47,7 @@ impl Holding {
         ensures { IfOk result (λ holding. holding ≡ nothing_held) }
     {
         Ok(Holding {
-            goings: Arc::new(alloc, Goings::empty(alloc))?,
+            goings: Goings::empty(alloc),
             sets: Arc::new(alloc, Sets::empty(alloc))?,
             zones: Arc::new(alloc, Zones::empty(alloc))?,
         })

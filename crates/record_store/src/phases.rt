@@ -22,21 +22,24 @@ impl Holding {
         ensures apart { NoneDisplaces self.now.records }
         ensures made_apart { IfOk result (λ made. NoneDisplaces made.records) }
     {
-        let holding = self.usable(alloc, batch.now)?;
+        // What a holding has is a clause of `len`.
+        let _len = self.len();
+        let shared = self.share(alloc)?;
+        let holding = shared.usable(alloc, batch.now)?;
         let holding = holding.with_records(alloc, &batch.records)?;
         holding.within_limit(alloc)
     }
 
     // What may be used at the moment.
-    fn usable(&self, alloc: Global, now: u32) -> Result<Holding, OutOfMemory>
+    fn usable(self, alloc: Global, now: u32) -> Result<Holding, OutOfMemory>
         ensures made { IfOk result (λ made.
-            IsReordered (held_where (is_usable now) self.now) made) }
-        ensures apart { NoneDisplaces self.now.records }
+            IsReordered (held_where (is_usable now) self) made) }
+        ensures apart { NoneDisplaces self.records }
         ensures made_apart { IfOk result (λ made. NoneDisplaces made.records) }
     {
         // What a holding has is a clause of `len`.
         let _len = self.len();
-        let mut holding = self.share()?;
+        let mut holding = self;
         while holding.has_expired(now) {
             holding = holding.without_first(alloc)?;
         }
@@ -82,12 +85,12 @@ impl Holding {
         self.goings.len() > 0 && expiry_of(self.goings.get(0)) <= u64::from(now)
     }
 
-    // Another owner of its parts.
-    fn share(&self) -> Result<Holding, OutOfMemory>
+    // Another owner of its parts, whose order of going may be changed in place.
+    fn share(&self, alloc: Global) -> Result<Holding, OutOfMemory>
         ensures { IfOk result (λ share. share ≡ self.now) }
     {
         Ok(Holding {
-            goings: Arc::try_clone(&self.goings)?,
+            goings: self.goings.try_clone(alloc)?,
             sets: Arc::try_clone(&self.sets)?,
             zones: Arc::try_clone(&self.zones)?,
         })

@@ -1,5 +1,4 @@
 use Rattle.std.proofs.Common.{Some, subst}
-use Rattle.std.specs.Arc.{arc_value}
 use Rattle.std.proofs.lemmas.Result.{IfOk-weaker}
 use Rattle.record_store.specs.Holding.{AreWithout, AreElsewhere}
 use Rattle.record_store.proofs.GoneLemmas.{all_gone}
@@ -8,5 +7,5 @@ use Rattle.record_store.proofs.goings.without_chain.Goals as goal
 pub returns-clause-records : goal.returns-clause-records
 returns-clause-records c =
     let records = c.args.chain.now.records in
-    IfOk-weaker c.without_places.result _ (λ left. AreWithout (Some c.args.chain.now.chain) (arc_value c.args.goings) (arc_value left))
-    (λ left elsewhere. all_gone records (arc_value c.args.goings) (arc_value left) c.args.chain.now.chain (subst (λ n. AreElsewhere records 0 n (arc_value c.args.goings) (arc_value left)) c.len.ensures elsewhere) c.requires.all c.requires.its) c.without_places.ensures.records
+    IfOk-weaker c.without_places.result _ (λ left. AreWithout (Some c.args.chain.now.chain) c.args.goings left)
+    (λ left elsewhere. all_gone records c.args.goings left c.args.chain.now.chain (subst (λ n. AreElsewhere records 0 n c.args.goings left) c.len.ensures elsewhere) c.requires.all c.requires.its) c.without_places.ensures.records

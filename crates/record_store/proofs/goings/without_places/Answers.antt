@@ -1,34 +1,33 @@
-use Rattle.std.proofs.Common.{◌≡◌, subst, sym, arith, List, Contains}
+use Rattle.std.proofs.Common.{◌≡◌, subst, sym, arith, Contains}
 use Rattle.std.specs.Arc.{arc_value}
 use Rattle.denial_records.specs.declared.record.Record.{Record}
-use Rattle.held_laws.specs.HeldLaws.{NoneDisplaces}
 use Rattle.record_store.specs.Holding.{AreBut, AreElsewhere}
 use Rattle.record_store.proofs.GoingLemmas.{taking_begins, taking_there, taking_goes_on}
 use Rattle.record_store.proofs.goings.without_places.Goals as goal
 
 pub loop-i-init : goal.loop-i-init
-loop-i-init c = taking_begins c.args.chain.now.records (arc_value c.args.goings) c.args.from c.requires.apart
+loop-i-init c = taking_begins c.args.chain.now.records c.args.goings c.args.from c.requires.apart
 
 pub without-requires-clause-there : goal.without-requires-clause-there
 without-requires-clause-there c =
     let records = c.args.chain.now.records in
     let x = arc_value c.get.result.now in
-    let has = taking_there records (arc_value c.args.goings) (arc_value c.loop-i.goings) c.args.from c.loop-i.i c.loop-i.invariant c.requires.once x (omega arith) c.get.ensures
+    let has = taking_there records c.args.goings c.loop-i.goings c.args.from c.loop-i.i c.loop-i.invariant c.requires.once x (omega arith) c.get.ensures
     (c.requires.there x (c.loop-i.i, omega arith, omega arith, sym c.get.ensures)) in
-    subst (λ (l : List Record). Contains l c.deref-in-loop-i.result.now) (sym c.deref.ensures) (subst (Contains (arc_value c.loop-i.goings)) (sym c.deref-in-loop-i.ensures) has)
+    subst (Contains c.loop-i.goings) (sym c.deref.ensures) has
 
 pub without-requires-clause-apart : goal.without-requires-clause-apart
-without-requires-clause-apart c = subst NoneDisplaces (sym c.deref.ensures) c.loop-i.invariant.apart
+without-requires-clause-apart c = c.loop-i.invariant.apart
 
 pub loop-i-preserved : goal.loop-i-preserved
 loop-i-preserved c =
-    let but = subst (λ (l : List Record). AreBut (arc_value c.get.result.now) l (arc_value c.in_ok-goings.goings)) c.deref.ensures (subst (λ (r : Record). AreBut r c.deref.result.now (arc_value c.in_ok-goings.goings)) c.deref-in-loop-i.ensures c.in_ok-goings.ensures.records) in
-    taking_goes_on c.args.chain.now.records (arc_value c.args.goings) (arc_value c.loop-i.goings) c.args.from c.loop-i.i c.loop-i.invariant (arc_value c.get.result.now) (arc_value c.in_ok-goings.goings) (omega arith) (omega arith) c.get.ensures but c.in_ok-goings.ensures.apart
+    let but = subst (λ (r : Record). AreBut r c.loop-i.goings c.in_ok-goings.goings) c.deref.ensures c.in_ok-goings.ensures.records in
+    taking_goes_on c.args.chain.now.records c.args.goings c.loop-i.goings c.args.from c.loop-i.i c.loop-i.invariant (arc_value c.get.result.now) c.in_ok-goings.goings (omega arith) (omega arith) c.get.ensures but c.in_ok-goings.ensures.apart
 
 pub returns-clause-records : goal.returns-clause-records
 returns-clause-records c =
     let end : c.loop-i.i ≡ c.args.to = omega arith in
-    subst (λ n. AreElsewhere c.args.chain.now.records c.args.from n (arc_value c.args.goings) (arc_value c.loop-i.goings)) end c.loop-i.invariant.rest
+    subst (λ n. AreElsewhere c.args.chain.now.records c.args.from n c.args.goings c.loop-i.goings) end c.loop-i.invariant.rest
 
 pub returns-clause-apart : goal.returns-clause-apart
 returns-clause-apart c = c.loop-i.invariant.apart

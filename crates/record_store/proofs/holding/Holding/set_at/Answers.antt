@@ -12,5 +12,5 @@ use Rattle.record_store.proofs.holding.Holding.set_at.Goals as goal
 pub returns : goal.returns
 returns c =
     subst (λ (held : Held). option_copied c.set_in.result ≡ set_at (in_key_order held) c.args.zone.now c.args.owner.now c.args.rtype) c.self.view_is
-    (set_in_sets (arc_value c.self.inside.goings) (arc_value c.self.inside.sets) (arc_value c.self.inside.zones) c.self.invariant c.args.zone.now c.args.owner.now c.args.rtype (option_copied c.set_in.result)
+    (set_in_sets c.self.inside.goings (arc_value c.self.inside.sets) (arc_value c.self.inside.zones) c.self.invariant c.args.zone.now c.args.owner.now c.args.rtype (option_copied c.set_in.result)
     (subst (λ (sets : List Record). IsChosen (as_set_at c.args.zone.now c.args.owner.now c.args.rtype) sets (option_copied c.set_in.result)) c.deref-sets.ensures c.set_in.ensures))

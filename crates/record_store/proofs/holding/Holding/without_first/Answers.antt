@@ -1,4 +1,4 @@
-use Rattle.std.proofs.Common.{◌≡◌, List, drop, sym, ◌∙◌, ap, subst}
+use Rattle.std.proofs.Common.{◌≡◌, List, drop, refl, sym, ◌∙◌, ap, subst}
 use Rattle.std.specs.Arc.{arc_value}
 use Rattle.denial_records.specs.declared.record.Record.{Record}
 use Rattle.cache_meaning.specs.Held.{Held}
@@ -8,26 +8,24 @@ use Rattle.record_store.proofs.holding.Holding.without_first.Goals as goal
 
 pub sets_without-requires-clause-left : goal.sets_without-requires-clause-left
 sets_without-requires-clause-left c =
-    let xs = c.args.self.now.records in
-    let whole : arc_value c.self.inside.goings ≡ xs = ap (λ (h : Held). h.records) c.self.view_is in
-    first_gone xs c.deref-2.result.now c.deref.result.now c.deref-4.result.now (arc_value c.get.result.now) c.deref-5.result.now (c.deref-2.ensures ∙ whole) c.len-len.ensures.in_order c.requires (c.deref.ensures ∙ whole) c.get.ensures
-    (c.deref-5.ensures ∙ c.in_ok-first.ensures)
-    (c.deref-4.ensures ∙ (c.in_ok-goings.ensures.ok ∙ (c.in_ok-without_first.ensures ∙ ap (λ (l : List Record). drop 1 l) (c.deref-3.ensures ∙ whole))))
+    let xs = c.args.self.records in
+    let goings = c.self.inside.goings in
+    let whole : goings ≡ xs = ap (λ (h : Held). h.records) c.self.view_is in
+    first_gone xs goings goings (drop 1 xs) (arc_value c.get.result.now) c.deref.result.now whole c.len-len.ensures.in_order c.requires whole c.get.ensures
+    (c.deref.ensures ∙ c.in_ok-first.ensures) refl
 
 pub zones_without-requires-clause-left : goal.zones_without-requires-clause-left
 zones_without-requires-clause-left c =
-    let xs = c.args.self.now.records in
-    let whole : arc_value c.self.inside.goings ≡ xs = ap (λ (h : Held). h.records) c.self.view_is in
-    first_gone xs c.deref-2.result.now c.deref.result.now c.deref-6.result.now (arc_value c.get.result.now) c.deref-8.result.now (c.deref-2.ensures ∙ whole) c.len-len.ensures.in_order c.requires (c.deref.ensures ∙ whole) c.get.ensures
-    (c.deref-8.ensures ∙ c.in_ok-first.ensures)
-    (c.deref-6.ensures ∙ (c.in_ok-goings.ensures.ok ∙ (c.in_ok-without_first.ensures ∙ ap (λ (l : List Record). drop 1 l) (c.deref-3.ensures ∙ whole))))
+    let xs = c.args.self.records in
+    let goings = c.self.inside.goings in
+    let whole : goings ≡ xs = ap (λ (h : Held). h.records) c.self.view_is in
+    first_gone xs goings goings (drop 1 xs) (arc_value c.get.result.now) c.deref-3.result.now whole c.len-len.ensures.in_order c.requires whole c.get.ensures
+    (c.deref-3.ensures ∙ c.in_ok-first.ensures) refl
 
 pub zones_without-requires-clause-apart : goal.zones_without-requires-clause-apart
 zones_without-requires-clause-apart c =
-    apart_first (arc_value c.self.inside.goings) c.deref-6.result.now c.self.invariant.apart
-    (c.deref-6.ensures ∙ (c.in_ok-goings.ensures.ok ∙ (c.in_ok-without_first.ensures ∙ ap (λ (l : List Record). drop 1 l) c.deref-3.ensures)))
+    let whole : c.self.inside.goings ≡ c.args.self.records = ap (λ (h : Held). h.records) c.self.view_is in
+    apart_first c.self.inside.goings (drop 1 c.args.self.records) c.self.invariant.apart (ap (λ (l : List Record). drop 1 l) (sym whole))
 
 pub zones_without-requires-clause-sets : goal.zones_without-requires-clause-sets
-zones_without-requires-clause-sets c =
-    subst (AreSets c.deref-6.result.now) (sym c.deref-7.ensures)
-    (subst (λ (l : List Record). AreSets l (arc_value c.in_ok-sets.sets)) (c.deref-4.ensures ∙ sym c.deref-6.ensures) c.in_ok-sets.ensures)
+zones_without-requires-clause-sets c = subst (AreSets (drop 1 c.args.self.records)) (sym c.deref-2.ensures) c.in_ok-sets.ensures

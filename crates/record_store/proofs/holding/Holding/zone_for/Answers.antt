@@ -14,7 +14,7 @@ returns-in_err-zone_for c =
     let none = subst (λ (zones : List OneZone). first_apex zones (candidates c.args.name.now c.args.qtype) ≡ None) c.deref-zones.ensures c.in_err-zone_for.ensures in
     rw c.from_residual.ensures
     (subst (λ (h : Held). zone_for (in_key_order h) c.args.name.now c.args.qtype ≡ None) c.self.view_is
-    (sym (zone_for_held (arc_value held.goings) (arc_value held.sets) (arc_value held.zones) c.self.invariant c.args.name.now c.args.qtype) ∙ none))
+    (sym (zone_for_held held.goings (arc_value held.sets) (arc_value held.zones) c.self.invariant c.args.name.now c.args.qtype) ∙ none))
 
 pub returns : goal.returns
 returns c =
@@ -23,4 +23,4 @@ returns c =
     let is = subst (λ (zones : List OneZone). IsFirstZone zones (candidates c.args.name.now c.args.qtype) zone) c.deref-zones.ensures c.in_ok-zone_for.ensures in
     subst (λ (z : OneZone). (zone_for (in_key_order c.args.self.now) c.args.name.now c.args.qtype ≡ Some z.apex) × IsZoneIn (in_key_order c.args.self.now) z) (sym c.deref-zone.ensures)
     (subst (λ (h : Held). (zone_for (in_key_order h) c.args.name.now c.args.qtype ≡ Some zone.apex) × IsZoneIn (in_key_order h) zone) c.self.view_is
-    (zone_is_found (arc_value held.goings) (arc_value held.sets) (arc_value held.zones) c.self.invariant c.args.name.now c.args.qtype zone is))
+    (zone_is_found held.goings (arc_value held.sets) (arc_value held.zones) c.self.invariant c.args.name.now c.args.qtype zone is))

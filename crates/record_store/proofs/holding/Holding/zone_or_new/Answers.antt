@@ -9,7 +9,7 @@ use Rattle.record_store.proofs.holding.Holding.zone_or_new.Goals as goal
 
 pub returns-in-Some : goal.returns-in-Some
 returns-in-Some c =
-    let goings = arc_value c.self.inside.goings in
+    let goings = c.self.inside.goings in
     let zones = arc_value c.self.inside.zones in
     let has = subst (λ (l : List OneZone). Contains l (arc_value c.in-Some.zone.now)) c.deref.ensures c.in-Some.ensures.zone.0 in
     let order = rw c.deref.ensures at c.in-Some.ensures.order in
@@ -19,7 +19,7 @@ returns-in-Some c =
 
 pub returns-in_ok-new-in-None : goal.returns-in_ok-new-in-None
 returns-in_ok-new-in-None c =
-    let goings = arc_value c.self.inside.goings in
+    let goings = c.self.inside.goings in
     let zones = arc_value c.self.inside.zones in
     let zone = arc_value c.in_ok-new-in-None.field-0 in
     let made : zone ≡ c.of.result = c.in_ok-new-in-None.ensures.ok in
