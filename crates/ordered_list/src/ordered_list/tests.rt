@@ -82,6 +82,18 @@ fn changed(alloc: Global, list: &Tens, change: Change) -> Result<Tens, OutOfMemo
     }
 }
 
+// The same by a list that is used up.
+fn into_changed(alloc: Global, list: Tens, change: Change) -> Result<Tens, OutOfMemory> {
+    match change {
+        Change::With(n) => list.into_with(alloc, Arc::new(alloc, n)?),
+        Change::Without(n) => list.into_without(alloc, &n),
+        Change::WithoutFirst(n) => {
+            let count = n.min(list.len());
+            list.into_without_first(alloc, count)
+        }
+    }
+}
+
 // The same of a plain list that is sorted anew.
 fn change_plain(plain: &mut Vec<u64>, change: Change) -> Result<(), OutOfMemory> {
     match change {
@@ -147,7 +159,11 @@ fn changes_as_a_sorted_vector_does(rt: HostRuntime) -> Result<(), Fail> {
             1..7 => Change::Without(n),
             _ => Change::With(n),
         };
-        let new = changed(alloc, &list, change)?;
+        let new = if turn % 2 == 0 {
+            changed(alloc, &list, change)?
+        } else {
+            into_changed(alloc, list.try_clone(alloc)?, change)?
+        };
         assert!(rt;
             same(&list, plain.as_slice()),
             "the old list, at turn {turn}"

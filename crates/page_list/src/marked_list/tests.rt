@@ -174,6 +174,55 @@ fn says_the_same_as_a_plain_list(rt: HostRuntime) -> Result<(), Fail> {
     Ok(())
 }
 
+// In both lists a random entry comes in, takes the place of one or goes.
+fn changed_in_place(
+    alloc: Global,
+    list: PageList<u64>,
+    plain: &mut Vec<u64>,
+    seed: &mut u64,
+) -> Result<PageList<u64>, OutOfMemory> {
+    let from = (next(seed) as usize) % list.len().saturating_add(1);
+    let to = from
+        .saturating_add((next(seed) % 2) as usize)
+        .min(list.len());
+    if from > to || to > list.len() || to > plain.len() {
+        return Ok(list);
+    }
+    if next(seed) % 2 == 0 {
+        let first = next(seed);
+        let items = numbers(alloc, first, first.saturating_add(1))?;
+        replace(alloc, plain, from, to, items.as_slice())?;
+        list.into_with_one(alloc, from, to, Arc::new(alloc, first)?)
+    } else {
+        replace(alloc, plain, from, to, &[])?;
+        list.into_without_run(alloc, from, to)
+    }
+}
+
+#[test]
+fn is_changed_in_place_while_another_stays(rt: HostRuntime) -> Result<(), Fail> {
+    let alloc = rt.alloc();
+    let old = list_of(alloc, 3000)?;
+    let mut first = Vec::new(alloc);
+    let mut plain = Vec::new(alloc);
+    for n in 0..3000 {
+        first.push(n)?;
+        plain.push(n)?;
+    }
+    let mut seed = 11;
+    let mut list = old.try_clone(alloc)?;
+    for turn in 0..TURNS {
+        list = changed_in_place(alloc, list, &mut plain, &mut seed)?;
+        assert!(rt;
+            turn % 500 != 0 || same(&list, plain.as_slice()),
+            "at turn {turn}"
+        );
+    }
+    assert!(rt; same(&list, plain.as_slice()) && is_filled(&list));
+    assert!(rt; same(&old, first.as_slice()));
+    Ok(())
+}
+
 #[test]
 fn replaces_at_the_edges(rt: HostRuntime) -> Result<(), Fail> {
     // how many entries there are at first, the part that goes, and how many come in
