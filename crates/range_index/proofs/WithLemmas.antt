@@ -5,7 +5,7 @@ use Rattle.std.specs.declared.cmp.Ordering.{Ordering}
 use Rattle.std.specs.Cmp.{IsTotalOrder}
 use Rattle.std.specs.List.{filter, All, AllPairs, prefix_len}
 use Rattle.std.proofs.lemmas.Bool.{cases_lt}
-use Rattle.std.proofs.lemmas.List.{get_or_read, length-take-le, append-nil, append_assoc, drop_all, drop-append-le}
+use Rattle.std.proofs.lemmas.List.{get_or_read, length-take-le, drop_all, drop-append-le}
 use Rattle.std.proofs.lemmas.List.Elements.{filter_passes}
 use Rattle.std.proofs.lemmas.List.Kept.{AllPairs-filter}
 use Rattle.dname.specs.Arc.{arc_has}
@@ -232,30 +232,13 @@ IsOverMet-found cmp o start end xs arcs new s e n m from b hs he hn hm front hb 
       is = ap (λ z. drop z (take from xs) ++ new ∷ []) hb ∙ over_with cmp o start end xs arcs new n m from by_start by_end front' over;
     }
 
--- what a replacement by one element leaves
-pub replaced_by_one : {X : Type 0} (ys items made goal : List X) (new : X) (from to : ℕ) → made ≡ take from ys ++ items ++ drop to ys → items ≡ new ∷ [] → take from ys ++ new ∷ drop to ys ≡ goal → made ≡ goal
-replaced_by_one ys items made goal new from to e one g =
-    e ∙ ap (λ z. take from ys ++ z ++ drop to ys) one ∙ append_assoc (take from ys) (new ∷ []) (drop to ys) ∙ g
-
--- by none, at the end and at the front
-pub cut_at_end : {X : Type 0} (xs none ys : List X) (kept l : ℕ) → ys ≡ take kept xs ++ none ++ drop l xs → none ≡ [] → l ≡ length xs → ys ≡ take kept xs
-cut_at_end xs none ys kept l e empty hl =
-    let past : length xs ≤ l = omega arith in
-    e ∙ ap (λ z. take kept xs ++ z ++ drop l xs) empty ∙ ap (λ z. take kept xs ++ [] ++ z) (drop_all l xs past) ∙ append-nil (take kept xs ++ []) ∙ append-nil (take kept xs)
-
-pub cut_at_front : {X : Type 0} (ys none made : List X) (dropped : ℕ) → made ≡ take 0 ys ++ none ++ drop dropped ys → none ≡ [] → made ≡ drop dropped ys
-cut_at_front ys none made dropped e empty = e ∙ ap (λ z. z ++ drop dropped ys) empty
-
-pub behind_kept : {X : Type 0} (xs items ys : List X) (new : X) (kept l dropped : ℕ) → ys ≡ take kept xs ++ items ++ drop l xs → items ≡ new ∷ [] → l ≡ length xs → kept ≤ length xs → dropped ≤ kept → drop dropped ys ≡ drop dropped (take kept xs) ++ new ∷ []
-behind_kept xs items ys new kept l dropped e one hl in_range order =
+-- behind the first so many, where one element came in place of the end
+pub behind_kept : {X : Type 0} (xs ys : List X) (new : X) (kept l dropped : ℕ) → ys ≡ take kept xs ++ new ∷ drop l xs → l ≡ length xs → kept ≤ length xs → dropped ≤ kept → drop dropped ys ≡ drop dropped (take kept xs) ++ new ∷ []
+behind_kept xs ys new kept l dropped e hl in_range order =
     let past : length xs ≤ l = omega arith in
     let long : length (take kept xs) ≡ kept = length-take-le kept xs in_range in
-    ap (drop dropped) (e ∙ ap (λ z. take kept xs ++ z ++ drop l xs) one ∙ ap (λ z. take kept xs ++ new ∷ [] ++ z) (drop_all l xs past) ∙ append-nil (take kept xs ++ new ∷ []))
+    ap (drop dropped) (e ∙ ap (λ z. take kept xs ++ new ∷ z) (drop_all l xs past))
     ∙ drop-append-le dropped (take kept xs) (new ∷ []) (omega arith)
-
--- by none in place of a run
-pub cut_out : {X : Type 0} (xs none made goal : List X) (from to : ℕ) → made ≡ take from xs ++ none ++ drop to xs → none ≡ [] → take from xs ++ drop to xs ≡ goal → made ≡ goal
-cut_out xs none made goal from to e empty g = e ∙ ap (λ z. take from xs ++ z ++ drop to xs) empty ∙ ap (λ z. z ++ drop to xs) (append-nil (take from xs)) ∙ g
 
 -- the three returns of `trimmed`
 pub IsTrimmed-shorter : {X : Type 0} (p : X → Bool) (xs : List X) (low high : ℕ) (x : X) → low < high → high ≤ length xs → x ≡ get_or xs (high - 1) x → p x ≡ true → IsTrimmed p xs low high (high - 1)

@@ -121,7 +121,7 @@ impl<T: Drop, R: RingSpan<T>> Arcs<T, R> {
             made ≡ filter (starts_elsewhere R.Key.Ord.cmp R.start key.now) self.now) }
     {
         let (from, to) = starting_at(&self.list, frame, key);
-        let list = self.list.with_replaced(alloc, from, to, Vec::new(alloc))?;
+        let list = self.list.without_run(alloc, from, to)?;
         Ok(Arcs { list })
     }
 

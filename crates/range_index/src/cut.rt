@@ -57,12 +57,11 @@ fn with_plain<T: Drop, R: RingSpan<T>>(
         made ≡ arcs_with R.Key.Ord.cmp R.start R.end (arc_value span) list.now) }
 {
     let met = plain_met::<T, R>(list, &span);
-    let items = alone(alloc, span)?;
     if met.last < list.len() {
-        let list = list.with_replaced(alloc, met.last, list.len(), Vec::new(alloc))?;
-        list.with_replaced(alloc, met.from, met.to, items)
+        let list = list.without_run(alloc, met.last, list.len())?;
+        list.into_with_one(alloc, met.from, met.to, span)
     } else {
-        list.with_replaced(alloc, met.from, met.to, items)
+        list.with_one(alloc, met.from, met.to, span)
     }
 }
 
@@ -94,10 +93,9 @@ fn with_over<T: Drop, R: RingSpan<T>>(
         made ≡ arcs_with R.Key.Ord.cmp R.start R.end (arc_value span) list.now) }
 {
     let met = over_met::<T, R>(list, &span);
-    let items = alone(alloc, span)?;
-    let made = list.with_replaced(alloc, met.last, list.len(), items)?;
+    let made = list.with_one(alloc, met.last, list.len(), span)?;
     if met.to > 0 {
-        made.with_replaced(alloc, 0, met.to, Vec::new(alloc))
+        made.into_without_run(alloc, 0, met.to)
     } else {
         Ok(made)
     }
@@ -115,14 +113,6 @@ fn over_met<T: Drop, R: RingSpan<T>>(list: &MarkedList<T, ByStart<R>>, span: &T)
     let last = trimmed(list, 0, starts_before(list, &frame, &start), &start);
     let to = starts_before(list, &frame, &R::end_key(span)).min(last);
     Met { from: 0, to, last }
-}
-
-fn alone<T: Drop>(alloc: Global, span: Arc<T>) -> Result<Vec<Arc<T>>, OutOfMemory>
-    ensures { IfOk result (λ items. map arc_value items.items ≡ arc_value span ∷ []) }
-{
-    let mut items = Vec::new(alloc);
-    items.push(span)?;
-    Ok(items)
 }
 
 // The places from `low` up to `high`, without the last where its span has the key.
