@@ -1,5 +1,5 @@
 -- A table's piles by their places.
-use Rattle.std.proofs.Common.{◌≡◌, ℕ, zero, suc, ◌+◌, ◌<◌, ◌⊎◌, inl, inr, Bool, true, false, ◌&&◌, ◌||◌, ◌==◌, cond, if◌then◌else◌, List, [], ◌∷◌, ◌++◌, length, get_or, set, Option, Some, None, BTreeMap, Result, Ok, Err, OnOk, refl, sym, ◌∙◌, ap, subst, arith}
+use Rattle.std.proofs.Common.{◌≡◌, ℕ, zero, suc, ◌+◌, ◌<◌, ◌≤◌, ◌⊎◌, inl, inr, Bool, true, false, ◌&&◌, ◌||◌, ◌==◌, cond, if◌then◌else◌, List, [], ◌∷◌, ◌++◌, length, get_or, set, Option, Some, None, BTreeMap, Result, Ok, Err, OnOk, refl, sym, ◌∙◌, ap, subst, arith}
 use Rattle.std.specs.List.{list_any}
 use Rattle.std.specs.Option.{option_map}
 use Rattle.std.specs.Bool.{Decides}
@@ -10,10 +10,11 @@ use Rattle.std.specs.Ordering.{nat_cmp, is_eq, ordering_then}
 use Rattle.std.specs.declared.cmp.Ordering.{Ordering}
 use Rattle.std.specs.declared.cmp.Ordering.TheVariants.{Less, Equal, Greater}
 use Rattle.std.specs.BTreeMap.{get, Updates}
+use Rattle.std.proofs.lemmas.List.{length-set, length_push}
 use Rattle.dname.specs.Name.{canonical_cmp}
 use Rattle.dname.specs.Order.{canonical_ties}
 use Rattle.intake.specs.Group.{same_name}
-use Rattle.intake.specs.Pile.{IsTable, place_of, changed_first, has_key, key_cmp}
+use Rattle.intake.specs.Pile.{IsTable, HasPlaces, place_of, changed_first, has_key, key_of_pile, key_cmp}
 use Rattle.intake.specs.declared.key.Key.{Key}
 use Rattle.intake.specs.declared.pile.Pile.{Pile}
 use Rattle.intake.specs.declared.table.Table.{Table}
@@ -132,9 +133,9 @@ on_ok (Ok x) P Q step holds = step holds
 on_ok (Err e) P Q step holds = tt
 
 pub table_with : (table : Table) (i : ℕ) (pile pile' : Pile) (piles : List Pile) → IsTable table → i < length table.piles.items → pile ≡ get_or table.piles.items i pile
-    → ((key : Key) → has_key key pile' ≡ has_key key pile) → piles ≡ set table.piles.items i pile' → (key : Key) → get key_cmp table.places key ≡ place_of (has_key key) piles
-table_with table i pile pile' piles is below at same set-is key =
-    is.places key ∙ sym (place_set (has_key key) table.piles.items i pile pile' below at (same key)) ∙ ap (place_of (has_key key)) (sym set-is)
+    → ((key : Key) → has_key key pile' ≡ has_key key pile) → piles ≡ set table.piles.items i pile' → 8 < length piles → HasPlaces table.places piles
+table_with table i pile pile' piles is below at same set-is many key =
+    is.places (let sizes = ap length set-is ∙ length-set table.piles.items i pile' in omega (arith, many, sizes)) key ∙ sym (place_set (has_key key) table.piles.items i pile pile' below at (same key)) ∙ ap (place_of (has_key key)) (sym set-is)
 
 and_parts : (a b : Bool) → (a && b) ≡ true → (a ≡ true) × (b ≡ true)
 and_parts true b h = (refl, h)
@@ -192,3 +193,73 @@ table_more places places' piles key pile size is absent same size-is updates q =
     (λ h. subst (λ (k : Key). place_of (has_key k) piles ≡ None) ((key_decides key q).0 (sym (key_tied key q) ∙ h)) absent)
     size-is
     ∙ sym (place_push (has_key q) piles pile)
+
+-- where one of the piles before has the key
+pub table_held : (places : BTreeMap Key ℕ) (piles : List Pile) (pile : Pile) (i : ℕ) → HasPlaces places piles → get key_cmp places (key_of_pile pile) ≡ Some i
+    → HasPlaces places (piles ++ pile ∷ [])
+table_held places piles pile i is held q = is q ∙ behind (same_key q (key_of_pile pile)) refl ∙ sym (place_push (has_key q) piles pile)
+  where
+    kept : (later : Option ℕ) (last : Bool) → later ≡ Some i → later ≡ found_last later last (length piles)
+    kept (Some j) last h = refl
+    kept None last h = cc
+
+    behind : (b : Bool) → same_key q (key_of_pile pile) ≡ b → place_of (has_key q) piles ≡ found_last (place_of (has_key q) piles) (has_key q pile) (length piles)
+    behind true h = kept (place_of (has_key q) piles) (has_key q pile) (sym (is q) ∙ ap (get key_cmp places) ((key_decides q (key_of_pile pile)).0 h) ∙ held)
+    behind false h = found_last-false (place_of (has_key q) piles) (has_key q pile) (length piles) h
+
+-- with a new key at the end, where there is a map
+pub table_begun : (after : Table) (front piles : List Pile) (pile : Pile) (places places' : BTreeMap Key ℕ) (key : Key) (size : ℕ)
+    → after.piles.items ≡ front ++ pile ∷ [] → front ≡ piles → after.places ≡ places'
+    → HasPlaces places piles → place_of (has_key key) piles ≡ None
+    → ((q : Key) → has_key q pile ≡ same_key q key) → size ≡ length piles → Updates key_cmp places places' key (Some size)
+    → IsTable after
+table_begun after front piles pile places places' key size items front-is places-is is absent same size-is updates = record {
+  places = λ many q. ap (λ m. get key_cmp m q) places-is ∙ table_more places places' piles key pile size is absent same size-is updates q
+      ∙ ap (place_of (has_key q)) (sym (items ∙ ap (λ ps. ps ++ pile ∷ []) front-is));
+}
+
+-- with a pile at the end, where there are few
+pub table_few : (after : Table) (front piles : List Pile) (pile : Pile) → after.piles.items ≡ front ++ pile ∷ [] → front ≡ piles → length piles < 8 → IsTable after
+table_few after front piles pile items front-is few = record {
+  places = λ many q. absurd (let sizes = ap length items ∙ length_push front pile in let fronts = ap length front-is in omega (arith, many, sizes, fronts, few));
+}
+
+-- ---- a search one after the other
+
+-- none of the first so many passes
+abbrev pub NoneBefore : {X : Type 0} → (X → Bool) → List X → ℕ → Type 0
+NoneBefore test xs zero = Unit {0}
+NoneBefore test [] (suc n) = Unit {0}
+NoneBefore test (x ∷ xs) (suc n) = (test x ≡ false) × NoneBefore test xs n
+
+first_fails : {X : Type 0} (test : X → Bool) (xs : List X) (i : ℕ) (x : X) → NoneBefore test xs i → i < length xs → x ≡ get_or xs i x → test x ≡ false → NoneBefore test xs (suc i)
+first_fails test [] i x none below is fails = tt
+first_fails test (w ∷ ws) zero x none below is fails = (ap test (sym is) ∙ fails, tt)
+first_fails test (w ∷ ws) (suc i) x none below is fails = (none.0, first_fails test ws i x none.1 (omega arith) is fails)
+
+pub one_more_fails : {X : Type 0} (test : X → Bool) (xs : List X) (i : ℕ) (x : X) → NoneBefore test xs i → i < length xs → x ≡ get_or xs i x → test x ≡ false → NoneBefore test xs (i + 1)
+one_more_fails test xs i x none below is fails =
+    let next : suc i ≡ i + 1 = omega arith in subst (λ (n : ℕ). NoneBefore test xs n) next (first_fails test xs i x none below is fails)
+
+pub first_at : {X : Type 0} (test : X → Bool) (xs : List X) (i : ℕ) (x : X) → NoneBefore test xs i → i < length xs → x ≡ get_or xs i x → test x ≡ true → place_of test xs ≡ Some i
+first_at test [] i x none below is passes = absurd (omega arith)
+first_at test (w ∷ ws) zero x none below is passes = ap (λ b. found_here b (place_of test ws)) (ap test (sym is) ∙ passes)
+first_at test (w ∷ ws) (suc i) x none below is passes =
+    ap (λ b. found_here b (place_of test ws)) none.0
+    ∙ ap (option_map (λ place. suc place)) (first_at test ws i x none.1 (omega arith) is passes)
+
+pub none_at_all : {X : Type 0} (test : X → Bool) (xs : List X) (i : ℕ) → NoneBefore test xs i → length xs ≤ i → place_of test xs ≡ None
+none_at_all test [] i none past = refl
+none_at_all test (x ∷ xs) zero none past = absurd (omega (arith, past))
+none_at_all test (x ∷ xs) (suc i) none past =
+    ap (λ b. found_here b (place_of test xs)) none.0
+    ∙ ap (option_map (λ place. suc place)) (none_at_all test xs i none.1 (omega (arith, past)))
+
+and_holds : (x y z : Bool) → y ≡ true → z ≡ true → x ≡ (x && (y && z))
+and_holds true y z h i = sym (both_true y z h i)
+and_holds false y z h i = refl
+
+pub has_all : (key : Key) (pile : Pile) (owners : Bool) → key.rtype ≡ pile.rtype → key.class ≡ pile.class → owners ≡ same_name key.owner pile.owner → owners ≡ has_key key pile
+has_all key pile owners types classes is =
+    is
+    ∙ and_holds (same_name key.owner pile.owner) (key.class == pile.class) (key.rtype == pile.rtype) ((Decides-eqb key.class pile.class).1 classes) ((Decides-eqb key.rtype pile.rtype).1 types)

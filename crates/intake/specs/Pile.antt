@@ -1,9 +1,9 @@
 -- Records put together as they come: piles in order of first appearance, each with the records of a group, equal data as
 -- often as it comes.
-use Rattle.std.specs.Prelude.{◌≡◌, ℕ, zero, suc, ◌+◌, ◌≤◌, ◌^◌, min, Bool, ◌&&◌, ◌==◌, if◌then◌else◌, List, [], ◌∷◌, ◌++◌, length, filter, fold, map, Option, Some, None}
+use Rattle.std.specs.Prelude.{◌≡◌, ℕ, suc, ◌≤◌, ◌<◌, ◌^◌, min, Bool, ◌&&◌, ◌==◌, if◌then◌else◌, List, [], ◌∷◌, ◌++◌, length, filter, fold, map, Option, Some, None}
 use Rattle.std.specs.Option.{option_map}
 use Rattle.std.specs.List.{list_any}
-use Rattle.std.specs.BTreeMap.{get}
+use Rattle.std.specs.BTreeMap.{BTreeMap, get}
 use Rattle.std.specs.declared.cmp.Ordering.{Ordering}
 use Rattle.dname.specs.declared.types.TheConstants.{RRSIG_TYPE, IN_CLASS}
 use Rattle.dnswire.specs.declared.rr.Rr.{Rr}
@@ -38,6 +38,9 @@ with_signature pile octets = record pile { signatures = pile.signatures ++ octet
 abbrev pub has_key : Key → Pile → Bool
 has_key key pile = same_name key.owner pile.owner && ((key.class == pile.class) && (key.rtype == pile.rtype))
 
+abbrev pub key_of_pile : Pile → Key
+key_of_pile pile = record { owner = pile.owner; class = pile.class; rtype = pile.rtype }
+
 -- ---- the table
 
 -- the place of the first that passes
@@ -55,8 +58,12 @@ abbrev pub key_cmp : Key → Key → Ordering
 key_cmp = (key_ord.ghosts).cmp
 
 -- each key has the place of its pile
+abbrev pub HasPlaces : BTreeMap Key ℕ → List Pile → Type 0
+HasPlaces places piles = (key : Key) → get key_cmp places key ≡ place_of (has_key key) piles
+
+-- where the piles are more than eight, the map has each one's place
 pub record IsTable (table : Table) : Type 0 where
-  pub places : (key : Key) → get key_cmp table.places key ≡ place_of (has_key key) table.piles.items
+  pub places : 8 < length table.piles.items → HasPlaces table.places table.piles.items
 
 abbrev pub key_of : Rr → Key
 key_of rr = record { owner = rr.owner; class = rr.class; rtype = rr.rtype }

@@ -5,14 +5,11 @@ ghost use Rattle.intake.specs.Pile.{IsTable, HasFixedPart, is_live, covered_key,
 
 use crate::key::Key;
 use crate::pile::Pile;
-use crate::table::Table;
+use crate::table::{FEW, Table};
 use dname::types::{IN_CLASS, RRSIG_TYPE};
 use dname::{OutOfMemory, u16_at, u32_at};
 use dnswire::{Rr, RrList};
 use std::alloc::Global;
-
-// Room for so many piles is taken at once. An answer of more records may still have fewer groups.
-const FEW: usize = 8;
 
 /// The piles of the two sections' records.
 pub(crate) fn piles_of(
@@ -27,6 +24,7 @@ pub(crate) fn piles_of(
 {
     let covering = rrsigs_in(&answer).saturating_add(rrsigs_in(&authority));
     let all = answer.len().saturating_add(authority.len());
+    // room for few at once: an answer of more records may still have fewer groups
     let mut table = Table::new(alloc, all.saturating_sub(covering).min(FEW))?;
     let mut signatures = Vec::with_capacity(alloc, covering)?;
     take_in(alloc, &mut table, &mut signatures, answer, now)?;

@@ -1,7 +1,8 @@
 ghost use Rattle.std.specs.Prelude.{◌≡◌, OnOk};
 ghost use Rattle.intake.specs.Signed.{counted_ttl};
-ghost use Rattle.intake.specs.Pile.{joined, with_signature};
+ghost use Rattle.intake.specs.Pile.{has_key, key_of_pile, joined, with_signature};
 
+use crate::key::Key;
 use dname::{Name, Octets, OctetsList, OutOfMemory};
 
 /// The records of a group as they are collected, equal data as often as it comes.
@@ -17,6 +18,30 @@ pub(crate) struct Pile {
 }
 
 impl Pile {
+    /// Whether its records have that key. The type, which differs most, is looked at first.
+    pub(crate) fn has(&self, key: &Key) -> bool
+        ensures { result ≡ has_key key.now self.now }
+    {
+        if key.rtype != self.rtype {
+            return false;
+        }
+        if key.class != self.class {
+            return false;
+        }
+        key.owner == self.owner
+    }
+
+    /// The key of its records.
+    pub(crate) fn key(&self) -> Key
+        ensures { result ≡ key_of_pile self.now }
+    {
+        Key {
+            owner: self.owner.copy(),
+            class: self.class,
+            rtype: self.rtype,
+        }
+    }
+
     /// Takes in the TTL and data of a further record.
     pub(crate) fn join(&mut self, ttl: u32, octets: Octets) -> Result<(), OutOfMemory>
         ensures { OnOk result (self.new ≡ joined self.old ttl octets) }

@@ -1,5 +1,5 @@
-ghost use Rattle.std.specs.Prelude.{◌≡◌, [], ◌∷◌, ◌++◌, IfOk, OnOk, None};
-ghost use Rattle.intake.specs.Pile.{IsTable, place_of, has_key, begun, key_of, with_record, signed};
+ghost use Rattle.std.specs.Prelude.{◌≡◌, ◌≤◌, [], ◌∷◌, ◌++◌, List, length, IfOk, OnOk, None};
+ghost use Rattle.intake.specs.Pile.{IsTable, HasPlaces, place_of, has_key, begun, key_of, with_record, signed};
 
 use crate::key::Key;
 use crate::pile::{Pile, counted_ttl};
@@ -8,7 +8,11 @@ use dnswire::Rr;
 use std::alloc::Global;
 use std::collections::BTreeMap;
 
-/// The piles of a message's records in order of first appearance, and the place of each by its key.
+/// So many piles are searched one after the other, and need no map.
+pub(crate) const FEW: usize = 8;
+
+/// The piles of a message's records in order of first appearance, and where they are more than few the place of each by
+/// its key.
 #[derive(Drop)]
 pub(crate) struct Table {
     pub(crate) piles: Vec<Pile>,
@@ -62,7 +66,11 @@ impl Table {
         requires { IsTable self.now }
         ensures { result ≡ place_of (has_key key.now) self.now.piles.items }
     {
-        self.places.get(key).copied()
+        if self.piles.len() <= FEW {
+            first_of(self.piles.as_slice(), key)
+        } else {
+            self.places.get(key).copied()
+        }
     }
 
     // Begins a pile with the first record of its key.
@@ -89,8 +97,62 @@ impl Table {
             items,
             signatures: OctetsList::empty(alloc),
         };
-        self.places.insert(key, self.piles.len())?;
+        if self.piles.len() >= FEW {
+            self.make_places(alloc)?;
+            self.places.insert(key, self.piles.len())?;
+        }
         self.piles.push(pile)?;
         Ok(())
+    }
+
+    // Makes the map of the few, before there are more.
+    fn make_places(&mut self, alloc: Global) -> Result<(), OutOfMemory>
+        requires table { IsTable self.old }
+        requires all { 8 ≤ length self.old.piles.items }
+        ensures piles { OnOk result (self.new.piles.items ≡ self.old.piles.items) }
+        ensures places { OnOk result (HasPlaces self.new.places self.old.piles.items) }
+    {
+        if self.piles.len() == FEW {
+            self.places = places_of(alloc, self.piles.as_slice())?;
+        }
+        Ok(())
+    }
+}
+
+// The place of the first pile of that key.
+fn first_of(piles: &[Pile], key: &Key) -> Option<usize>
+    ensures { result ≡ place_of (has_key key.now) piles.now }
+{
+    for at in 0..piles.len() {
+        if piles[at].has(key) {
+            return Some(at);
+        }
+    }
+    None
+}
+
+// The place of each pile by its key.
+fn places_of(alloc: Global, piles: &[Pile]) -> Result<BTreeMap<Key, usize>, OutOfMemory>
+    ensures { IfOk result (λ places. HasPlaces places piles.now) }
+{
+    let mut places = BTreeMap::new(alloc);
+    for at in 0..piles.len() {
+        enter(&mut places, &piles[at], at)?;
+    }
+    Ok(places)
+}
+
+// Enters the pile that comes behind so many, unless one of these has its key.
+fn enter(places: &mut BTreeMap<Key, usize>, pile: &Pile, at: usize) -> Result<(), OutOfMemory>
+    ensures { OnOk result ((piles : List Pile) → at ≡ length piles → HasPlaces places.old piles
+        → HasPlaces places.new (piles ++ pile.now ∷ [])) }
+{
+    let key = pile.key();
+    match places.get(&key).copied() {
+        Some(_) => Ok(()),
+        None => {
+            places.insert(key, at)?;
+            Ok(())
+        }
     }
 }

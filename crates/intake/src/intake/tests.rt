@@ -249,6 +249,30 @@ fn records_form_groups(rt: HostRuntime) -> Result<(), Fail> {
 }
 
 #[test]
+fn more_groups_than_a_few_are_found_again(rt: HostRuntime) -> Result<(), Fail> {
+    let alloc = rt.alloc();
+    let none = Section::new(alloc);
+    let mut answer = Section::new(alloc);
+    for rtype in 1000..1010 {
+        answer.signed(Row { rtype, ..GOOD })?;
+    }
+    // a second datum of the first group, and of the eighth, ninth and tenth
+    for rtype in [1000, 1007, 1008, 1009] {
+        answer.rr(Row {
+            rtype,
+            data: b"\xc0\x00\x02\x02",
+            ..GOOD
+        })?;
+    }
+    let octets = message(alloc, FLAGS, &answer, &none, &none)?;
+    assert_eq!(rt;
+        told(alloc, &octets, NOW)?.as_str(),
+        "a.example. 1000 3600 2 1, a.example. 1001 3600 1 1, a.example. 1002 3600 1 1, a.example. 1003 3600 1 1, a.example. 1004 3600 1 1, a.example. 1005 3600 1 1, a.example. 1006 3600 1 1, a.example. 1007 3600 2 1, a.example. 1008 3600 2 1, a.example. 1009 3600 2 1, 0 skipped"
+    );
+    Ok(())
+}
+
+#[test]
 fn signatures_have_to_agree(rt: HostRuntime) -> Result<(), Fail> {
     let alloc = rt.alloc();
     let none = Section::new(alloc);

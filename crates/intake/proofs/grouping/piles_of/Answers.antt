@@ -1,10 +1,10 @@
-use Rattle.std.proofs.Common.{[], ◌++◌, length, map, sym, ap, ◌∙◌, arith}
+use Rattle.std.proofs.Common.{[], ◌++◌, length, sym, ap, ◌∙◌, arith}
 use Rattle.std.specs.List.{filter, fold}
 use Rattle.std.proofs.lemmas.List.{map-id}
 use Rattle.std.proofs.lemmas.List.Elements.{All-append}
 use Rattle.std.proofs.lemmas.Iterator.Adapters.{YieldsList-from_vec}
 use Rattle.std.proofs.lemmas.Iterator.Consumers.{YieldsList-turn, YieldsList-end}
-use Rattle.intake.specs.Pile.{HasFixedPart, is_live, covered_key, signed, with_data, with_covering}
+use Rattle.intake.specs.Pile.{HasFixedPart, is_live, signed, with_data, with_covering}
 use Rattle.intake.proofs.TakeLemmas.{live_long, signed_more, live_of_both, piles_of_both}
 use Rattle.intake.proofs.grouping.piles_of.Goals as goal
 

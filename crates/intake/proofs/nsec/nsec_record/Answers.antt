@@ -1,9 +1,8 @@
-use Rattle.std.proofs.Common.{refl, sym, ap, ◌∙◌, subst}
+use Rattle.std.proofs.Common.{subst}
 use Rattle.dname.specs.Name.{IsUnder}
 use Rattle.denial_records.specs.NsecParts.{IsNsec}
 use Rattle.denial_records.specs.declared.nsec_parts.NsecParts.{NsecParts}
-use Rattle.intake.specs.Stored.{is_own_type}
-use Rattle.intake.proofs.StoredLemmas.{kept_own, nsec_only, nsec_same}
+use Rattle.intake.proofs.StoredLemmas.{nsec_only, nsec_same}
 use Rattle.intake.proofs.nsec.nsec_record.Goals as goal
 
 pub returns-in_default : goal.returns-in_default

@@ -1,4 +1,4 @@
-use Rattle.std.proofs.Common.{refl, sym, ap, ◌∙◌, subst, arith}
+use Rattle.std.proofs.Common.{refl, sym, ap, ◌∙◌, subst}
 use Rattle.intake.specs.Stored.{is_own_type, IsKept, IsHashedOwner}
 use Rattle.intake.specs.SignedGroup.{life_in}
 use Rattle.intake.proofs.StoredLemmas.{kept_own}

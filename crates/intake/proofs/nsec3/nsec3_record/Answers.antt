@@ -1,9 +1,6 @@
-use Rattle.std.proofs.Common.{refl, sym, ap, ◌∙◌, subst, arith}
 use Rattle.denial_records.specs.Nsec3Parts.{IsNsec3}
 use Rattle.denial_records.specs.declared.nsec3_parts.Nsec3Parts.{Nsec3Parts}
-use Rattle.intake.specs.Stored.{is_own_type, IsKept, IsHashedOwner}
-use Rattle.intake.specs.SignedGroup.{life_in}
-use Rattle.intake.proofs.StoredLemmas.{kept_own, nsec3_only}
+use Rattle.intake.proofs.StoredLemmas.{nsec3_only}
 use Rattle.intake.proofs.nsec3.nsec3_record.Goals as goal
 
 pub returns-in_default : goal.returns-in_default

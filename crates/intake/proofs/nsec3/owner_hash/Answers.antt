@@ -1,4 +1,4 @@
-use Rattle.std.proofs.Common.{◌≡◌, true, false, not, ◌∷◌, slice_index_or, sym, ap, ◌∙◌}
+use Rattle.std.proofs.Common.{◌≡◌, not, ◌∷◌, slice_index_or, sym, ap, ◌∙◌}
 use Rattle.std.specs.Cmp.Lexicographic.{pointwise_decides, bytes_decides}
 use Rattle.dname.specs.Name.{wire_of, lowered}
 use Rattle.intake.proofs.OnceLemmas.{true_or_false}

@@ -1,4 +1,4 @@
-use Rattle.std.proofs.Common.{true, not, sym, ap, ◌∙◌}
+use Rattle.std.proofs.Common.{not, sym, ap, ◌∙◌}
 use Rattle.std.specs.Cmp.Lexicographic.{pointwise_decides, bytes_decides}
 use Rattle.intake.proofs.TakeLemmas.{false_from}
 use Rattle.intake.proofs.OnceLemmas.{true_or_false}

@@ -1,15 +1,21 @@
-use Rattle.std.proofs.Common.{◌≡◌, ◌&&◌, ◌==◌, sym, ap, subst, arith, List}
-use Rattle.std.specs.BTreeMap.{get}
+use Rattle.std.proofs.Common.{◌&&◌, ◌==◌, length, ap, ◌∙◌, arith}
 use Rattle.intake.specs.Group.{same_name}
-use Rattle.intake.specs.Pile.{has_key, place_of, key_cmp}
-use Rattle.intake.specs.declared.pile.Pile.{Pile}
-use Rattle.intake.proofs.TableLemmas.{table_more}
+use Rattle.intake.specs.declared.table.Table.{Table}
+use Rattle.intake.proofs.TableLemmas.{table_begun, table_few}
 use Rattle.intake.proofs.table.Table.begin.Goals as goal
+use Rattle.intake.proofs.table.Table.begin.Goals.{then-len-ge-FEW+in_ok-make_places+in_ok-insert, else-len-ge-FEW}
 
 pub returns-clause-table : goal.returns-clause-table
-returns-clause-table c = record {
-  places = λ q. subst (λ (piles : List Pile). get key_cmp c.insert.new.self q ≡ place_of (has_key q) piles) (sym c.in_ok-push-2.ensures.items)
-      (table_more c.args.self.now.places c.insert.new.self c.args.self.now.piles.items c.args.key _ c.len.result c.requires.table.places c.requires.new
-      (λ k. ap (λ owner. same_name k.owner owner && ((k.class == c.args.key.class) && (k.rtype == c.args.key.rtype))) c.copy.ensures)
-      (omega arith) c.in_ok-insert.ensures.updates q);
-}
+returns-clause-table c =
+    let after : Table = record { piles = c.push-2.new.self; places = c.if-len-ge-FEW.self.places } in
+    elim c.if-len-ge-FEW.branch [
+      | then-len-ge-FEW+in_ok-make_places+in_ok-insert w ↦
+          table_begun after c.if-len-ge-FEW.self.piles.items c.args.self.now.piles.items _ w.make_places.new.self.places w.insert.new.self c.args.key w.len-then-len-ge-FEW.result
+          c.in_ok-push-2.ensures.items (ap (λ (t : Table). t.piles.items) w.self-is ∙ w.in_ok-make_places.ensures.piles) (ap (λ (t : Table). t.places) w.self-is)
+          w.in_ok-make_places.ensures.places c.requires.new
+          (λ k. ap (λ owner. same_name k.owner owner && ((k.class == c.args.key.class) && (k.rtype == c.args.key.rtype))) c.copy.ensures)
+          (omega (arith, w.len-then-len-ge-FEW.ensures, ap length w.in_ok-make_places.ensures.piles)) w.in_ok-insert.ensures.updates
+      | else-len-ge-FEW w ↦
+          table_few after c.if-len-ge-FEW.self.piles.items c.args.self.now.piles.items _
+          c.in_ok-push-2.ensures.items (ap (λ (t : Table). t.piles.items) w.self-is) (omega (arith, w.if-len-ge-FEW, c.len.ensures))
+    ]
