@@ -11,7 +11,7 @@ use Rattle.dname.specs.Tests.{same_name}
 use Rattle.denial_records.specs.declared.record.Record.{Record}
 use Rattle.denial_records.specs.declared.set_rec.SetRec.{SetRec}
 use Rattle.denial_records.specs.declared.record.Record.TheVariants.{Set, Nsec, Nsec3}
-use Rattle.cache_meaning.specs.Held.{ZoneChain, chain_of, zone_of, is_of_chain, key_cmp, chains_held}
+use Rattle.cache_meaning.specs.Held.{ZoneChain, chain_of, zone_of, is_of_chain, chains_held}
 use Rattle.held_laws.specs.HeldLaws.{IsApart, NoneDisplaces, EachChainHasARecord, IsReordered}
 use Rattle.held_laws.proofs.KeyOrderLemmas.{in_zone, ListAlike, one_has_the_key}
 use Rattle.held_laws.proofs.ListLemmas.{here, there, here_or_there, nothing_in, was_kept, found, is_found, all_pass}

@@ -1,7 +1,6 @@
 -- Sets by their numbers.
-use Rattle.std.proofs.Common.{◌≡◌, ℕ, ◌+◌, ◌*◌, ◌/◌, ◌%◌, ◌^◌, ◌<◌, ◌≤◌, ◌⊎◌, inl, inr, Bool, true, false, true≢false, nat_lt, List, length, get_or, Contains, None, refl, sym, ◌∙◌, ap, subst, arith}
+use Rattle.std.proofs.Common.{◌≡◌, ℕ, ◌+◌, ◌*◌, ◌%◌, ◌^◌, ◌<◌, ◌≤◌, ◌⊎◌, inl, inr, true, false, nat_lt, List, length, get_or, Contains, None, refl, sym, ◌∙◌, ap, subst, arith}
 use Rattle.std.specs.List.{prefix_len}
-use Rattle.std.specs.List.Sorted.{IsPartitionedBy}
 use Rattle.std.specs.Ordering.{nat_cmp, is_lt, ordering_then}
 use Rattle.std.specs.declared.cmp.Ordering.{Ordering}
 use Rattle.std.specs.declared.cmp.Ordering.TheVariants.{Less, Equal, Greater}
@@ -11,7 +10,7 @@ use Rattle.std.proofs.lemmas.Cmp.{nat_cmp_total, ranked, by_ranked, tied_itself}
 use Rattle.std.proofs.lemmas.Grind.{common_steps}
 use Rattle.std.proofs.lemmas.List.{get_or_read}
 use Rattle.std.proofs.lemmas.List.Sums.{prefix_len_passes, prefix_len_stops}
-use Rattle.dname.specs.Name.{Label, canonical_cmp}
+use Rattle.dname.specs.Name.{Label}
 use Rattle.dname.specs.Order.{canonical_equal}
 use Rattle.page_list.specs.Marks.{PartsAtMark}
 use Rattle.denial_records.specs.declared.set_rec.SetRec.{SetRec}
@@ -20,7 +19,7 @@ use Rattle.denial_records.specs.declared.record.Record.TheVariants.{Set, Nsec, N
 use Rattle.cache_meaning.specs.Held.{chain_of, zone_of, key_cmp}
 use Rattle.ordered_list.specs.Order.{IsInOrder}
 use Rattle.ordered_list.proofs.OrderLemmas.{partitioned}
-use Rattle.record_store.specs.Marks.{mixed, upper, zone_part, owner_part, set_number, set_mark}
+use Rattle.record_store.specs.Marks.{zone_part, owner_part, set_number, set_mark}
 use Rattle.record_store.specs.LookUp.{set_like}
 use Rattle.record_store.specs.Ranks.{set_cmp}
 

@@ -7,10 +7,13 @@ use Rattle.dname.specs.Tests.{same_name}
 use Rattle.denial_records.specs.declared.record.Record.{Record}
 use Rattle.denial_records.specs.declared.record.Record.TheVariants.{Set, Nsec, Nsec3}
 use Rattle.cache_meaning.specs.Held.{Held, ZoneChain, same_zone_chain, chain_of, zone_of, is_of_chain, is_that_chain, displaces, third_of, without_third, with_new_chain, with_chain, held_with}
+use Rattle.cache_meaning.specs.Zones.{chains_of}
+use Rattle.held_laws.specs.HeldLaws.{NoneDisplaces, IsReordered}
 use Rattle.held_laws.proofs.KeyOrderLemmas.{in_zone}
 use Rattle.held_laws.proofs.ListLemmas.{here, there, kept, was_kept, is_found, all_pass}
 use Rattle.held_laws.proofs.ListedLemmas.{name_equal, name_itself, equal, itself, none_some, some_same}
 use Rattle.held_laws.proofs.ReorderLemmas.{filter_twice}
+use Rattle.held_laws.proofs.SameLemmas.{one_of_key}
 use Rattle.ordered_list.proofs.FilterLemmas.{filter_all}
 use Rattle.zone_chains.specs.Zone.{chains_with, third_for, is_of}
 use Rattle.zone_chains.proofs.ChainLemmas.{other_way}
@@ -201,3 +204,20 @@ module _ (held : Held) (new : Record) where
       by : (o : Option ZoneChain) → third_for (chains_for held new) o ≡ Some t → t.zone ≡ zone_of new
       by None is = absurd (none_some is)
       by (Some c) is = of_third c (list_any (same_zone_chain c) (chains_for held new)) is
+
+  -- a set that is held as it is changes nothing
+  pub already_there : chain_of new ≡ None → NoneDisplaces held.records → Contains held.records new → IsReordered (held_with held new) held
+  already_there none apart there = record {
+    records = λ item. (
+      λ h. ⊎_elim (λ same. subst (Contains held.records) (sym same) there) (λ old. old.0) ((held_has item).0 h),
+      λ h. (held_has item).1 (by item h (displaces new item) refl),
+    );
+    chains = λ zone. ap (λ o. chains_of (with_chain o Placed) zone) none;
+  }
+    where
+      no_third : (item : Record) → is_of (third_for (chains_for held new) (chain_of new)) item ≡ false
+      no_third item = ap (λ o. is_of (third_for (chains_for held new) o) item) none
+
+      by : (item : Record) → Contains held.records item → (b : Bool) → displaces new item ≡ b → (item ≡ new) ⊎ (Contains held.records item × (displaces new item ≡ false) × (is_of (third_for (chains_for held new) (chain_of new)) item ≡ false))
+      by item h true is = inl (sym (one_of_key held.records apart new item there h is))
+      by item h false is = inr (h, is, no_third item)

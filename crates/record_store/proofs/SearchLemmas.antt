@@ -1,22 +1,18 @@
 -- What a search by name finds in a list whose names don't fall.
-use Rattle.std.proofs.Common.{◌≡◌, ℕ, ◌<◌, ◌≤◌, ◌⊎◌, inl, inr, true, false, true≢false, List, length, get_or, Contains, refl, sym, ◌∙◌, ap, subst, arith, None}
+use Rattle.std.proofs.Common.{◌≡◌, ℕ, ◌<◌, ◌≤◌, ◌⊎◌, inl, inr, true, false, true≢false, List, length, get_or, Contains, refl, sym, ◌∙◌, ap, subst, arith}
 use Rattle.std.specs.List.{AllPairs, prefix_len}
 use Rattle.std.specs.List.Sorted.{IsPartitionedBy}
-use Rattle.std.specs.Ordering.{is_lt, is_gt, ordering_then}
+use Rattle.std.specs.Ordering.{is_lt, is_gt}
 use Rattle.std.specs.declared.cmp.Ordering.{Ordering}
 use Rattle.std.specs.declared.cmp.Ordering.TheVariants.{Less, Equal, Greater}
 use Rattle.std.proofs.lemmas.Bool.{cases_lt}
 use Rattle.std.proofs.lemmas.Cmp.{upto}
 use Rattle.std.proofs.lemmas.Grind.{common_steps}
 use Rattle.std.proofs.lemmas.List.{get_or_read}
-use Rattle.std.proofs.lemmas.List.Elements.{Contains-get_or}
 use Rattle.std.proofs.lemmas.List.Sums.{prefix_len_passes, prefix_len_stops}
 use Rattle.dname.specs.Name.{Label, canonical_cmp}
 use Rattle.dname.specs.Tests.{same_name}
 use Rattle.dname.specs.Order.{canonical_total, canonical_equal, canonical_same}
-use Rattle.denial_records.specs.declared.record.Record.{Record}
-use Rattle.denial_records.specs.declared.record.Record.TheVariants.{Set, Nsec, Nsec3}
-use Rattle.cache_meaning.specs.Held.{chain_of, zone_of, key_cmp}
 use Rattle.held_laws.proofs.ListedLemmas.{name_itself}
 use Rattle.ordered_list.specs.Order.{IsInOrder}
 use Rattle.zone_chains.specs.Zone.{OneZone}

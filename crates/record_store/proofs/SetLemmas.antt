@@ -24,7 +24,7 @@ use Rattle.record_store.specs.Holding.{held_in, IsTied, AreBut, AreCleared, AreW
 use Rattle.record_store.specs.Putting.{chains_for, IsZoneFor}
 use Rattle.record_store.specs.Ranks.{apex_cmp, set_cmp, keys_total}
 use Rattle.record_store.proofs.MarkLemmas.{set_tied, key_tied}
-use Rattle.record_store.proofs.PutLemmas.{not_same}
+use Rattle.record_store.proofs.PutLemmas.{not_same, already_there}
 use Rattle.record_store.proofs.TiedLemmas.{IsPut, put_tied, put_reordered}
 use Rattle.record_store.proofs.ZoneForLemmas.{found_for, none_for, two_for, once_for}
 
@@ -117,3 +117,9 @@ module _ (goings sets : List Record) (zones : List OneZone) (tied : IsTied going
       let with' = subst (λ l. AreWith new l made) is_cleared with in
       let put = set_put one.zone is cleared made sets' are' with' apart made_sets zones' one.members order in
       (put_tied goings sets zones tied new one.zone made sets' zones' put, subst (λ h. IsReordered (held_with h new) (held_in made zones')) view (put_reordered goings sets zones tied new one.zone made sets' zones' put ordered'))
+
+  -- a set that is held as it is, by what the search for it says
+  pub set_already : (held : Held) → held_in goings zones ≡ held → (sets' : List Record) → sets' ≡ sets → (like : Record) → like ≡ new → (old : Record) → entry_at set_cmp like sets' ≡ Some old → old ≡ new → IsReordered (held_with held new) held
+  set_already held view sets' is_sets like is_new old found same =
+      let there = old_there goings sets tied.apart tied.sets_are new none old ((λ i. entry_at set_cmp (sym is_new i) (sym is_sets i)) ∙ found) in
+      subst (λ h. IsReordered (held_with h new) h) view (already_there (held_in goings zones) new none tied.apart (subst (Contains goings) same there))

@@ -1,5 +1,5 @@
 -- The orders in which a store keeps its records and zones.
-use Rattle.std.specs.Prelude.{◌≡◌, ◌<◌, ℕ}
+use Rattle.std.specs.Prelude.{◌≡◌, ◌<◌}
 use Rattle.std.specs.Ordering.{nat_cmp, ordering_then}
 use Rattle.std.specs.Cmp.{IsTotalOrder}
 use Rattle.std.specs.declared.cmp.Ordering.{Ordering}

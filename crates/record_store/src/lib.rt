@@ -12,6 +12,7 @@ mod marks;
 mod phases;
 mod putting;
 mod ranks;
+mod same_set;
 mod set_search;
 mod state;
 mod store;

@@ -1,15 +1,18 @@
 //! A record comes.
-ghost use Rattle.std.specs.Prelude.{◌≡◌, IfOk, None};
+ghost use Rattle.std.specs.Prelude.{◌≡◌, IfOk, None, IsTrue, option_map};
 ghost use Rattle.std.specs.Arc.{arc_value};
 ghost use Rattle.cache_meaning.specs.Held.{chain_of, held_with};
 ghost use Rattle.held_laws.specs.HeldLaws.{NoneDisplaces, IsReordered};
+ghost use Rattle.ordered_list.specs.Order.{entry_at};
 ghost use Rattle.record_store.specs.Holding.{AreCleared};
 ghost use Rattle.record_store.specs.Dropping.{AreSets};
 ghost use Rattle.record_store.specs.Putting.{IsZoneFor};
+ghost use Rattle.record_store.specs.Ranks.{set_cmp};
 
 use crate::goings::{with, without, without_gone};
 use crate::holding::{Goings, Holding, Sets};
 use crate::ranks::zone_of;
+use crate::same_set::same_set;
 use crate::zones::{with_apex, with_zone, zone_at};
 use denial_records::Record;
 use dname::OutOfMemory;
@@ -28,16 +31,25 @@ impl Holding {
         }
     }
 
+    // A set that is held as it is changes nothing.
     fn put_set(self, alloc: Global, new: Arc<Record, Global>) -> Result<Holding, OutOfMemory>
         requires { chain_of (arc_value new) ≡ None }
         ensures { IfOk result (λ made. IsReordered (held_with self (arc_value new)) made) }
     {
+        let old = set_like(&self.sets, &new)?;
+        if let Some(old) = &old {
+            if same_record(old, &new) {
+                // That no record displaces another is a clause of `len`.
+                let _len = self.len();
+                return Ok(self);
+            }
+        }
         let Holding {
             goings,
             sets,
             zones,
         } = self;
-        let goings = without_set(alloc, goings, &sets, &new)?;
+        let goings = without_set(alloc, goings, &sets, old, &new)?;
         let zones = with_apex(alloc, &zones, &zone_of(&new))?;
         let sets = Arc::new(alloc, sets.with(alloc, Arc::try_clone(&new)?)?)?;
         let goings = with(alloc, goings, new)?;
@@ -86,21 +98,45 @@ impl Holding {
     }
 }
 
-// The records without the set that the new one displaces.
+// The set that has the key of a new one.
+fn set_like(sets: &Sets, new: &Record) -> Result<Option<Arc<Record, Global>>, OutOfMemory>
+    ensures { IfOk result (λ old.
+        option_map (λ o. arc_value o) old ≡ entry_at set_cmp new.now sets.now) }
+{
+    match sets.at(new) {
+        Some(old) => Ok(Some(Arc::try_clone(old)?)),
+        None => Ok(None),
+    }
+}
+
+// Whether the records are sets that are the same in all.
+fn same_record(one: &Record, other: &Record) -> bool
+    ensures yes { IsTrue result → one.now ≡ other.now }
+    ensures no { chain_of one.now ≡ None → one.now ≡ other.now → IsTrue result }
+{
+    match (one, other) {
+        (Record::Set(one), Record::Set(other)) => same_set(one, other),
+        _ => false,
+    }
+}
+
+// The records without the set that the new one displaces, which is the old one of its key.
 fn without_set(
     alloc: Global,
     goings: Goings,
     sets: &Sets,
+    old: Option<Arc<Record, Global>>,
     new: &Record,
 ) -> Result<Goings, OutOfMemory>
     requires set { chain_of new.now ≡ None }
     requires apart { NoneDisplaces goings }
     requires sets { AreSets goings sets.now }
+    requires old { option_map (λ o. arc_value o) old ≡ entry_at set_cmp new.now sets.now }
     ensures records { IfOk result (λ left. AreCleared new.now goings left) }
     ensures apart { IfOk result (λ left. NoneDisplaces left) }
 {
-    match sets.at(new) {
-        Some(old) => without(alloc, goings, old),
+    match old {
+        Some(old) => without(alloc, goings, &old),
         None => Ok(goings),
     }
 }

@@ -1,5 +1,5 @@
 use Rattle.std.specs.Arc.{arc_value}
-use Rattle.std.proofs.Common.{sym, subst, refl, Contains}
+use Rattle.std.proofs.Common.{sym, ◌∙◌, ap, subst, refl, Contains, option_map}
 use Rattle.std.proofs.lemmas.Result.{IfOk-weaker}
 use Rattle.denial_records.specs.declared.record.Record.{Record}
 use Rattle.record_store.specs.Holding.{AreBut, AreCleared}
@@ -9,15 +9,15 @@ use Rattle.record_store.proofs.putting.without_set.Goals as goal
 pub without-requires-clause-there : goal.without-requires-clause-there
 without-requires-clause-there c =
     subst (Contains c.args.goings) (sym c.deref.ensures)
-    (old_there c.args.goings c.args.sets.now c.requires.apart c.requires.sets c.args.new.now c.requires.set (arc_value c.in-Some.old.now) (sym c.in-Some.ensures.entry))
+    (old_there c.args.goings c.args.sets.now c.requires.apart c.requires.sets c.args.new.now c.requires.set (arc_value c.in-Some.old) (sym c.requires.old ∙ ap (option_map (λ o. arc_value o)) c.in-Some.is))
 
 pub returns-in-Some-clause-records : goal.returns-in-Some-clause-records
 returns-in-Some-clause-records c =
-    let old = arc_value c.in-Some.old.now in
+    let old = arc_value c.in-Some.old in
     IfOk-weaker c.without.result _ (λ left. AreCleared c.args.new.now c.args.goings left)
-    (λ left but. cleared_some c.args.goings c.args.sets.now c.requires.apart c.requires.sets c.args.new.now c.requires.set old (sym c.in-Some.ensures.entry) left
+    (λ left but. cleared_some c.args.goings c.args.sets.now c.requires.apart c.requires.sets c.args.new.now c.requires.set old (sym c.requires.old ∙ ap (option_map (λ o. arc_value o)) c.in-Some.is) left
     (subst (λ (r : Record). AreBut r c.args.goings left) c.deref.ensures but)) c.without.ensures.records
 
 pub returns-in-None-clause-records : goal.returns-in-None-clause-records
 returns-in-None-clause-records c =
-    cleared_none c.args.goings c.args.sets.now c.requires.apart c.requires.sets c.args.new.now c.requires.set (sym c.in-None.ensures.entry) c.args.goings refl
+    cleared_none c.args.goings c.args.sets.now c.requires.apart c.requires.sets c.args.new.now c.requires.set (sym c.requires.old ∙ ap (option_map (λ o. arc_value o)) c.in-None.is) c.args.goings refl

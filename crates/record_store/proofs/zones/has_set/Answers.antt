@@ -1,4 +1,4 @@
-use Rattle.std.proofs.Common.{◌≡◌, ◌*◌, ◌^◌, List, Contains, ℕ, nat_lt, true, false, refl, sym, ◌∙◌, ap, subst, arith, rules}
+use Rattle.std.proofs.Common.{◌≡◌, ◌*◌, ◌^◌, ℕ, nat_lt, sym, ◌∙◌, ap, subst, arith, rules}
 use Rattle.std.specs.List.{prefix_len}
 use Rattle.std.specs.Arc.{arc_value}
 use Rattle.denial_records.specs.declared.record.Record.{Record}
