@@ -1,4 +1,4 @@
-ghost use Rattle.std.specs.Prelude.{◌≡◌, ◌<◌, [], ◌∷◌, ◌++◌, length, slice_get, Some, IsTrue, OnOk, OnErr, ◌↔◌};
+ghost use Rattle.std.specs.Prelude.{◌≡◌, ◌<◌, [], ◌∷◌, ◌++◌, length, slice_get, Some, IfOk, IsTrue, OnOk, OnErr, ◌↔◌};
 
 use crate::OutOfMemory;
 use std::alloc::Global;
@@ -26,6 +26,15 @@ impl<T: Drop> ItemList<T> {
         ItemList {
             items: Vec::new(alloc),
         }
+    }
+
+    /// The empty list, with memory for so many items.
+    pub fn with_room(alloc: Global, room: usize) -> Result<ItemList<T>, OutOfMemory>
+        ensures { IfOk result (λ list. list ≡ []) }
+    {
+        Ok(ItemList {
+            items: Vec::with_capacity(alloc, room)?,
+        })
     }
 
     /// Puts the item last.

@@ -12,6 +12,7 @@
 #![tactic(auto)]
 
 mod arc;
+mod boxed_name;
 mod item_list;
 mod labels;
 mod lent_name;
@@ -31,6 +32,7 @@ pub mod types;
 mod wire;
 
 pub use arc::{arc_has, arcs_meet, arcs_part_the_ring, inside_by_arc};
+pub use boxed_name::BoxedName;
 pub use item_list::ItemList;
 pub use lent_name::LentName;
 pub use name::Name;

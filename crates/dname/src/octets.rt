@@ -28,6 +28,15 @@ impl Octets {
         }
     }
 
+    /// No octets, with memory for so many.
+    pub fn with_room(alloc: Global, room: usize) -> Result<Octets, OutOfMemory>
+        ensures { IfOk result (λ octets. octets ≡ []) }
+    {
+        Ok(Octets {
+            octets: Vec::with_capacity(alloc, room)?,
+        })
+    }
+
     /// A copy of the piece.
     pub fn of(alloc: Global, piece: &[u8]) -> Result<Octets, OutOfMemory>
         ensures { IfOk result (λ octets. octets ≡ piece.now) }

@@ -47,7 +47,9 @@ fn read_fields(
         ⊎ (HasNoData message.now end fields.now at × (fault ≡ WireFault.BadData at))) }
     ensures table { IsTableOf message.now table.new }
 {
-    let mut octets = Octets::empty(alloc);
+    let Ok(mut octets) = Octets::with_room(alloc, end - at) else {
+        return Err(WireFault::OutOfMemory);
+    };
     let mut here = at;
     for field in fields {
         match append_field(alloc, message, *field, here, end, table, &mut octets) {

@@ -83,7 +83,7 @@ fn upper_rcode(additional: &RrList) -> u16
     ensures small { result ≤ 255 }
 {
     for rr in additional.as_slice() {
-        if rr.rtype == OPT_TYPE && rr.owner.labels() == 0 {
+        if rr.rtype == OPT_TYPE && rr.owner.name().labels() == 0 {
             return (rr.ttl >> 24) as u16;
         }
     }

@@ -8,7 +8,7 @@ use crate::data::read_data;
 use crate::message_name::name_or_fault;
 use crate::name_table::NameTable;
 use crate::rr_fields::RrFields;
-use dname::{ItemList, Name, Octets};
+use dname::{BoxedName, ItemList, Name, Octets};
 use std::alloc::Global;
 
 /// A list of records, such as a section of a message, seen as such.
@@ -17,7 +17,7 @@ pub type RrList = ItemList<Rr>;
 /// A resource record (RFC 1035, section 4.1.3).
 #[derive(Debug, Drop)]
 pub struct Rr {
-    pub owner: Name,
+    pub owner: BoxedName,
     pub rtype: u16,
     pub class: u16,
     /// In seconds.
@@ -53,12 +53,22 @@ impl Rr {
             table,
         )?;
         let rr = Rr {
-            owner,
+            owner: boxed(alloc, owner)?,
             rtype: fields.rtype,
             class: fields.class,
             ttl: fields.ttl,
             octets,
         };
         Ok((rr, fields.end))
+    }
+}
+
+fn boxed(alloc: Global, owner: Name) -> Result<BoxedName, WireFault>
+    ensures ok { IfOk result (λ boxed. boxed ≡ owner) }
+    ensures refused { IfErr result (λ fault. fault ≡ WireFault.OutOfMemory) }
+{
+    match BoxedName::of(alloc, owner) {
+        Ok(boxed) => Ok(boxed),
+        Err(_) => Err(WireFault::OutOfMemory),
     }
 }

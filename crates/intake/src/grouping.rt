@@ -86,7 +86,7 @@ fn covered_key(signature: &Rr) -> Key
     ensures { result ≡ covered_key signature.now }
 {
     Key {
-        owner: signature.owner.copy(),
+        owner: signature.owner.name().copy(),
         class: IN_CLASS,
         rtype: u16_at(signature.octets.as_slice(), 0),
     }

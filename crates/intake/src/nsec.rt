@@ -13,14 +13,14 @@ use std::alloc::{AllocError, Global};
 /// The record of an NSEC group that is kept. None where its data doesn't read, or its next name is outside the zone.
 pub(crate) fn nsec_record(
     alloc: Global,
-    group: SignedGroup,
+    group: &SignedGroup,
     image: Octets,
     signatures: OctetsList,
     now: u32,
 ) -> Result<Option<Record>, OutOfMemory>
-    requires passes { Passes group }
-    requires rtype { group.rtype ≡ NSEC_TYPE }
-    ensures { IfOk result (IsTakenOf now group (image ∷ []) signatures) }
+    requires passes { Passes group.now }
+    requires rtype { group.now.rtype ≡ NSEC_TYPE }
+    ensures { IfOk result (IsTakenOf now group.now (image ∷ []) signatures) }
 {
     let Some(parts) = read_parts(alloc, image.as_slice())? else {
         return Ok(None);
@@ -34,22 +34,22 @@ pub(crate) fn nsec_record(
 }
 
 fn nsec_of(
-    group: SignedGroup,
+    group: &SignedGroup,
     parts: NsecParts,
     image: Octets,
     signatures: OctetsList,
     now: u32,
 ) -> NsecRec
-    requires passes { Passes group }
-    requires rtype { group.rtype ≡ NSEC_TYPE }
+    requires passes { Passes group.now }
+    requires rtype { group.now.rtype ≡ NSEC_TYPE }
     requires reads { IsNsec image parts }
-    requires inside { IsUnder parts.next group.agreed.signer }
-    ensures { IsTakenOf now group (image ∷ []) signatures (Some (Record.Nsec result)) }
+    requires inside { IsUnder parts.next group.now.agreed.signer }
+    ensures { IsTakenOf now group.now (image ∷ []) signatures (Some (Record.Nsec result)) }
 {
     let life = group.life();
     NsecRec {
-        zone: group.agreed.signer,
-        owner: group.owner,
+        zone: group.agreed.signer.copy(),
+        owner: group.owner.name().copy(),
         next: parts.next,
         types: parts.types,
         life,

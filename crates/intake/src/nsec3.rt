@@ -27,16 +27,16 @@ const HASH_DIGITS: u8 = 32;
 /// are used, or its owner is no hash below the zone.
 pub(crate) fn nsec3_record(
     alloc: Global,
-    group: SignedGroup,
+    group: &SignedGroup,
     image: Octets,
     signatures: OctetsList,
     now: u32,
 ) -> Result<Option<Record>, OutOfMemory>
-    requires passes { Passes group }
-    requires rtype { group.rtype ≡ NSEC3_TYPE }
-    ensures { IfOk result (IsTakenOf now group (image ∷ []) signatures) }
+    requires passes { Passes group.now }
+    requires rtype { group.now.rtype ≡ NSEC3_TYPE }
+    ensures { IfOk result (IsTakenOf now group.now (image ∷ []) signatures) }
 {
-    let Some(hash) = owner_hash(&group.owner, &group.agreed.signer) else {
+    let Some(hash) = owner_hash(group.owner.name(), &group.agreed.signer) else {
         return Ok(None);
     };
     let Some(parts) = read_parts(alloc, image.as_slice())? else {
@@ -51,26 +51,26 @@ pub(crate) fn nsec3_record(
 }
 
 fn nsec3_of(
-    group: SignedGroup,
+    group: &SignedGroup,
     hash: [u8; 20],
     parts: Nsec3Parts,
     image: Octets,
     signatures: OctetsList,
     now: u32,
 ) -> Nsec3Rec
-    requires passes { Passes group }
-    requires rtype { group.rtype ≡ NSEC3_TYPE }
-    requires hashed { IsHashedOwner group.owner group.agreed.signer hash }
+    requires passes { Passes group.now }
+    requires rtype { group.now.rtype ≡ NSEC3_TYPE }
+    requires hashed { IsHashedOwner group.now.owner group.now.agreed.signer hash }
     requires reads { IsNsec3 image parts }
     requires sha1 { parts.algorithm ≡ 1 }
     requires flags { parts.flags ≤ 1 }
     requires iterations { parts.iterations ≤ 50 }
-    ensures { IsTakenOf now group (image ∷ []) signatures (Some (Record.Nsec3 result)) }
+    ensures { IsTakenOf now group.now (image ∷ []) signatures (Some (Record.Nsec3 result)) }
 {
     let life = group.life();
     let next = parts.next;
     Nsec3Rec {
-        zone: group.agreed.signer,
+        zone: group.agreed.signer.copy(),
         hash,
         next,
         salt: parts.salt,

@@ -3,12 +3,12 @@ ghost use Rattle.intake.specs.Signed.{counted_ttl};
 ghost use Rattle.intake.specs.Pile.{has_key, key_of_pile, joined, with_signature};
 
 use crate::key::Key;
-use dname::{Name, Octets, OctetsList, OutOfMemory};
+use dname::{BoxedName, Octets, OctetsList, OutOfMemory};
 
 /// The records of a group as they are collected, equal data as often as it comes.
 #[derive(Drop)]
 pub(crate) struct Pile {
-    pub(crate) owner: Name,
+    pub(crate) owner: BoxedName,
     pub(crate) class: u16,
     pub(crate) rtype: u16,
     /// The least TTL, in seconds.
@@ -28,7 +28,7 @@ impl Pile {
         if key.class != self.class {
             return false;
         }
-        key.owner == self.owner
+        key.owner == *self.owner.name()
     }
 
     /// The key of its records.
@@ -36,7 +36,7 @@ impl Pile {
         ensures { result ≡ key_of_pile self.now }
     {
         Key {
-            owner: self.owner.copy(),
+            owner: self.owner.name().copy(),
             class: self.class,
             rtype: self.rtype,
         }

@@ -3,12 +3,12 @@ ghost use Rattle.intake.specs.Stored.{is_kept_type, is_single_type, is_apex_type
 ghost use Rattle.intake.specs.SignedGroup.{Passes, HasLabels, life_in};
 
 use crate::agreed::Agreed;
-use dname::Name;
 use dname::types::{
     AFSDB_TYPE, CNAME_TYPE, DNAME_TYPE, DS_TYPE, IN_CLASS, KX_TYPE, MB_TYPE, MD_TYPE, MF_TYPE,
     MG_TYPE, MINFO_TYPE, MR_TYPE, NAPTR_TYPE, NS_TYPE, NSEC_TYPE, NSEC3_TYPE, NXT_TYPE, OPT_TYPE,
     PX_TYPE, RP_TYPE, RRSIG_TYPE, RT_TYPE, SIG_TYPE, SOA_TYPE,
 };
+use dname::{BoxedName, Name};
 
 /// Three hours, in seconds (RFC 8198, section 5.4).
 const DENIAL_LIMIT: u32 = 10_800;
@@ -21,7 +21,7 @@ const SET_LIMIT: u32 = 86_400;
 pub(crate) struct SignedGroup {
     pub(crate) class: u16,
     pub(crate) rtype: u16,
-    pub(crate) owner: Name,
+    pub(crate) owner: BoxedName,
     /// The least TTL, in seconds.
     pub(crate) ttl: u32,
     /// The number of its records, equal data counted once.
@@ -46,7 +46,7 @@ impl SignedGroup {
     fn is_inside(&self) -> bool
         ensures { IsTrue result ↔ IsInside self.now.rtype self.now.owner self.now.agreed.signer }
     {
-        let (owner, zone) = (&self.owner, &self.agreed.signer);
+        let (owner, zone) = (self.owner.name(), &self.agreed.signer);
         if is_apex_type(self.rtype) {
             *owner == *zone
         } else if self.rtype == DS_TYPE {
@@ -61,7 +61,7 @@ impl SignedGroup {
         ensures { IsTrue result ↔ HasLabels self.now }
     {
         let labels = usize::from(self.agreed.labels);
-        let most = self.owner.owner_labels();
+        let most = self.owner.name().owner_labels();
         labels <= most
             && self.agreed.signer.labels() <= labels
             && (!is_own_type(self.rtype) || labels == most)
@@ -72,11 +72,12 @@ impl SignedGroup {
         ensures { result ≡ signed_name self.now.owner self.now.agreed.labels }
     {
         let labels = usize::from(self.agreed.labels);
-        if labels < self.owner.owner_labels() {
-            prove!(self.owner.wire().len() <= 255);
-            self.owner.last(labels).star().unwrap()
+        let owner = self.owner.name();
+        if labels < owner.owner_labels() {
+            prove!(owner.wire().len() <= 255);
+            owner.last(labels).star().unwrap()
         } else {
-            self.owner.copy()
+            owner.copy()
         }
     }
 

@@ -36,7 +36,7 @@ pub(crate) fn stored(alloc: Global, pile: Pile, now: u32) -> Result<Option<Recor
         agreed,
     };
     if group.passes() {
-        record_of(alloc, group, items, signatures, now)
+        record_of(alloc, &group, items, signatures, now)
     } else {
         Ok(None)
     }
@@ -45,14 +45,14 @@ pub(crate) fn stored(alloc: Global, pile: Pile, now: u32) -> Result<Option<Recor
 // The record of a group that passes.
 fn record_of(
     alloc: Global,
-    group: SignedGroup,
+    group: &SignedGroup,
     items: OctetsList,
     signatures: OctetsList,
     now: u32,
 ) -> Result<Option<Record>, OutOfMemory>
-    requires passes { Passes group }
-    requires count { group.count ≡ length items }
-    ensures { IfOk result (IsTakenOf now group items signatures) }
+    requires passes { Passes group.now }
+    requires count { group.now.count ≡ length items }
+    ensures { IfOk result (IsTakenOf now group.now items signatures) }
 {
     match group.rtype {
         NSEC_TYPE => nsec_record(alloc, group, only(items), signatures, now),
@@ -64,15 +64,15 @@ fn record_of(
     }
 }
 
-fn set_of(group: SignedGroup, items: OctetsList, signatures: OctetsList, now: u32) -> SetRec
-    requires passes { Passes group }
-    requires no_denial { is_denial_type group.rtype ≡ false }
-    ensures { IsTakenOf now group items signatures (Some (Set result)) }
+fn set_of(group: &SignedGroup, items: OctetsList, signatures: OctetsList, now: u32) -> SetRec
+    requires passes { Passes group.now }
+    requires no_denial { is_denial_type group.now.rtype ≡ false }
+    ensures { IsTakenOf now group.now items signatures (Some (Set result)) }
 {
     let life = group.life();
     SetRec {
         owner: group.signed_name(),
-        zone: group.agreed.signer,
+        zone: group.agreed.signer.copy(),
         rtype: group.rtype,
         life,
         expiry: u64::from(now) + u64::from(life),

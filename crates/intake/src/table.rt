@@ -38,13 +38,13 @@ impl Table {
         ensures piles { OnOk result (self.new.piles.items ≡ with_record self.old.piles.items rr) }
     {
         let key = Key {
-            owner: rr.owner,
+            owner: rr.owner.name().copy(),
             class: rr.class,
             rtype: rr.rtype,
         };
         match self.place(&key) {
             Some(at) => self.piles[at].join(rr.ttl, rr.octets),
-            None => self.begin(alloc, key, rr.ttl, rr.octets),
+            None => self.begin(alloc, key, rr),
         }
     }
 
@@ -74,26 +74,21 @@ impl Table {
     }
 
     // Begins a pile with the first record of its key.
-    fn begin(
-        &mut self,
-        alloc: Global,
-        key: Key,
-        ttl: u32,
-        octets: Octets,
-    ) -> Result<(), OutOfMemory>
+    fn begin(&mut self, alloc: Global, key: Key, rr: Rr) -> Result<(), OutOfMemory>
         requires table { IsTable self.old }
+        requires key { key ≡ key_of rr }
         requires new { place_of (has_key key) self.old.piles.items ≡ None }
         ensures table { OnOk result (IsTable self.new) }
         ensures piles { OnOk result (self.new.piles.items ≡ self.old.piles.items
-            ++ begun key ttl octets ∷ []) }
+            ++ begun key rr.ttl rr.octets ∷ []) }
     {
         let mut items = OctetsList::empty(alloc);
-        items.push(octets)?;
+        items.push(rr.octets)?;
         let pile = Pile {
-            owner: key.owner.copy(),
-            class: key.class,
-            rtype: key.rtype,
-            ttl: counted_ttl(ttl),
+            owner: rr.owner,
+            class: rr.class,
+            rtype: rr.rtype,
+            ttl: counted_ttl(rr.ttl),
             items,
             signatures: OctetsList::empty(alloc),
         };

@@ -122,7 +122,7 @@ fn put_section(draft: &mut Draft, question: &Question, section: &RrList)
 fn put_rr(draft: &mut Draft, rr: &Rr)
     ensures { draft.new ≡ put draft.old (rr_octets rr.now) }
 {
-    draft.put(rr.owner.wire());
+    draft.put(rr.owner.name().wire());
     put_rest(draft, rr.rtype, rr.class, rr.ttl, rr.octets.as_slice());
 }
 

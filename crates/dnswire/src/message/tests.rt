@@ -84,7 +84,11 @@ fn an_owner_may_point_back_alone(rt: HostRuntime) -> Result<(), Fail> {
         .iter()
         .enumerate()
     {
-        assert_eq!(rt; rr.owner.wire(), b"\x01a\x07example\x00".as_slice(), "{i}");
+        assert_eq!(rt;
+            rr.owner.name().wire(),
+            b"\x01a\x07example\x00".as_slice(),
+            "{i}"
+        );
         assert_eq!(rt; (rr.rtype, rr.class, rr.ttl), (1, 1, 3600), "{i}");
         assert_eq!(rt; rr.octets.as_slice(), b"\xc0\x00\x02\x01".as_slice(), "{i}");
     }
@@ -268,7 +272,12 @@ fn compressed_names_are_written_out(rt: HostRuntime) -> Result<(), Fail> {
             let rr = section.get(i);
             let wanted = WRITTEN_OUT.get(number).ok_or("too many records")?;
             assert_eq!(rt;
-                (rr.owner.wire(), rr.rtype, rr.ttl, rr.octets.as_slice()),
+                (
+                    rr.owner.name().wire(),
+                    rr.rtype,
+                    rr.ttl,
+                    rr.octets.as_slice()
+                ),
                 *wanted,
                 "{number}"
             );
@@ -322,7 +331,7 @@ fn an_owner_of_255_octets_by_a_pointer_is_read(rt: HostRuntime) -> Result<(), Fa
             Ok(message) => {
                 assert!(rt; is_read, "{size}");
                 for rr in message.answer.as_slice() {
-                    assert_eq!(rt; rr.owner.wire().len(), 255);
+                    assert_eq!(rt; rr.owner.name().wire().len(), 255);
                 }
             }
             Err(fault) => {
@@ -365,14 +374,14 @@ fn names_that_end_in_a_long_chain_are_read(rt: HostRuntime) -> Result<(), Fail> 
         let message = read_message(alloc, &octets)?;
         for rr in message.authority.as_slice() {
             if rr.rtype == 2 {
-                assert_eq!(rt; rr.owner.wire(), b"\x00".as_slice(), "{i}");
+                assert_eq!(rt; rr.owner.name().wire(), b"\x00".as_slice(), "{i}");
                 assert_eq!(rt; rr.octets.as_slice(), b"\x01B\x00".as_slice(), "{i}");
             } else {
-                assert_eq!(rt; rr.owner.wire(), *first_wire, "{i}");
+                assert_eq!(rt; rr.owner.name().wire(), *first_wire, "{i}");
             }
         }
         for rr in message.additional.as_slice() {
-            assert_eq!(rt; rr.owner.wire(), *second_wire, "{i}");
+            assert_eq!(rt; rr.owner.name().wire(), *second_wire, "{i}");
             assert_eq!(rt;
                 rr.octets.as_slice(),
                 b"\x00\x01\x01B\x00".as_slice(),

@@ -6,7 +6,7 @@ use Rattle.intake.proofs.nsec3.nsec3_of.Goals as goal
 
 pub returns : goal.returns
 returns c = λ group is. record {
-  kept = rw c.life-life.ensures (subst (λ owner. IsKept c.args.now group c.args.group.agreed.signer owner (life_in c.args.group)) is.owner_is (kept_own c.args.now group c.args.group _ c.args.signatures c.requires.passes is (ap is_own_type c.requires.rtype)));
+  kept = rw (c.copy.ensures, c.life-life.ensures) (subst (λ owner. IsKept c.args.now group c.args.group.now.agreed.signer owner (life_in c.args.group.now)) is.owner_is (kept_own c.args.now group c.args.group.now _ c.args.signatures c.requires.passes is (ap is_own_type c.requires.rtype)));
   type_is = sym is.rtype_is ∙ c.requires.rtype;
   parts = c.args.parts;
   item_is = sym is.items_are;
@@ -14,7 +14,7 @@ returns c = λ group is. record {
   sha1 = c.requires.sha1;
   flags_known = c.requires.flags;
   few_iterations = c.requires.iterations;
-  hashed = subst (λ owner. IsHashedOwner owner c.args.group.agreed.signer c.args.hash) is.owner_is c.requires.hashed;
+  hashed = rw c.copy.ensures (subst (λ owner. IsHashedOwner owner c.args.group.now.agreed.signer c.args.hash) is.owner_is c.requires.hashed);
   next_is = refl;
   salt_is = refl;
   iterations_are = refl;

@@ -22,7 +22,7 @@ pub returns-clause-read : goal.returns-clause-read
 returns-clause-read c = record {
   head = record { owner = c.in_ok-owner.owner; fields = c.in-Some.fields };
   reads = head_of_rr _ _ c.in_ok-owner.owner c.in_ok-owner.fields_at c.in-Some.fields c.in_ok-owner.ensures.read c.in-Some.ensures.read;
-  owner = refl;
+  owner = c.in_ok-boxed.ensures.ok;
   rtype = refl;
   class = refl;
   ttl = refl;

@@ -1,7 +1,6 @@
-use Rattle.std.proofs.Common.{◌&&◌, ◌==◌, length, ap, ◌∙◌, arith}
-use Rattle.intake.specs.Group.{same_name}
+use Rattle.std.proofs.Common.{length, sym, ap, ◌∙◌, arith}
 use Rattle.intake.specs.declared.table.Table.{Table}
-use Rattle.intake.proofs.TableLemmas.{table_begun, table_few}
+use Rattle.intake.proofs.TableLemmas.{same_key, table_begun, table_few}
 use Rattle.intake.proofs.table.Table.begin.Goals as goal
 use Rattle.intake.proofs.table.Table.begin.Goals.{then-len-ge-FEW+in_ok-make_places+in_ok-insert, else-len-ge-FEW}
 
@@ -13,7 +12,7 @@ returns-clause-table c =
           table_begun after c.if-len-ge-FEW.self.piles.items c.args.self.now.piles.items _ w.make_places.new.self.places w.insert.new.self c.args.key w.len-then-len-ge-FEW.result
           c.in_ok-push-2.ensures.items (ap (λ (t : Table). t.piles.items) w.self-is ∙ w.in_ok-make_places.ensures.piles) (ap (λ (t : Table). t.places) w.self-is)
           w.in_ok-make_places.ensures.places c.requires.new
-          (λ k. ap (λ owner. same_name k.owner owner && ((k.class == c.args.key.class) && (k.rtype == c.args.key.rtype))) c.copy.ensures)
+          (λ k. ap (same_key k) (sym c.requires.key))
           (omega (arith, w.len-then-len-ge-FEW.ensures, ap length w.in_ok-make_places.ensures.piles)) w.in_ok-insert.ensures.updates
       | else-len-ge-FEW w ↦
           table_few after c.if-len-ge-FEW.self.piles.items c.args.self.now.piles.items _
