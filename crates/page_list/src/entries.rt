@@ -2,10 +2,12 @@
 ghost use Rattle.std.specs.Prelude.{◌≡◌, ◌<◌, ◌≤◌, ◌+◌, ◌++◌, ◌∷◌, false, length, take, drop, IfOk, IfSome, IsTrue, OnOk, vec_capacity, vec_len};
 
 use crate::parts::{items_before, items_from};
+use crate::short::MOST;
 use crate::{Entry, OutOfMemory};
 use std::alloc::{AllocError, Global};
 
-/// New owners of what stands in `before`, then in `between`, then in `after`.
+/// New owners of what stands in `before`, then in `between`, then in `after`, with room for a page's entries, so that a page
+/// that is changed where it lies takes no memory.
 pub(crate) fn entries_round<T: Drop>(
     alloc: Global,
     before: &[Entry<T>],
@@ -17,7 +19,7 @@ pub(crate) fn entries_round<T: Drop>(
     let Some(count) = total(before.len(), between.len(), after.len()) else {
         return Err(AllocError);
     };
-    let mut all = Vec::with_capacity(alloc, count)?;
+    let mut all = Vec::with_capacity(alloc, count.max(MOST))?;
     put_onto(&mut all, before)?;
     put_onto(&mut all, between)?;
     put_onto(&mut all, after)?;

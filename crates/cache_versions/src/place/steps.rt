@@ -48,10 +48,10 @@ fn grown<S: Drop, B: Drop>(
     requires { number ≡ now.now.number + 1 }
     ensures { IfOk result (λ v. IsGrown now.now (arc_value batch.now) state (arc_value v)) }
 {
-    let mut last = Vec::new(alloc);
-    last.push(Arc::try_clone(batch)?)?;
     let end = now.journal.len();
-    let journal = now.journal.with_replaced(alloc, end, end, last)?;
+    let journal = now
+        .journal
+        .with_one(alloc, end, end, Arc::try_clone(batch)?)?;
     let state = owned(alloc, state)?;
     let opening = Arc::try_clone(&now.opening)?;
     let next = Version {
