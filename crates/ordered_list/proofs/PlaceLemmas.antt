@@ -1,13 +1,13 @@
 -- Where an entry stands, or would stand, in a list in order.
-use Rattle.std.proofs.Common.{◌≡◌, ℕ, suc, ◌+◌, ◌<◌, ◌≤◌, Bool, true, false, cond, List, [], ◌∷◌, ◌++◌, length, get_or, take, drop, map, All, filter, find, Some, None, refl, sym, ap, ◌∙◌, subst, arith}
+use Rattle.std.proofs.Common.{◌≡◌, ℕ, suc, ◌+◌, ◌<◌, ◌≤◌, Bool, true, false, cond, List, [], ◌∷◌, ◌++◌, length, get_or, take, drop, All, filter, find, Some, None, refl, sym, ap, ◌∙◌, subst, arith}
 use Rattle.std.specs.List.{prefix_len, slice_get}
 use Rattle.std.specs.List.Sorted.{IsPartitionedBy}
 use Rattle.std.specs.Cmp.{IsTotalOrder}
 use Rattle.std.specs.Ordering.{is_lt, is_eq, is_gt}
 use Rattle.std.specs.declared.cmp.Ordering.{Ordering}
 use Rattle.std.specs.declared.cmp.Ordering.TheVariants.{Less, Equal, Greater}
-use Rattle.std.proofs.lemmas.List.{append-nil, append_assoc, drop_all, drop_at, drop_more, length-append, nil_from_length, take_at}
-use Rattle.ordered_list.specs.Order.{IsInOrder, with_entry, without_entry}
+use Rattle.std.proofs.lemmas.List.{append_assoc, drop_all, drop_at, drop_more, length-append, nil_from_length, take_at}
+use Rattle.ordered_list.specs.Order.{IsInOrder, IsRank, with_entry, without_entry}
 use Rattle.ordered_list.proofs.FilterLemmas.{filter_all, filter_none, find_is_first}
 use Rattle.ordered_list.proofs.OrderLemmas.{rest_in_order, above_behind, partitioned, less_from}
 
@@ -150,6 +150,22 @@ module _ {X : Type 0} (cmp : X → X → Ordering) (total : IsTotalOrder cmp) (l
     without_made made is =
         let left : take n xs ++ drop m xs ≡ without_entry cmp like xs = rw (taken xs h n start, dropped xs h n m start end) (others xs h) in
         is ∙ left
+
+  -- what a rank says
+  module _ (xs : List X) (h : IsInOrder cmp xs) (n m : ℕ) (rank : IsRank cmp like xs n m) where
+    pub rank_in_range : m ≤ length xs
+    rank_in_range =
+        let low : List X = filter below xs in
+        let same : List X = filter level xs in
+        let high : List X = filter above xs in
+        let all : length xs ≡ length low + (length same + length high) = ap length (parts xs h) ∙ (length-append low (same ++ high) ∙ ap (λ k. length low + k) (length-append same high)) in
+        omega (arith, all, rank.below, rank.equal)
+
+    pub rank_taken : (x : X) → n < m → x ≡ get_or xs n x → Some x ≡ find level xs
+    rank_taken x some is = found xs h n x rank.below (omega (arith, rank_in_range)) is (omega (arith, rank.equal))
+
+    pub rank_free : m ≤ n → None ≡ find level xs
+    rank_free none = found_none xs (omega (arith, rank.equal))
 
   -- those below are the first ones
   pub below_first : (xs : List X) → IsInOrder cmp xs → IsPartitionedBy below xs

@@ -2,8 +2,10 @@
 #![tactic(auto)]
 
 mod ordered_list;
+mod rank;
 mod ranking;
 
 pub use ordered_list::OrderedList;
 pub use page_list::{Iter, Marking, OutOfMemory};
+pub use rank::Rank;
 pub use ranking::Ranking;

@@ -6,9 +6,9 @@ ghost use Rattle.std.specs.Ordering.{is_lt, is_eq};
 ghost use Rattle.std.specs.Fn.{FnReturnsAt};
 ghost use Rattle.std.specs.Arc.{arc_value};
 ghost use Rattle.page_list.specs.Marks.{PartsAtMark};
-ghost use Rattle.ordered_list.specs.Order.{IsInOrder, entry_at, with_entry, without_entry};
+ghost use Rattle.ordered_list.specs.Order.{IsInOrder, IsRank, entry_at, with_entry, without_entry};
 
-use crate::Ranking;
+use crate::{Rank, Ranking};
 use page_list::{Iter, MarkedList, OutOfMemory};
 use std::alloc::Global;
 use std::marker::Model;
@@ -84,12 +84,43 @@ impl<T: Drop, R: Ranking<T>> OrderedList<T, R> {
             ≡ entry_at R.cmp like.now self.now }
         ensures in_order { IsInOrder R.cmp self.now }
     {
+        self.ranked(self.rank(like))
+    }
+
+    /// The rank of `like`, whether an entry ranks equal with it or none does.
+    pub fn rank(&self, like: &T) -> Rank
+        ensures rank { IsRank R.cmp like.now self.now result.from result.to }
+        ensures in_order { IsInOrder R.cmp self.now }
+    {
         let (from, to) = self.place(like);
-        if from < to {
-            Some(self.list.get(from))
+        Rank { from, to }
+    }
+
+    /// The entry of that rank, if there is one.
+    pub fn ranked(&self, rank: Rank) -> Option<&Arc<T>>
+        requires { (like : T) × IsRank R.cmp like self.now rank.from rank.to }
+        ensures { (like : T) → IsRank R.cmp like self.now rank.from rank.to
+            → option_map (λ entry. arc_value entry.now) result ≡ entry_at R.cmp like self.now }
+    {
+        if rank.from < rank.to {
+            Some(self.list.get(rank.from))
         } else {
             None
         }
+    }
+
+    /// What `with` gives, where the entry's rank is known.
+    pub fn with_at(
+        &self,
+        alloc: Global,
+        rank: Rank,
+        entry: Arc<T>,
+    ) -> Result<OrderedList<T, R>, OutOfMemory>
+        requires { IsRank R.cmp (arc_value entry) self.now rank.from rank.to }
+        ensures { IfOk result (λ made. made ≡ with_entry R.cmp (arc_value entry) self.now) }
+    {
+        let list = self.list.with_one(alloc, rank.from, rank.to, entry)?;
+        Ok(OrderedList { list })
     }
 
     // How many entries rank below `like`.
@@ -148,9 +179,7 @@ impl<T: Drop, R: Ranking<T>> OrderedList<T, R> {
         ensures made { IfOk result (λ made. made ≡ with_entry R.cmp (arc_value entry) self.now) }
         ensures in_order { IsInOrder R.cmp self.now }
     {
-        let (from, to) = self.place(&entry);
-        let list = self.list.with_one(alloc, from, to, entry)?;
-        Ok(OrderedList { list })
+        self.with_at(alloc, self.rank(&entry), entry)
     }
 
     /// The list without the entry that ranks equal with `like`.

@@ -233,12 +233,17 @@ IsOverMet-found cmp o start end xs arcs new s e n m from b hs he hn hm front hb 
     }
 
 -- behind the first so many, where one element came in place of the end
-pub behind_kept : {X : Type 0} (xs ys : List X) (new : X) (kept l dropped : ℕ) → ys ≡ take kept xs ++ new ∷ drop l xs → l ≡ length xs → kept ≤ length xs → dropped ≤ kept → drop dropped ys ≡ drop dropped (take kept xs) ++ new ∷ []
+behind_kept : {X : Type 0} (xs ys : List X) (new : X) (kept l dropped : ℕ) → ys ≡ take kept xs ++ new ∷ drop l xs → l ≡ length xs → kept ≤ length xs → dropped ≤ kept → drop dropped ys ≡ drop dropped (take kept xs) ++ new ∷ []
 behind_kept xs ys new kept l dropped e hl in_range order =
     let past : length xs ≤ l = omega arith in
     let long : length (take kept xs) ≡ kept = length-take-le kept xs in_range in
     ap (drop dropped) (e ∙ ap (λ z. take kept xs ++ new ∷ z) (drop_all l xs past))
     ∙ drop-append-le dropped (take kept xs) (new ∷ []) (omega arith)
+
+-- the list with the new one in place of its end, without its first run
+pub IsOverMet-made : {X : Type 0} (p : X → Bool) (xs ys zs : List X) (new : X) (made : List X) (to last l : ℕ) → zs ≡ drop to ys → ys ≡ take last xs ++ new ∷ drop l xs → l ≡ length xs → IsOverMet p xs new made to last → zs ≡ made
+IsOverMet-made p xs ys zs new made to last l dropped e hl met =
+    dropped ∙ (behind_kept xs ys new last l to e hl met.runs.in_range met.runs.between ∙ met.is)
 
 -- the three returns of `trimmed`
 pub IsTrimmed-shorter : {X : Type 0} (p : X → Bool) (xs : List X) (low high : ℕ) (x : X) → low < high → high ≤ length xs → x ≡ get_or xs (high - 1) x → p x ≡ true → IsTrimmed p xs low high (high - 1)

@@ -96,8 +96,21 @@ impl<T: Drop, R: RingSpan<T>> Arcs<T, R> {
         ensures { IfOk result (λ made.
             made ≡ arcs_with R.Key.Ord.cmp R.start R.end (arc_value span) self.now) }
     {
-        let list = list_with(alloc, &self.list, span)?;
-        Ok(Arcs { list })
+        let (arcs, _met) = self.with_met(alloc, span)?;
+        Ok(arcs)
+    }
+
+    /// The same, and the places in this list of the spans that it drops.
+    pub fn with_met(&self, alloc: Global, span: Arc<T>) -> Result<(Arcs<T, R>, Met), OutOfMemory>
+        requires { AreOfFrame R.frame R.mark (R.frame (arc_value span)) self.now }
+        ensures arcs { IfOk result (λ made.
+            made.0 ≡ arcs_with R.Key.Ord.cmp R.start R.end (arc_value span) self.now) }
+        ensures met { IfOk result (λ made.
+            FailInRuns (is_apart R.Key.Ord.cmp R.start R.end (arc_value span)) self.now
+            made.1.from made.1.to made.1.last) }
+    {
+        let (list, met) = list_with(alloc, &self.list, span)?;
+        Ok((Arcs { list }, met))
     }
 
     /// Which spans `with` drops for this one: those that it meets.

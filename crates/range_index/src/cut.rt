@@ -17,11 +17,14 @@ pub(crate) fn list_with<T: Drop, R: RingSpan<T>>(
     alloc: Global,
     list: &MarkedList<T, ByStart<R>>,
     span: Arc<T>,
-) -> Result<MarkedList<T, ByStart<R>>, OutOfMemory>
+) -> Result<(MarkedList<T, ByStart<R>>, Met), OutOfMemory>
     requires frame { AreOfFrame R.frame R.mark (R.frame (arc_value span)) list.now }
     requires arcs { IsArcs R.Key.Ord.cmp R.start R.end list.now }
-    ensures { IfOk result (λ made.
-        made ≡ arcs_with R.Key.Ord.cmp R.start R.end (arc_value span) list.now) }
+    ensures list { IfOk result (λ made.
+        made.0 ≡ arcs_with R.Key.Ord.cmp R.start R.end (arc_value span) list.now) }
+    ensures met { IfOk result (λ made.
+        FailInRuns (is_apart R.Key.Ord.cmp R.start R.end (arc_value span)) list.now
+        made.1.from made.1.to made.1.last) }
 {
     if R::compare_ends(&span).is_lt() {
         with_plain(alloc, list, span)
@@ -48,21 +51,25 @@ fn with_plain<T: Drop, R: RingSpan<T>>(
     alloc: Global,
     list: &MarkedList<T, ByStart<R>>,
     span: Arc<T>,
-) -> Result<MarkedList<T, ByStart<R>>, OutOfMemory>
+) -> Result<(MarkedList<T, ByStart<R>>, Met), OutOfMemory>
     requires frame { AreOfFrame R.frame R.mark (R.frame (arc_value span)) list.now }
     requires arcs { IsArcs R.Key.Ord.cmp R.start R.end list.now }
     requires plain { is_lt (R.Key.Ord.cmp (R.start (arc_value span)) (R.end (arc_value span)))
         ≡ true }
-    ensures { IfOk result (λ made.
-        made ≡ arcs_with R.Key.Ord.cmp R.start R.end (arc_value span) list.now) }
+    ensures list { IfOk result (λ made.
+        made.0 ≡ arcs_with R.Key.Ord.cmp R.start R.end (arc_value span) list.now) }
+    ensures met { IfOk result (λ made.
+        FailInRuns (is_apart R.Key.Ord.cmp R.start R.end (arc_value span)) list.now
+        made.1.from made.1.to made.1.last) }
 {
     let met = plain_met::<T, R>(list, &span);
-    if met.last < list.len() {
+    let made = if met.last < list.len() {
         let list = list.without_run(alloc, met.last, list.len())?;
-        list.into_with_one(alloc, met.from, met.to, span)
+        list.into_with_one(alloc, met.from, met.to, span)?
     } else {
-        list.with_one(alloc, met.from, met.to, span)
-    }
+        list.with_one(alloc, met.from, met.to, span)?
+    };
+    Ok((made, met))
 }
 
 fn plain_met<T: Drop, R: RingSpan<T>>(list: &MarkedList<T, ByStart<R>>, span: &T) -> Met
@@ -84,21 +91,25 @@ fn with_over<T: Drop, R: RingSpan<T>>(
     alloc: Global,
     list: &MarkedList<T, ByStart<R>>,
     span: Arc<T>,
-) -> Result<MarkedList<T, ByStart<R>>, OutOfMemory>
+) -> Result<(MarkedList<T, ByStart<R>>, Met), OutOfMemory>
     requires frame { AreOfFrame R.frame R.mark (R.frame (arc_value span)) list.now }
     requires arcs { IsArcs R.Key.Ord.cmp R.start R.end list.now }
     requires over { is_lt (R.Key.Ord.cmp (R.start (arc_value span)) (R.end (arc_value span)))
         ≡ false }
-    ensures { IfOk result (λ made.
-        made ≡ arcs_with R.Key.Ord.cmp R.start R.end (arc_value span) list.now) }
+    ensures list { IfOk result (λ made.
+        made.0 ≡ arcs_with R.Key.Ord.cmp R.start R.end (arc_value span) list.now) }
+    ensures met { IfOk result (λ made.
+        FailInRuns (is_apart R.Key.Ord.cmp R.start R.end (arc_value span)) list.now
+        made.1.from made.1.to made.1.last) }
 {
     let met = over_met::<T, R>(list, &span);
     let made = list.with_one(alloc, met.last, list.len(), span)?;
-    if met.to > 0 {
-        made.into_without_run(alloc, 0, met.to)
+    let made = if met.to > 0 {
+        made.into_without_run(alloc, 0, met.to)?
     } else {
-        Ok(made)
-    }
+        made
+    };
+    Ok((made, met))
 }
 
 fn over_met<T: Drop, R: RingSpan<T>>(list: &MarkedList<T, ByStart<R>>, span: &T) -> Met

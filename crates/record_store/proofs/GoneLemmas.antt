@@ -1,6 +1,7 @@
 -- What goes where a denial record comes.
 use Rattle.std.proofs.Common.{◌≡◌, ◌⊎◌, ◌↔◌, inl, inr, ⊎_elim, ℕ, ◌<◌, ◌≤◌, ◌||◌, Bool, true, false, true≢false, not, List, [], ◌∷◌, cond, length, get_or, Contains, Option, Some, None, refl, sym, ◌∙◌, ap, subst, arith}
 use Rattle.std.specs.List.{AllPairs, list_any}
+use Rattle.std.specs.Option.{MatchOption}
 use Rattle.std.proofs.lemmas.Bool.Decides.{leb_tells}
 use Rattle.denial_records.specs.declared.record.Record.{Record}
 use Rattle.cache_meaning.specs.Held.{ZoneChain, same_zone_chain, chain_of, is_that_chain, is_of_chain, displaces, third_of}
@@ -11,6 +12,16 @@ use Rattle.zone_chains.proofs.ChainLemmas.{other_way}
 use Rattle.record_store.specs.Holding.{IsZoneOf, AreCleared, AreWithout, AreLeft, IsAt, AreElsewhere}
 use Rattle.record_store.proofs.GoingLemmas.{displaced_is_of, one_place}
 use Rattle.record_store.proofs.ZoneLemmas.{in_flat, pairs_of_flat, of_its_chain}
+
+-- ---- what was met, if anything was
+
+pub met_some : {F : Type 0} (each : F → OneChain) (from to last : F → ℕ) (new : Record) (zone : OneZone) (met : Option F) (found : F) → met ≡ Some found
+    → MatchOption met ((old : Record) → Contains (records_in zone) old → displaces new old ≡ false) (λ f. DisplacesAt new zone (each f) (from f) (to f) (last f)) → DisplacesAt new zone (each found) (from found) (to found) (last found)
+met_some {F} each from to last new zone met found is says = subst (λ (o : Option F). MatchOption o ((old : Record) → Contains (records_in zone) old → displaces new old ≡ false) (λ f. DisplacesAt new zone (each f) (from f) (to f) (last f))) is says
+
+pub met_none : {F : Type 0} (each : F → OneChain) (from to last : F → ℕ) (new : Record) (zone : OneZone) (met : Option F) → met ≡ None
+    → MatchOption met ((old : Record) → Contains (records_in zone) old → displaces new old ≡ false) (λ f. DisplacesAt new zone (each f) (from f) (to f) (last f)) → (old : Record) → Contains (records_in zone) old → displaces new old ≡ false
+met_none {F} each from to last new zone met is says = subst (λ (o : Option F). MatchOption o ((old : Record) → Contains (records_in zone) old → displaces new old ≡ false) (λ f. DisplacesAt new zone (each f) (from f) (to f) (last f))) is says
 
 -- ---- the records of a chain
 

@@ -1,16 +1,17 @@
 //! Records in the order in which they go, one more or one less.
-ghost use Rattle.std.specs.Prelude.{◌≡◌, ◌<◌, ◌≤◌, ◌↔◌, true, false, length, IfOk, Some};
+ghost use Rattle.std.specs.Prelude.{◌≡◌, ◌<◌, ◌≤◌, ◌↔◌, true, false, length, IfOk, MatchOption, Some};
 ghost use Rattle.std.specs.List.{AllPairs, Contains};
 ghost use Rattle.std.specs.Arc.{arc_value};
 ghost use Rattle.cache_meaning.specs.Held.{displaces};
 ghost use Rattle.held_laws.specs.HeldLaws.{NoneDisplaces};
-ghost use Rattle.zone_chains.specs.Zone.{chains_in, records_in, IsDenialOf, third_for, is_of};
+ghost use Rattle.zone_chains.specs.Zone.{chains_in, records_in, DisplacesAt, IsDenialOf, third_for, is_of};
 ghost use Rattle.cache_meaning.specs.Held.{chain_of};
 ghost use Rattle.record_store.specs.Holding.{IsZoneOf, AreBut, AreWith, AreCleared, AreWithout, AreLeft, IsAt, AreElsewhere};
 
 use crate::holding::Goings;
 use denial_records::Record;
 use dname::OutOfMemory;
+use range_index::Met;
 use std::alloc::Global;
 use std::sync::Arc;
 use zone_chains::{ChainRecords, ZoneRecords};
@@ -47,18 +48,22 @@ pub(crate) fn without_gone(
     alloc: Global,
     goings: Goings,
     zone: &ZoneRecords,
+    met: Option<(&ChainRecords, Met)>,
     new: &Record,
 ) -> Result<Goings, OutOfMemory>
     requires apart { NoneDisplaces goings }
     requires zone { IsZoneOf goings zone.now }
     requires denial { IsDenialOf zone.now.apex new.now }
+    requires met { MatchOption met
+        ((old : Record) → Contains (records_in zone.now) old → displaces new.now old ≡ false)
+        (λ met. DisplacesAt new.now zone.now met.0.now met.1.from met.1.to met.1.last) }
     ensures records { IfOk result (λ left.
         AreLeft new.now (third_for (chains_in zone.now) (chain_of new.now))
         goings left) }
     ensures apart { IfOk result (λ left. NoneDisplaces left) }
 {
     let goings = without_third(alloc, goings, zone, new)?;
-    without_displaced(alloc, goings, zone, new)
+    without_displaced(alloc, goings, zone, met, new)
 }
 
 // Without the records that the new one displaces, which are the zone's.
@@ -66,10 +71,14 @@ fn without_displaced(
     alloc: Global,
     goings: Goings,
     zone: &ZoneRecords,
+    met: Option<(&ChainRecords, Met)>,
     new: &Record,
 ) -> Result<Goings, OutOfMemory>
     requires apart { NoneDisplaces goings }
     requires denial { IsDenialOf zone.now.apex new.now }
+    requires met { MatchOption met
+        ((old : Record) → Contains (records_in zone.now) old → displaces new.now old ≡ false)
+        (λ met. DisplacesAt new.now zone.now met.0.now met.1.from met.1.to met.1.last) }
     requires same { (old : Record) → displaces new.now old ≡ true
         → Contains goings old ↔ Contains (records_in zone.now) old }
     ensures records { IfOk result (λ left.
@@ -78,7 +87,7 @@ fn without_displaced(
 {
     // What the zone's chains have is a clause of `apex`.
     let _apex = zone.apex();
-    match zone.met_by(new) {
+    match met {
         Some((chain, met)) => {
             let goings = without_places(alloc, goings, chain, met.from, met.to)?;
             without_places(alloc, goings, chain, met.last, chain.len())

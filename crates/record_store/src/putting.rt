@@ -3,7 +3,7 @@ ghost use Rattle.std.specs.Prelude.{◌≡◌, IfOk, None, IsTrue, option_map};
 ghost use Rattle.std.specs.Arc.{arc_value};
 ghost use Rattle.cache_meaning.specs.Held.{chain_of, held_with};
 ghost use Rattle.held_laws.specs.HeldLaws.{NoneDisplaces, IsReordered};
-ghost use Rattle.ordered_list.specs.Order.{entry_at};
+ghost use Rattle.ordered_list.specs.Order.{IsRank, entry_at};
 ghost use Rattle.record_store.specs.Holding.{AreCleared};
 ghost use Rattle.record_store.specs.Dropping.{AreSets};
 ghost use Rattle.record_store.specs.Putting.{IsZoneFor};
@@ -16,6 +16,7 @@ use crate::same_set::same_set;
 use crate::zones::{with_apex, with_zone, zone_at};
 use denial_records::Record;
 use dname::OutOfMemory;
+use ordered_list::Rank;
 use std::alloc::Global;
 use std::sync::Arc;
 use zone_chains::ZoneRecords;
@@ -36,7 +37,8 @@ impl Holding {
         requires { chain_of (arc_value new) ≡ None }
         ensures { IfOk result (λ made. IsReordered (held_with self (arc_value new)) made) }
     {
-        let old = set_like(&self.sets, &new)?;
+        let rank = self.sets.rank(&new);
+        let old = set_of(&self.sets, rank)?;
         if let Some(old) = &old {
             if same_record(old, &new) {
                 // That no record displaces another is a clause of `len`.
@@ -51,7 +53,7 @@ impl Holding {
         } = self;
         let goings = without_set(alloc, goings, &sets, old, &new)?;
         let zones = with_apex(alloc, &zones, &zone_of(&new))?;
-        let sets = Arc::new(alloc, sets.with(alloc, Arc::try_clone(&new)?)?)?;
+        let sets = Arc::new(alloc, sets.with_at(alloc, rank, Arc::try_clone(&new)?)?)?;
         let goings = with(alloc, goings, new)?;
         Ok(Holding {
             goings,
@@ -70,11 +72,11 @@ impl Holding {
             sets,
             zones,
         } = self;
-        let goings = without_gone(alloc, goings, &zone, &new)?;
-        let zone = Arc::new(alloc, zone.with(alloc, Arc::try_clone(&new)?)?)?;
+        let (made, met) = zone.with(alloc, Arc::try_clone(&new)?)?;
+        let goings = without_gone(alloc, goings, &zone, met, &new)?;
         // What its chains have is a clause of `apex`.
-        let _apex = zone.apex();
-        let zones = with_zone(alloc, &zones, zone)?;
+        let _apex = made.apex();
+        let zones = with_zone(alloc, &zones, Arc::new(alloc, made)?)?;
         let goings = with(alloc, goings, new)?;
         Ok(Holding {
             goings,
@@ -98,12 +100,14 @@ impl Holding {
     }
 }
 
-// The set that has the key of a new one.
-fn set_like(sets: &Sets, new: &Record) -> Result<Option<Arc<Record, Global>>, OutOfMemory>
-    ensures { IfOk result (λ old.
-        option_map (λ o. arc_value o) old ≡ entry_at set_cmp new.now sets.now) }
+// The set of that rank, which has the key of a new one.
+fn set_of(sets: &Sets, rank: Rank) -> Result<Option<Arc<Record, Global>>, OutOfMemory>
+    requires { (new : Record) × IsRank set_cmp new sets.now rank.from rank.to }
+    ensures { IfOk result (λ old. (new : Record)
+        → IsRank set_cmp new sets.now rank.from rank.to
+        → option_map (λ o. arc_value o) old ≡ entry_at set_cmp new sets.now) }
 {
-    match sets.at(new) {
+    match sets.ranked(rank) {
         Some(old) => Ok(Some(Arc::try_clone(old)?)),
         None => Ok(None),
     }

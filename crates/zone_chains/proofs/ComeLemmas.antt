@@ -9,9 +9,9 @@ use Rattle.denial_records.specs.declared.record.Record.{Record}
 use Rattle.denial_records.specs.declared.record.Record.TheVariants.{Set, Nsec, Nsec3}
 use Rattle.cache_meaning.specs.Held.{ZoneChain, same_zone_chain, is_that_chain, chain_of, is_of_chain, displaces}
 use Rattle.range_index.specs.Arcs.{FailInRuns}
-use Rattle.zone_chains.specs.Zone.{OneChain, OneZone, chains_in, records_in, IsDenialOf, chains_with, third_for, is_of}
+use Rattle.zone_chains.specs.Zone.{OneChain, OneZone, chains_in, records_in, IsDenialOf, chains_with, third_for, DisplacesAt, is_of}
 use Rattle.zone_chains.specs.Views.{apart_in, IsChain, IsChainOf, AreChains}
-use Rattle.zone_chains.specs.Changes.{alone, joined, parted, came, went, OneHas}
+use Rattle.zone_chains.specs.Changes.{alone, joined, parted, came, DisplacesIn, went, OneHas}
 use Rattle.zone_chains.specs.Met.{IsMet}
 use Rattle.zone_chains.specs.Chains.{chains_by, zone_by}
 use Rattle.zone_chains.specs.declared.zone_chains.ZoneChains.{ZoneChains}
@@ -280,6 +280,14 @@ met_at each it new of_it from to last runs = record {
     same : (k : ℕ) (d : Record) → k < length each.records → apart_in each.chain.chain new (get_or each.records k d) ≡ not (displaces new (get_or each.records k d))
     same k d within = apart_is each.chain.zone each.chain.chain new (get_or each.records k d) of_it (it.of_chain k d within)
 
+-- the code asks one of the chains, changes it, and lends it
+pub displaces_in : (new tested : Record) (chains : List OneChain) (each asked changed lent : OneChain) (from to last : ℕ) → Contains chains each → asked ≡ each → tested ≡ new → changed ≡ each → lent ≡ each → is_of_chain asked.chain tested ≡ true → FailInRuns (λ old. not (displaces new old)) changed.records from to last → DisplacesIn new chains lent from to last
+displaces_in new tested chains each asked changed lent from to last has asks tests changes lends is runs = record {
+  listed = subst (λ (e : OneChain). Contains chains e) (sym lends) has;
+  its = of_chain lent.chain new ((λ i. is_of_chain ((lends ∙ sym asks) i).chain (sym tests i)) ∙ is);
+  runs = subst (λ (e : OneChain). FailInRuns (λ old. not (displaces new old)) e.records from to last) (changes ∙ sym lends) runs;
+}
+
 module _ (new : Record) {F : Type 0} (value : F → Record) where
   abbrev AreMet : List Record → Option F → Type 0
   AreMet records o = MatchOption o ((old : Record) → Contains records old → displaces new old ≡ false) (λ old. Contains records (value old) × (displaces new (value old) ≡ true))
@@ -373,6 +381,13 @@ came_by apex apex' old made value new is it same = subst (λ (v : OneZone). IsDe
         (subst (λ m. HasComeBy apex new (chains_by old) m (chain_of new)) (sym (makes its.0 its.1))
         (subst (HasComeBy apex new (chains_by old) (came its.0 new (chains_by old))) (sym its.1) (has.chains, has.names, has.members))) in
         record { chains = all.0; names = all.1; members = all.2 }
+
+pub met_by : {F : Type 0} (each : F → OneChain) (from to last : F → ℕ) (apex : List Label) (old : ZoneChains) (value : OneZone) (new : Record) → zone_by apex old ≡ value → AreChains apex (chains_by old) → IsDenialOf value.apex new → (o : Option F) → MatchOption o (list_any (λ chain. is_of_chain chain new) (listed (chains_by old)) ≡ false) (λ met. DisplacesIn new (chains_by old) (each met) (from met) (to met) (last met)) → MatchOption o ((r : Record) → Contains (records_in value) r → displaces new r ≡ false) (λ met. DisplacesAt new value (each met) (from met) (to met) (last met))
+met_by {F} each from to last apex old value new is it = subst (λ (v : OneZone). IsDenialOf v.apex new → (o : Option F) → MatchOption o (list_any (λ chain. is_of_chain chain new) (listed (chains_by old)) ≡ false) (λ met. DisplacesIn new (chains_by old) (each met) (from met) (to met) (last met)) → MatchOption o ((r : Record) → Contains (records_in v) r → displaces new r ≡ false) (λ met. DisplacesAt new v (each met) (from met) (to met) (last met))) is by
+  where
+    by : IsDenialOf apex new → (o : Option F) → MatchOption o (list_any (λ chain. is_of_chain chain new) (listed (chains_by old)) ≡ false) (λ met. DisplacesIn new (chains_by old) (each met) (from met) (to met) (last met)) → MatchOption o ((r : Record) → Contains (held (chains_by old)) r → displaces new r ≡ false) (λ met. DisplacesAt new (zone_by apex old) (each met) (from met) (to met) (last met))
+    by denial None none = none_met apex (chains_by old) it new denial none
+    by denial (Some met) runs = record { listed = runs.listed; its = runs.its; runs = runs.runs }
 
 pub record GoneTo (value : OneZone) (item : Record) (apex : List Label) (made : ZoneChains) : Type 0 where
   pub chains : AreChains apex (chains_by made)

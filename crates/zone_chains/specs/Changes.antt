@@ -1,11 +1,12 @@
 -- No public clause cites this module: what a change makes of a zone's chains, as the code makes it.
-use Rattle.std.specs.Prelude.{◌≡◌, ◌⊎◌, if◌then◌else◌, List, [], ◌∷◌, filter, Some}
+use Rattle.std.specs.Prelude.{◌≡◌, ◌⊎◌, ℕ, not, if◌then◌else◌, List, [], ◌∷◌, filter, Some}
+use Rattle.std.specs.List.{Contains}
 use Rattle.std.specs.Ordering.{nat_cmp}
 use Rattle.std.specs.Cmp.Lexicographic.{slice_cmp}
 use Rattle.dname.specs.Name.{canonical_cmp}
 use Rattle.denial_records.specs.declared.record.Record.{Record}
-use Rattle.cache_meaning.specs.Held.{Chain, NsecChain, Nsec3Chain, ZoneChain, chain_of, is_of_chain}
-use Rattle.range_index.specs.Arcs.{starts_elsewhere, arcs_with}
+use Rattle.cache_meaning.specs.Held.{Chain, NsecChain, Nsec3Chain, ZoneChain, chain_of, displaces, is_of_chain}
+use Rattle.range_index.specs.Arcs.{FailInRuns, starts_elsewhere, arcs_with}
 use Rattle.zone_chains.specs.Zone.{OneChain}
 use Rattle.zone_chains.specs.Views.{nsec_start, nsec_end, nsec3_start, nsec3_end}
 
@@ -36,6 +37,12 @@ came chain new (newer ∷ older ∷ rest) =
     if is_of_chain newer.chain new
     then joined new newer ∷ older ∷ rest
     else (if is_of_chain older.chain new then newer ∷ joined new older ∷ rest else alone chain new ∷ newer ∷ [])
+
+-- one of the chains is the new record's, which displaces its records at the places from one up to another, and from the last on
+pub record DisplacesIn (new : Record) (chains : List OneChain) (each : OneChain) (from to last : ℕ) : Type 0 where
+  pub listed : Contains chains each
+  pub its : chain_of new ≡ Some each.chain
+  pub runs : FailInRuns (λ old. not (displaces new old)) each.records from to last
 
 -- the record goes
 abbrev pub went : Record → List OneChain → List OneChain

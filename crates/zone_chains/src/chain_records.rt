@@ -189,17 +189,25 @@ impl ChainRecords {
         })
     }
 
-    /// With a record of the chain, in the place of those that it displaces.
-    pub(crate) fn with(&self, alloc: Global, item: Arc<Record>) -> Result<ChainRecords, OutOfMemory>
+    /// With a record of the chain, in the place of those that it displaces, and the places that these have here.
+    pub(crate) fn with(
+        &self,
+        alloc: Global,
+        item: Arc<Record>,
+    ) -> Result<(ChainRecords, Met), OutOfMemory>
         requires { chain_of (arc_value item) ≡ Some self.now.chain }
-        ensures { IfOk result (λ made. made ≡ joined (arc_value item) self.now) }
+        ensures made { IfOk result (λ made. made.0 ≡ joined (arc_value item) self.now) }
+        ensures met { IfOk result (λ made.
+            FailInRuns (λ old. not (displaces (arc_value item) old)) self.now.records
+            made.1.from made.1.to made.1.last) }
     {
-        let spans = spans_with(alloc, &self.spans, item)?;
-        Ok(ChainRecords {
+        let (spans, met) = spans_with(alloc, &self.spans, item)?;
+        let made = ChainRecords {
             zone: self.zone.copy(),
             spans,
             hashes: shared(&self.hashes)?,
-        })
+        };
+        Ok((made, met))
     }
 
     /// Without a record of the chain.
@@ -225,27 +233,6 @@ impl ChainRecords {
             ChainSpans::Nsec(arcs) => one_met(arcs, new),
             ChainSpans::Nsec3 { arcs, .. } => one_met(arcs, new),
         }
-    }
-
-    /// The places of the records that a new one of the chain displaces.
-    pub(crate) fn met_by(&self, new: &Record) -> Met
-        requires { chain_of new.now ≡ Some self.now.chain }
-        ensures { FailInRuns (λ old. not (displaces new.now old)) self.now.records
-            result.from result.to result.last }
-    {
-        spans_met(&self.spans, new)
-    }
-}
-
-// The places of the spans that the new one meets.
-fn spans_met(spans: &ChainSpans, new: &Record) -> Met
-    requires { AreOfFrame zone_of name_mark (zone_of new.now) (records_by spans.now) }
-    ensures { FailInRuns (apart_in (kind_by spans.now) new.now) (records_by spans.now)
-        result.from result.to result.last }
-{
-    match spans {
-        ChainSpans::Nsec(arcs) => arcs.met_by(new),
-        ChainSpans::Nsec3 { arcs, .. } => arcs.met_by(new),
     }
 }
 
@@ -279,28 +266,39 @@ fn spans_of(alloc: Global, item: Arc<Record>) -> Result<ChainSpans, OutOfMemory>
     }
 }
 
+// With the record, and the places of the spans that it meets.
 fn spans_with(
     alloc: Global,
     spans: &ChainSpans,
     item: Arc<Record>,
-) -> Result<ChainSpans, OutOfMemory>
+) -> Result<(ChainSpans, Met), OutOfMemory>
     requires kind { IsOfKind (kind_by spans.now) (arc_value item) }
     requires zone { AreOfFrame zone_of name_mark (zone_of (arc_value item)) (records_by spans.now) }
-    ensures kind { IfOk result (λ made. kind_by made ≡ kind_by spans.now) }
-    ensures records { IfOk result (λ made. records_by made
+    ensures kind { IfOk result (λ made. kind_by made.0 ≡ kind_by spans.now) }
+    ensures records { IfOk result (λ made. records_by made.0
         ≡ records_with (kind_by spans.now) (arc_value item) (records_by spans.now)) }
+    ensures met { IfOk result (λ made.
+        FailInRuns (apart_in (kind_by spans.now) (arc_value item)) (records_by spans.now)
+        made.1.from made.1.to made.1.last) }
 {
     match spans {
-        ChainSpans::Nsec(arcs) => Ok(ChainSpans::Nsec(arcs.with(alloc, item)?)),
+        ChainSpans::Nsec(arcs) => {
+            let (arcs, met) = arcs.with_met(alloc, item)?;
+            Ok((ChainSpans::Nsec(arcs), met))
+        }
         ChainSpans::Nsec3 {
             salt,
             iterations,
             arcs,
-        } => Ok(ChainSpans::Nsec3 {
-            salt: salt.copy(alloc)?,
-            iterations: *iterations,
-            arcs: arcs.with(alloc, item)?,
-        }),
+        } => {
+            let (arcs, met) = arcs.with_met(alloc, item)?;
+            let spans = ChainSpans::Nsec3 {
+                salt: salt.copy(alloc)?,
+                iterations: *iterations,
+                arcs,
+            };
+            Ok((spans, met))
+        }
     }
 }
 

@@ -160,20 +160,6 @@ impl ZoneRecords {
         }
     }
 
-    /// The chain of a new record and the places of the records there that the new one displaces. None where the zone doesn't have
-    /// the chain.
-    pub fn met_by(&self, new: &Record) -> Option<(&ChainRecords, Met)>
-        requires { IsDenialOf self.now.apex new.now }
-        ensures { MatchOption result
-            ((old : Record) → Contains (records_in self.now) old → displaces new.now old ≡ false)
-            (λ met. DisplacesAt new.now self.now met.0.now met.1.from met.1.to met.1.last) }
-    {
-        match self.chain_for(new) {
-            Some(chain) => Some((chain, chain.met_by(new))),
-            None => None,
-        }
-    }
-
     /// Whether the record's chain isn't among the zone's.
     pub fn is_new(&self, item: &Record) -> bool
         ensures { result ≡ is_new_to (chains_in self.now) (chain_of item.now) }
@@ -213,23 +199,35 @@ impl ZoneRecords {
     }
 
     /// With the record in its chain, in the place of those that it displaces. A new chain comes first, and a third one goes with
-    /// its records.
-    pub fn with(&self, alloc: Global, item: Arc<Record>) -> Result<ZoneRecords, OutOfMemory>
+    /// its records. Beside it the chain that the record joined, as it was, and the places there of those that it displaces; none
+    /// where the zone didn't have the chain.
+    pub fn with(
+        &self,
+        alloc: Global,
+        item: Arc<Record>,
+    ) -> Result<(ZoneRecords, Option<(&ChainRecords, Met)>), OutOfMemory>
         requires { IsDenialOf self.now.apex (arc_value item) }
-        ensures apex { IfOk result (λ made. made.apex ≡ self.now.apex) }
+        ensures apex { IfOk result (λ made. made.0.apex ≡ self.now.apex) }
         ensures chains { IfOk result (λ made.
-            chains_in made ≡ chains_with (chains_in self.now) (chain_of (arc_value item))) }
-        ensures records { IfOk result (λ made. (each : Record) → Contains (records_in made) each
+            chains_in made.0 ≡ chains_with (chains_in self.now) (chain_of (arc_value item))) }
+        ensures records { IfOk result (λ made. (each : Record)
+            → Contains (records_in made.0) each
             ↔ ((each ≡ arc_value item) ⊎ (Contains (records_in self.now) each
             × (displaces (arc_value item) each ≡ false)
             × (is_of (third_for (chains_in self.now) (chain_of (arc_value item))) each
             ≡ false)))) }
+        ensures met { IfOk result (λ made. MatchOption made.1
+            ((old : Record) → Contains (records_in self.now) old
+            → displaces (arc_value item) old ≡ false)
+            (λ met. DisplacesAt (arc_value item) self.now met.0.now
+            met.1.from met.1.to met.1.last)) }
     {
-        let chains = chains_with(alloc, &self.chains, item)?;
-        Ok(ZoneRecords {
+        let (chains, met) = chains_with(alloc, &self.chains, item)?;
+        let made = ZoneRecords {
             apex: self.apex.copy(),
             chains,
-        })
+        };
+        Ok((made, met))
     }
 
     /// Without a record that it has. The record's chain stays, also where it was its last.

@@ -175,6 +175,32 @@ fn changes_as_a_sorted_vector_does(rt: HostRuntime) -> Result<(), Fail> {
     Ok(())
 }
 
+// What has the rank of a number, and the list with the number there.
+fn at_rank(alloc: Global, list: &Tens, n: u64) -> Result<(Option<u64>, Tens), OutOfMemory> {
+    let rank = list.rank(&n);
+    let old = list.ranked(rank).map(|entry| **entry);
+    let made = list.with_at(alloc, rank, Arc::new(alloc, n)?)?;
+    Ok((old, made))
+}
+
+#[test]
+fn a_rank_shows_its_entry_and_takes_another(rt: HostRuntime) -> Result<(), Fail> {
+    let alloc = rt.alloc();
+    let mut list: Tens = OrderedList::empty(alloc);
+    for n in [33, 5, 71] {
+        list = list.with(alloc, Arc::new(alloc, n)?)?;
+    }
+    // of a ten that is there
+    let (old, made) = at_rank(alloc, &list, 38)?;
+    assert_eq!(rt; old, Some(33));
+    assert!(rt; same(&made, &[5, 38, 71]));
+    // of a ten that isn't
+    let (old, made) = at_rank(alloc, &list, 40)?;
+    assert_eq!(rt; old, None);
+    assert!(rt; same(&made, &[5, 33, 40, 71]));
+    Ok(())
+}
+
 // How many entries stand before a ten.
 fn count_before(list: &Tens, ten: u64) -> usize
     ensures { result ≡ prefix_len (λ x. nat_lt (x / 10) ten) list.now }

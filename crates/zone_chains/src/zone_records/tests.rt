@@ -6,6 +6,9 @@ use denial_records::{Nsec3Rec, NsecRec, TypeSet};
 use dname::{NameFault, Octets, OctetsList};
 use std::test::Fail;
 
+// From one place up to another, from a third on, and the number of records.
+type Places = Option<(usize, usize, usize, usize)>;
+
 // A name of one label in front of `example`, or `example` itself.
 fn name(octet: u8) -> Result<Name, NameFault> {
     let (name, _) = Name::read(&[1, octet, 7, b'e', b'x', b'a', b'm', b'p', b'l', b'e', 0])?;
@@ -71,11 +74,23 @@ fn put(alloc: Global, zone: ZoneRecords, item: Arc<Record>) -> Result<(ZoneRecor
         }
         let next = match zone.displaced_by(&item) {
             Some(old) => zone.without(alloc, old)?,
-            None => return Ok((zone.with(alloc, item)?, gone)),
+            None => return Ok((zone.with(alloc, item)?.0, gone)),
         };
         zone = next;
     }
     Err(Fail::from("more than four"))
+}
+
+// Where in the record's chain those stand that it displaces, if the zone has the chain, and how many the chain has.
+fn places(alloc: Global, zone: &ZoneRecords, item: Arc<Record>) -> Result<Places, Fail> {
+    if !is_denial_of(zone.apex(), &item) {
+        return Err(Fail::from("a record of another zone"));
+    }
+    let (_, met) = zone.with(alloc, item)?;
+    Ok(match met {
+        Some((chain, met)) => Some((met.from, met.to, met.last, chain.len())),
+        None => None,
+    })
 }
 
 // The life of the NSEC record that has the name, and whether it is the name's own.
@@ -142,6 +157,44 @@ fn a_third_chain_puts_out_the_older(rt: HostRuntime) -> Result<(), Fail> {
     assert_eq!(rt; at_name(&zone, b'a')?, Some((3, true)));
     let [newer, older] = zone.chains();
     assert!(rt; is_nsec(newer) && !is_nsec(older));
+    Ok(())
+}
+
+#[test]
+fn with_tells_the_places_of_the_displaced(rt: HostRuntime) -> Result<(), Fail> {
+    let alloc = rt.alloc();
+    let zone = ZoneRecords::of(example()?);
+    assert_eq!(rt; places(alloc, &zone, nsec(alloc, b'b', b'f', 1)?)?, None);
+    let (zone, _) = put(alloc, zone, nsec(alloc, b'b', b'f', 1)?)?;
+    let (zone, _) = put(alloc, zone, nsec(alloc, b'h', b'm', 2)?)?;
+    let (zone, _) = put(alloc, zone, nsec(alloc, b'p', b't', 3)?)?;
+    // A plain arc that meets the first two, and the second alone.
+    assert_eq!(rt;
+        places(alloc, &zone, nsec(alloc, b'e', b'i', 4)?)?,
+        Some((0, 2, 3, 3))
+    );
+    assert_eq!(rt;
+        places(alloc, &zone, nsec(alloc, b'f', b'p', 4)?)?,
+        Some((1, 2, 3, 3))
+    );
+    // One over the end of the order meets the first and the last.
+    assert_eq!(rt;
+        places(alloc, &zone, nsec(alloc, b'r', b'c', 4)?)?,
+        Some((0, 1, 2, 3))
+    );
+    // A new chain displaces none, and each chain has its own places.
+    assert_eq!(rt; places(alloc, &zone, nsec3(alloc, 2, 10, 30, 5)?)?, None);
+    let (zone, _) = put(alloc, zone, nsec3(alloc, 2, 10, 30, 5)?)?;
+    let (zone, _) = put(alloc, zone, nsec3(alloc, 2, 30, 60, 6)?)?;
+    assert_eq!(rt;
+        places(alloc, &zone, nsec3(alloc, 2, 40, 50, 7)?)?,
+        Some((1, 2, 2, 2))
+    );
+    assert_eq!(rt;
+        places(alloc, &zone, nsec(alloc, b'k', b'q', 8)?)?,
+        Some((1, 3, 3, 3))
+    );
+    assert_eq!(rt; places(alloc, &zone, nsec3(alloc, 3, 10, 30, 9)?)?, None);
     Ok(())
 }
 
