@@ -1,4 +1,4 @@
-use Rattle.std.proofs.Common.{refl, sym, subst}
+use Rattle.std.proofs.Common.{refl, sym, subst, arith}
 use Rattle.std.specs.Arc.{arc_value}
 use Rattle.ordered_list.specs.Order.{IsInOrder}
 use Rattle.ordered_list.proofs.OrderLemmas.{with_in_order}
@@ -7,7 +7,8 @@ use Rattle.ordered_list.proofs.ordered_list.OrderedList.with_at.Goals as goal
 
 pub with_one-requires-clause-in_range : goal.with_one-requires-clause-in_range
 with_one-requires-clause-in_range g c =
-    rank_in_range g.R.Ranking.cmp g.met.R.Ranking.total (arc_value c.args.entry) c.self.inside.list c.self.invariant c.args.rank.from c.args.rank.to (rw c.self.view_is c.requires)
+    let within = rank_in_range g.R.Ranking.cmp g.met.R.Ranking.total (arc_value c.args.entry) c.self.inside.list c.self.invariant c.args.rank.from c.args.rank.to (rw c.self.view_is c.requires) in
+    omega (arith, within, c.requires.equal)
 
 pub invariant_of-result : goal.invariant_of-result
 invariant_of-result g c =
