@@ -1,12 +1,15 @@
 -- Where an entry stands, or would stand, in a list in order.
-use Rattle.std.proofs.Common.{◌≡◌, ℕ, suc, ◌+◌, ◌<◌, ◌≤◌, Bool, true, false, cond, List, [], ◌∷◌, ◌++◌, length, get_or, take, drop, All, filter, find, Some, None, refl, sym, ap, ◌∙◌, subst, arith}
+use Rattle.std.proofs.Common.{◌≡◌, ℕ, suc, ◌+◌, ◌<◌, ◌≤◌, Bool, true, false, true≢false, cond, List, [], ◌∷◌, ◌++◌, length, get_or, take, drop, All, filter, find, Some, None, refl, sym, ap, ◌∙◌, subst, inl, inr, arith}
 use Rattle.std.specs.List.{prefix_len, slice_get}
 use Rattle.std.specs.List.Sorted.{IsPartitionedBy}
 use Rattle.std.specs.Cmp.{IsTotalOrder}
-use Rattle.std.specs.Ordering.{is_lt, is_eq, is_gt}
+use Rattle.std.specs.Ordering.{is_lt, is_le, is_eq, is_gt}
 use Rattle.std.specs.declared.cmp.Ordering.{Ordering}
 use Rattle.std.specs.declared.cmp.Ordering.TheVariants.{Less, Equal, Greater}
 use Rattle.std.proofs.lemmas.List.{append_assoc, drop_all, drop_at, drop_more, length-append, nil_from_length, take_at}
+use Rattle.std.proofs.lemmas.List.Sums.{prefix_len_passes}
+use Rattle.std.proofs.lemmas.Bool.{cases_lt}
+use Rattle.std.proofs.lemmas.Grind.{common_steps}
 use Rattle.ordered_list.specs.Order.{IsInOrder, IsRank, with_entry, without_entry}
 use Rattle.ordered_list.proofs.FilterLemmas.{filter_all, filter_none, find_is_first}
 use Rattle.ordered_list.proofs.OrderLemmas.{rest_in_order, above_behind, partitioned, less_from}
@@ -58,6 +61,26 @@ module _ {X : Type 0} (cmp : X → X → Ordering) (total : IsTotalOrder cmp) (l
       by Greater is rest =
           let high : All (λ y. cmp y like ≡ Greater) xs = above_behind cmp total like x xs h (λ less. cc) in
           rw (is, none_below xs high) refl
+
+  abbrev upto : X → Bool
+  upto x = is_le (cmp x like)
+
+  none_upto : (xs : List X) → All (λ y. cmp y like ≡ Greater) xs → prefix_len upto xs ≡ 0
+  none_upto [] h = refl
+  none_upto (x ∷ xs) h = let first : cmp x like ≡ Greater = h 0 x (omega arith) in rw first refl
+
+  pub prefix_upto : (xs : List X) → IsInOrder cmp xs → prefix_len upto xs ≡ length (filter below xs) + length (filter level xs)
+  prefix_upto [] h = refl
+  prefix_upto (x ∷ xs) h = by (cmp x like) refl (prefix_upto xs (rest_in_order cmp x xs h))
+    where
+      by : (rank : Ordering) → cmp x like ≡ rank → prefix_len upto xs ≡ length (filter below xs) + length (filter level xs) → prefix_len upto (x ∷ xs) ≡ length (filter below (x ∷ xs)) + length (filter level (x ∷ xs))
+      by Less is rest = rw is (omega (arith, rest))
+      by Equal is rest =
+          let high : All (λ y. cmp y like ≡ Greater) xs = above_behind cmp total like x xs h (λ less. cc) in
+          rw (is, none_upto xs high, none_below xs high, none_level xs high) refl
+      by Greater is rest =
+          let high : All (λ y. cmp y like ≡ Greater) xs = above_behind cmp total like x xs h (λ less. cc) in
+          rw (is, none_below xs high, none_level xs high) refl
 
   -- the first entry, where it ranks level
   abbrev pub level_first : List X → List X
@@ -118,6 +141,38 @@ module _ {X : Type 0} (cmp : X → X → Ordering) (total : IsTotalOrder cmp) (l
       few [] = omega arith
       few (y ∷ ys) = elim (level y) as (λ b. length (cond b (y ∷ []) []) ≤ 1) [ true ↦ omega arith | false ↦ omega arith ]
 
+  not_both : (rank : Ordering) → is_lt rank ≡ true → is_eq rank ≡ true → ⊥
+  not_both Less less same = true≢false (sym same)
+  not_both Equal less same = true≢false (sym less)
+  not_both Greater less same = true≢false (sym same)
+
+  -- where the last entry that doesn't rank above is level, those below end before it
+  module _ (xs : List X) (h : IsInOrder cmp xs) (n : ℕ) (x : X) (last : n + 1 ≡ prefix_len upto xs) (within : n < length xs) (is : x ≡ get_or xs n x) where
+    pub below_level : level x ≡ true → n ≡ length (filter below xs)
+    below_level yes' = elim (cases_lt n (length (filter below xs))) [
+      | inl less ↦
+          absurd (not_both (cmp x like) (ap below is ∙ prefix_len_passes below xs n x (omega (arith, prefix_below xs h))) yes')
+      | inr past ↦ omega (arith, prefix_upto xs h, few_level xs h)
+    ]
+
+    pub one_level : level x ≡ true → n + 1 ≡ n + length (filter level xs)
+    one_level yes' = omega (arith, prefix_upto xs h, below_level yes')
+
+    pub below_other : level x ≡ false → n + 1 ≡ length (filter below xs)
+    below_other no' = elim (cases_lt n (length (filter below xs))) [
+      | inl less ↦ omega (arith, prefix_upto xs h)
+      | inr past ↦
+          let here : n ≡ length (filter below xs) = omega (arith, prefix_upto xs h, few_level xs h) in
+          let none : filter level xs ≡ [] = level_here xs h n x here within is ∙ ap (λ b. cond b (x ∷ []) []) no' in
+          absurd (omega (arith, prefix_upto xs h, ap length none))
+    ]
+
+    pub none_other : level x ≡ false → n + 1 ≡ n + 1 + length (filter level xs)
+    none_other no' = omega (arith, prefix_upto xs h, below_other no')
+
+  pub none_of_all : (xs : List X) → IsInOrder cmp xs → prefix_len upto xs ≡ 0 → (0 ≡ length (filter below xs)) × (0 ≡ 0 + length (filter level xs))
+  none_of_all xs h none = (omega (arith, prefix_upto xs h), omega (arith, prefix_upto xs h))
+
   pub taken : (xs : List X) → IsInOrder cmp xs → (n : ℕ) → n ≡ length (filter below xs) → take n xs ≡ filter below xs
   taken xs h n start = ap (take n) (parts xs h) ∙ take_at (filter below xs) (filter level xs ++ filter above xs) n (sym start)
 
@@ -166,6 +221,12 @@ module _ {X : Type 0} (cmp : X → X → Ordering) (total : IsTotalOrder cmp) (l
 
     pub rank_free : m ≤ n → None ≡ find level xs
     rank_free none = found_none xs (omega (arith, rank.equal))
+
+  pub upto_first : (xs : List X) → IsInOrder cmp xs → IsPartitionedBy upto xs
+  upto_first xs h = partitioned cmp upto xs h (λ x y less passes. upto_before x y less passes)
+    where
+      upto_before : (x y : X) → cmp x y ≡ Less → upto y ≡ true → upto x ≡ true
+      upto_before x y less passes = grind (arith, common_steps, total)
 
   -- those below are the first ones
   pub below_first : (xs : List X) → IsInOrder cmp xs → IsPartitionedBy below xs

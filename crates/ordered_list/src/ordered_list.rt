@@ -1,5 +1,5 @@
 //! The list itself.
-ghost use Rattle.std.specs.Prelude.{◌≡◌, ◌<◌, ◌≤◌, ◌↔◌, ◌+◌, [], Bool, length, drop, IfOk, IsTrue, slice_index_or, option_map};
+ghost use Rattle.std.specs.Prelude.{◌≡◌, ◌<◌, ◌≤◌, ◌↔◌, ◌+◌, [], Bool, length, drop, IfOk, IfSome, IsTrue, MatchOption, slice_index_or, option_map};
 ghost use Rattle.std.specs.List.{filter, prefix_len};
 ghost use Rattle.std.specs.List.Sorted.{IsPartitionedBy};
 ghost use Rattle.std.specs.Ordering.{is_lt, is_eq};
@@ -9,7 +9,7 @@ ghost use Rattle.page_list.specs.Marks.{PartsAtMark};
 ghost use Rattle.ordered_list.specs.Order.{IsInOrder, IsRank, entry_at, with_entry, without_entry};
 
 use crate::{Rank, Ranking};
-use page_list::{Iter, MarkedList, OutOfMemory};
+use page_list::{Iter, Last, MarkedList, OutOfMemory};
 use std::alloc::Global;
 use std::marker::Model;
 use std::sync::Arc;
@@ -30,6 +30,15 @@ impl<T: Drop, R: Ranking<T>> Model for OrderedList<T, R> {
     ghost view = { λ l. l.list };
 
     ghost invariant = { λ l. IsInOrder R.cmp l.list };
+}
+
+// Whether the entry ranks equal with `like`, by the marks of both; it is read only where these are equal.
+fn ranks_equal<T: Drop, R: Ranking<T>>(entry: &T, own: u64, like: &T, mark: u64) -> bool
+    requires own { own ≡ R.mark entry.now }
+    requires mark { mark ≡ R.mark like.now }
+    ensures { result ≡ is_eq (R.cmp entry.now like.now) }
+{
+    own == mark && R::compare(entry, like).is_eq()
 }
 
 impl<T: Drop, R: Ranking<T>> OrderedList<T, R> {
@@ -60,14 +69,6 @@ impl<T: Drop, R: Ranking<T>> OrderedList<T, R> {
         ensures { arc_value result.now ≡ slice_index_or self.now i (arc_value result.now) }
     {
         self.list.get(i)
-    }
-
-    /// The mark of the entry `i`, which is not read itself.
-    pub fn mark_at(&self, i: usize) -> u64
-        requires { i < length self.now }
-        ensures { (x : T) → result ≡ R.mark (slice_index_or self.now i x) }
-    {
-        self.list.mark_at(i)
     }
 
     /// The entries in order, one after another: the whole list at a cost linear in its length.
@@ -123,15 +124,6 @@ impl<T: Drop, R: Ranking<T>> OrderedList<T, R> {
         Ok(OrderedList { list })
     }
 
-    // How many entries rank below `like`.
-    fn count_below(&self, like: &T) -> usize
-        ensures count { result ≡ length (filter (λ x. is_lt (R.cmp x like.now)) self.now) }
-        ensures in_range { result ≤ length self.now }
-    {
-        self.list
-            .find_at(R::mark(like), |entry| R::compare(entry, like).is_lt())
-    }
-
     // How many entries rank below `like`, and how many don't rank above it.
     fn place(&self, like: &T) -> (usize, usize)
         ensures from { result.0 ≡ length (filter (λ x. is_lt (R.cmp x like.now)) self.now) }
@@ -141,11 +133,26 @@ impl<T: Drop, R: Ranking<T>> OrderedList<T, R> {
         ensures in_range { result.1 ≤ length self.now }
         ensures in_order { IsInOrder R.cmp self.now }
     {
-        let from = self.count_below(like);
-        if from < self.list.len() && R::compare(self.list.get(from), like).is_eq() {
-            (from, from + 1)
-        } else {
-            (from, from)
+        let mark = R::mark(like);
+        let _count = self.list.len();
+        let last = self
+            .list
+            .last_at(mark, |entry| R::compare(entry, like).is_le());
+        match last {
+            Some(
+                Last {
+                    place,
+                    mark: own,
+                    share,
+                },
+            ) => {
+                if ranks_equal::<T, R>(share, own, like, mark) {
+                    (place, place + 1)
+                } else {
+                    (place + 1, place + 1)
+                }
+            }
+            None => (0, 0),
         }
     }
 
@@ -172,6 +179,22 @@ impl<T: Drop, R: Ranking<T>> OrderedList<T, R> {
         ensures in_order { IsInOrder R.cmp self.now }
     {
         self.list.find_at(mark, before)
+    }
+
+    /// The last of the entries that `find_at` counts, found with them. None where there are none.
+    pub fn last_at<F: Fn(&T) -> bool>(&self, mark: u64, before: F) -> Option<Last<'_, T>>
+        requires { F.IsAlwaysCallable before }
+        ensures in_range { IfSome result (λ last. last.place < length self.now) }
+        ensures value { IfSome result (λ last. arc_value last.share.now
+            ≡ slice_index_or self.now last.place (arc_value last.share.now)) }
+        ensures mark { IfSome result (λ last. last.mark ≡ R.mark (arc_value last.share.now)) }
+        ensures exact { (p : T → Bool)
+            → ((x : T) (r : Bool) → FnReturnsAt F.Fn before x r → r ≡ p x)
+            → PartsAtMark R.mark mark p self.now → MatchOption result (prefix_len p self.now ≡ 0)
+            (λ last. last.place + 1 ≡ prefix_len p self.now) }
+        ensures in_order { IsInOrder R.cmp self.now }
+    {
+        self.list.last_at(mark, before)
     }
 
     /// The list with the entry in its place, and so in the place of the one that ranks equal, if there is one.

@@ -8,7 +8,7 @@ use Rattle.std.specs.List.{flat_map, prefix_len}
 use Rattle.std.specs.List.Sorted.{IsPartitionedBy}
 use Rattle.page_list.proofs.Rows.{length_more, entry_at, length_along, length_all}
 use Rattle.page_list.specs.Marks.{Marked, mark_of}
-use Rattle.page_list.specs.Search.{IsBehindLesser, IsTestAt, IsTestOf, HasNarrowed, BeginsLesser, BeginsGreater}
+use Rattle.page_list.specs.Search.{IsBehindLesser, IsLastOf, IsTestAt, IsTestOf, HasNarrowed, BeginsLesser, BeginsGreater}
 use Rattle.std.proofs.lemmas.List.Sums.{prefix_len_is, prefix_len_passes, prefix_len_stops}
 use Rattle.std.proofs.lemmas.Bool.{cases_lt}
 use Rattle.std.proofs.lemmas.List.Elements.{Contains-get_or}
@@ -133,3 +133,12 @@ found_within f xs IsTest p n r b h is start was short found q test parted =
       | inl inside ↦ ap q (same r d inside) ∙ (ap (λ m. q (get_or (f b) m d)) r_is ∙ prefix_len_stops q (f b) d (omega arith))
       | inr past ↦ was.above q test parted (n + r) d (omega arith) lt
     ])
+
+-- the last of the first entries of a block, among all
+pub last_within : {X A : Type 0} (f : X → List A) (xs : List X) (p n count : ℕ) (b : X) (x : A) → p < length xs → b ≡ get_or xs p b → n ≡ length (flat_map f (take p xs)) → count ≤ length (f b) → IsLastOf (f b) count x → IsLastOf (flat_map f xs) (n + count) x
+last_within f xs p n count b x h is start le was =
+    let back : n + (count - 1) ≡ n + count - 1 = omega (arith, was.some) in
+    record {
+      some = omega (arith, was.some);
+      here = was.here ∙ (sym (entry_at f xs p n (count - 1) b x h is start (omega (arith, was.some))) ∙ ap (λ m. get_or (flat_map f xs) m x) back);
+    }

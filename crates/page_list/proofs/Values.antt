@@ -32,7 +32,7 @@ module _ {X : Type 0} (mark : X → ℕ) where
   own_marks [] = All-nil (λ entry. mark_of entry ≡ mark (value_of entry))
   own_marks (x ∷ xs) = All-cons (λ entry. mark_of entry ≡ mark (value_of entry)) (marked_by mark x) (map (marked_by mark) xs) refl (own_marks xs)
 
-  own_mark : (entries : List (Marked X)) → IsMarked entries → (entry : Marked X) → Contains entries entry → mark_of entry ≡ mark (value_of entry)
+  pub own_mark : (entries : List (Marked X)) → IsMarked entries → (entry : Marked X) → Contains entries entry → mark_of entry ≡ mark (value_of entry)
   own_mark entries marked entry has =
       All-contains (λ each. mark_of each ≡ mark (value_of each)) (map (marked_by mark) (map value_of entries)) entry (own_marks (map value_of entries)) (subst (λ l. Contains l entry) marked has)
 

@@ -23,6 +23,11 @@ pub record HasNarrowed {X : Type 0} (xs : List X) (IsTest : (X → Bool) → Typ
   pub below : (p : X → Bool) → IsTest p → IsPartitionedBy p xs → (k : ℕ) (d : X) → k < low → p (get_or xs k d) ≡ true
   pub above : (p : X → Bool) → IsTest p → IsPartitionedBy p xs → (k : ℕ) (d : X) → high ≤ k → k < length xs → p (get_or xs k d) ≡ false
 
+-- of so many entries at the front it is the last one
+pub record IsLastOf {X : Type 0} (xs : List X) (count : ℕ) (x : X) : Type 0 where
+  pub some : 0 < count
+  pub here : x ≡ get_or xs (count - 1) x
+
 -- the entry before the place has a lesser mark, if there is one
 pub record IsBehindLesser {X : Type 0} (mark : ℕ) (entries : List (Marked X)) (place : ℕ) : Type 0 where
   pub in_range : place ≤ length entries

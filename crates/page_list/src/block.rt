@@ -4,9 +4,9 @@ ghost use Rattle.std.specs.List.{flat_map, prefix_len};
 ghost use Rattle.std.specs.List.Sorted.{IsPartitionedBy};
 ghost use Rattle.std.specs.Arc.{arc_value};
 ghost use Rattle.page_list.specs.Marks.{Marked, mark_of, PartsAtMark};
-ghost use Rattle.page_list.specs.Search.{IsTestOf};
+ghost use Rattle.page_list.specs.Search.{IsLastOf, IsTestOf};
 
-use crate::{Entry, OutOfMemory};
+use crate::{Entry, Found, OutOfMemory};
 use std::alloc::Global;
 use std::sync::Arc;
 
@@ -50,12 +50,13 @@ pub(crate) trait Block<T: Drop>: Drop {
             ≡ prefix_len p (entries self.now) };
 
     /// The same, asked only of entries with the mark: those of a lesser mark come before, those of a greater one don't.
-    fn find_at<F: Fn(&T) -> bool>(&self, mark: u64, before: &F) -> usize
+    fn find_at<F: Fn(&T) -> bool>(&self, mark: u64, before: &F) -> Found<'_, T>
         requires { F.IsAlwaysCallable before.now }
-        ensures in_range { result ≤ length (entries self.now) }
+        ensures in_range { result.count ≤ length (entries self.now) }
         ensures exact { (p : Marked T → Bool) → IsTestOf F.Fn before.now p
             → PartsAtMark mark_of mark p (entries self.now)
-            → result ≡ prefix_len p (entries self.now) };
+            → result.count ≡ prefix_len p (entries self.now) }
+        ensures last { IfSome result.last (λ last. IsLastOf (entries self.now) result.count last.now) };
 
     /// The entries with `items` in place of those in `from..to`, in one block of as many parts, or a page that has at
     /// least a quarter of what it may have, or no fewer entries than before, and isn't too long. None where that can't be, and for

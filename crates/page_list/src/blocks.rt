@@ -9,7 +9,7 @@ use crate::short::{MOST, Short};
 #[cfg(test)]
 use crate::slot::Slot;
 use crate::splice::spliced_row;
-use crate::{Block, Entry, OutOfMemory};
+use crate::{Block, Entry, Found, OutOfMemory};
 use std::alloc::Global;
 use std::marker::Model;
 use std::sync::Arc;
@@ -97,7 +97,7 @@ impl<T: Drop, B: Block<T>> Block<T> for Blocks<T, B> {
         self.row.find(before)
     }
 
-    fn find_at<F: Fn(&T) -> bool>(&self, mark: u64, before: &F) -> usize {
+    fn find_at<F: Fn(&T) -> bool>(&self, mark: u64, before: &F) -> Found<'_, T> {
         self.row.find_at(mark, before)
     }
 

@@ -1,16 +1,16 @@
 //! The entries of a list, in shared pages.
-ghost use Rattle.std.specs.Prelude.{◌≡◌, ◌<◌, ◌≤◌, ◌++◌, [], Bool, length, take, drop, IfOk, slice_index_or};
+ghost use Rattle.std.specs.Prelude.{◌≡◌, ◌<◌, ◌≤◌, ◌+◌, ◌++◌, [], Bool, length, take, drop, IfOk, IfSome, MatchOption, slice_index_or};
 ghost use Rattle.std.specs.List.{flat_map, prefix_len};
 ghost use Rattle.std.specs.List.Sorted.{IsPartitionedBy};
 ghost use Rattle.page_list.specs.Marks.{Marked, mark_of, PartsAtMark};
-ghost use Rattle.page_list.specs.Search.{IsTestOf};
+ghost use Rattle.page_list.specs.Search.{IsLastOf, IsTestOf};
 
 use crate::blocks::Blocks;
 use crate::entries::copies_of;
 use crate::page::Page;
 use crate::row::Row;
 use crate::splice::spliced_row;
-use crate::{Block, Entry, OutOfMemory};
+use crate::{Block, Entry, Found, OutOfMemory};
 use std::alloc::Global;
 use std::marker::Model;
 
@@ -75,14 +75,39 @@ impl<T: Drop> EntryList<T> {
         self.bookcases.find(before)
     }
 
-    /// The same, asked only of entries with the mark.
-    pub(crate) fn find_at<F: Fn(&T) -> bool>(&self, mark: u64, before: &F) -> usize
+    /// The same, asked only of entries with the mark, and the last of those entries where it was met.
+    pub(crate) fn find_at<F: Fn(&T) -> bool>(&self, mark: u64, before: &F) -> Found<'_, T>
         requires { F.IsAlwaysCallable before.now }
-        ensures in_range { result ≤ length self.now }
+        ensures in_range { result.count ≤ length self.now }
         ensures exact { (p : Marked T → Bool) → IsTestOf F.Fn before.now p
-            → PartsAtMark mark_of mark p self.now → result ≡ prefix_len p self.now }
+            → PartsAtMark mark_of mark p self.now → result.count ≡ prefix_len p self.now }
+        ensures last { IfSome result.last (λ last. IsLastOf self.now result.count last.now) }
     {
         self.bookcases.find_at(mark, before)
+    }
+
+    /// The last of the entries that `find_at` counts, and its place.
+    pub(crate) fn last_at<F: Fn(&T) -> bool>(
+        &self,
+        mark: u64,
+        before: &F,
+    ) -> Option<(usize, &Entry<T>)>
+        requires { F.IsAlwaysCallable before.now }
+        ensures in_range { IfSome result (λ last. last.0 < length self.now) }
+        ensures entry { IfSome result
+            (λ last. last.1.now ≡ slice_index_or self.now last.0 last.1.now) }
+        ensures exact { (p : Marked T → Bool) → IsTestOf F.Fn before.now p
+            → PartsAtMark mark_of mark p self.now → MatchOption result
+            (prefix_len p self.now ≡ 0) (λ last. last.0 + 1 ≡ prefix_len p self.now) }
+    {
+        let Found { count, last } = self.find_at(mark, before);
+        if count == 0 {
+            return None;
+        }
+        match last {
+            Some(entry) => Some((count - 1, entry)),
+            None => Some((count - 1, self.get(count - 1))),
+        }
     }
 
     /// The list with `items` in place of the entries `from..to`.

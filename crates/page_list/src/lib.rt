@@ -12,6 +12,7 @@ mod cut;
 mod entries;
 mod entry;
 mod entry_list;
+mod found;
 mod in_place;
 mod iter;
 mod marked_list;
@@ -26,6 +27,8 @@ mod splice;
 
 pub(crate) use block::Block;
 pub(crate) use entry::Entry;
+pub(crate) use found::Found;
+pub use found::Last;
 pub use iter::Iter;
 pub use marked_list::{MarkedList, PageList};
 pub use marking::{Marking, NoMarks};

@@ -1,5 +1,5 @@
 //! The list itself.
-ghost use Rattle.std.specs.Prelude.{◌≡◌, ◌<◌, ◌≤◌, ◌↔◌, ◌++◌, ◌∷◌, [], Bool, length, take, drop, map, IfOk, IsTrue, slice_index_or};
+ghost use Rattle.std.specs.Prelude.{◌≡◌, ◌<◌, ◌≤◌, ◌↔◌, ◌+◌, ◌++◌, ◌∷◌, [], Bool, length, take, drop, map, IfOk, IfSome, IsTrue, MatchOption, slice_index_or};
 ghost use Rattle.std.specs.List.{prefix_len};
 ghost use Rattle.std.specs.List.Sorted.{IsPartitionedBy};
 ghost use Rattle.std.specs.Fn.{FnReturnsAt};
@@ -7,7 +7,7 @@ ghost use Rattle.std.specs.Arc.{arc_value};
 ghost use Rattle.page_list.specs.Marks.{marked_by, PartsAtMark};
 
 use crate::entry_list::EntryList;
-use crate::{Entry, Iter, Marking, NoMarks, OutOfMemory};
+use crate::{Entry, Iter, Last, Marking, NoMarks, OutOfMemory};
 use std::alloc::Global;
 use std::marker::{Model, PhantomData};
 use std::slice::from_ref;
@@ -65,14 +65,6 @@ impl<T: Drop, M: Marking<T>> MarkedList<T, M> {
         self.entries.get(i).share()
     }
 
-    /// The mark of the entry `i`, which is not read itself.
-    pub fn mark_at(&self, i: usize) -> u64
-        requires { i < length self.now }
-        ensures { (x : T) → result ≡ M.mark (slice_index_or self.now i x) }
-    {
-        self.entries.get(i).mark()
-    }
-
     /// The entries in order, one after another: the whole list at a cost linear in its length.
     pub fn iter(&self) -> Iter<'_, T>
         ensures { result ≡ self.now }
@@ -100,7 +92,29 @@ impl<T: Drop, M: Marking<T>> MarkedList<T, M> {
             → ((x : T) (r : Bool) → FnReturnsAt F.Fn before x r → r ≡ p x)
             → PartsAtMark M.mark mark p self.now → result ≡ prefix_len p self.now }
     {
-        self.entries.find_at(mark, &before)
+        self.entries.find_at(mark, &before).count
+    }
+
+    /// The last of the entries that `find_at` counts, found with them. None where there are none.
+    pub fn last_at<F: Fn(&T) -> bool>(&self, mark: u64, before: F) -> Option<Last<'_, T>>
+        requires { F.IsAlwaysCallable before }
+        ensures in_range { IfSome result (λ last. last.place < length self.now) }
+        ensures value { IfSome result (λ last. arc_value last.share.now
+            ≡ slice_index_or self.now last.place (arc_value last.share.now)) }
+        ensures mark { IfSome result (λ last. last.mark ≡ M.mark (arc_value last.share.now)) }
+        ensures exact { (p : T → Bool)
+            → ((x : T) (r : Bool) → FnReturnsAt F.Fn before x r → r ≡ p x)
+            → PartsAtMark M.mark mark p self.now → MatchOption result (prefix_len p self.now ≡ 0)
+            (λ last. last.place + 1 ≡ prefix_len p self.now) }
+    {
+        match self.entries.last_at(mark, &before) {
+            Some((place, entry)) => Some(Last {
+                place,
+                mark: entry.mark(),
+                share: entry.share(),
+            }),
+            None => None,
+        }
     }
 
     /// The list with `items` in place of the entries `from..to`. Want of memory also where an entry can have no

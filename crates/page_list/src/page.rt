@@ -8,9 +8,9 @@ ghost use Rattle.page_list.specs.Search.{IsBehindLesser, IsTestAt};
 
 use crate::cut::cut;
 use crate::entries::entries_round;
-use crate::parts::{items_before, items_from};
+use crate::parts::{items_before, items_from, last_of};
 use crate::short::{MOST, Short};
-use crate::{Block, Entry, OutOfMemory};
+use crate::{Block, Entry, Found, OutOfMemory};
 use std::alloc::Global;
 use std::marker::Model;
 use std::sync::Arc;
@@ -169,7 +169,7 @@ impl<T: Drop> Block<T> for Page<T> {
         low
     }
 
-    fn find_at<F: Fn(&T) -> bool>(&self, mark: u64, before: &F) -> usize {
+    fn find_at<F: Fn(&T) -> bool>(&self, mark: u64, before: &F) -> Found<'_, T> {
         let mut low = self.start_of_run(mark);
         let mut high = self.end_of_run(low, mark);
         while low < high {
@@ -180,7 +180,10 @@ impl<T: Drop> Block<T> for Page<T> {
                 high = middle;
             }
         }
-        low
+        Found {
+            count: low,
+            last: last_of(self.entries.as_slice(), low),
+        }
     }
 
     fn replaced(

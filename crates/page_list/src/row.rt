@@ -5,12 +5,12 @@ ghost use Rattle.std.specs.List.Sorted.{IsPartitionedBy};
 ghost use Rattle.std.specs.Arc.{arc_value};
 ghost use Rattle.page_list.specs.Marks.{Marked, mark_of, PartsAtMark};
 ghost use Rattle.page_list.specs.Rows.{IsPlace, IsSeam, IsShelf, IsShelved, Shelved, block_of, shifted};
-ghost use Rattle.page_list.specs.Search.{IsTestOf, IsTestAt, HasNarrowed, BeginsLesser, BeginsGreater};
+ghost use Rattle.page_list.specs.Search.{IsLastOf, IsTestOf, IsTestAt, HasNarrowed, BeginsLesser, BeginsGreater};
 
 use crate::in_place::replace_at;
 use crate::parts::{items_before, items_from};
 use crate::slot::Slot;
-use crate::{Block, Entry, OutOfMemory};
+use crate::{Block, Entry, Found, OutOfMemory};
 use std::alloc::{AllocError, Global};
 use std::marker::{Model, PhantomData};
 use std::sync::Arc;
@@ -350,19 +350,29 @@ impl<T: Drop, B: Block<T>> Row<T, B> {
         self.slots[0].mark()
     }
 
-    /// How many entries `before` holds of, which are the first ones; it is asked only of entries with the mark.
-    pub(crate) fn find_at<F: Fn(&T) -> bool>(&self, mark: u64, before: &F) -> usize
+    /// How many entries `before` holds of, which are the first ones, and the last of them where the block that was searched has it;
+    /// it is asked only of entries with the mark.
+    pub(crate) fn find_at<F: Fn(&T) -> bool>(&self, mark: u64, before: &F) -> Found<'_, T>
         requires { F.IsAlwaysCallable before.now }
-        ensures in_range { result ≤ length (flat_map B.entries self.now) }
+        ensures in_range { result.count ≤ length (flat_map B.entries self.now) }
         ensures exact { (p : Marked T → Bool) → IsTestOf F.Fn before.now p
             → PartsAtMark mark_of mark p (flat_map B.entries self.now)
-            → result ≡ prefix_len p (flat_map B.entries self.now) }
+            → result.count ≡ prefix_len p (flat_map B.entries self.now) }
+        ensures last { IfSome result.last
+            (λ last. IsLastOf (flat_map B.entries self.now) result.count last.now) }
     {
         if self.total() == 0 {
-            return 0;
+            return Found {
+                count: 0,
+                last: None,
+            };
         }
         let p = self.block_to_search_at(mark, before);
-        self.start(p) + self.block(p).find_at(mark, before)
+        let found = self.block(p).find_at(mark, before);
+        Found {
+            count: self.start(p) + found.count,
+            last: found.last,
+        }
     }
 
     // The last block whose first entry comes before, or the first block.

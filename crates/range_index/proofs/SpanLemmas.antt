@@ -1,4 +1,4 @@
-use Rattle.std.proofs.Common.{◌≡◌, ℕ, ◌+◌, ◌-◌, ◌<◌, ◌≤◌, Bool, true, false, not, List, [], ◌∷◌, length, get_or, take, drop, arith, refl, sym, ap, ◌∙◌, true≢false}
+use Rattle.std.proofs.Common.{◌≡◌, ℕ, ◌+◌, ◌-◌, ◌<◌, ◌≤◌, Bool, true, false, not, List, [], ◌∷◌, length, get_or, take, drop, arith, refl, sym, ap, ◌∙◌, true≢false, subst}
 use mathlib.Core.Logic.{inl, inr}
 use Rattle.std.specs.Ordering.{is_lt, is_le, is_eq}
 use Rattle.std.specs.declared.cmp.Ordering.{Ordering}
@@ -126,6 +126,12 @@ module _ {S K : Type 0} (cmp : K → K → Ordering) (o : IsTotalOrder cmp) (sta
       }
 
   -- or the last of all
+  -- the same by the last of them
+  pub candidate_upto : (key : K) (c : ℕ) → c + 1 ≡ prefix_len (λ x. is_le (cmp (start x) key)) xs → IsCandidate (span_has cmp start end key) (λ x. is_le (cmp (start x) key)) xs c true
+  candidate_upto key c e =
+      let back : c + 1 - 1 ≡ c = omega arith in
+      subst (λ place. IsCandidate (span_has cmp start end key) (λ x. is_le (cmp (start x) key)) xs place true) back (candidate_before key (c + 1) e (omega arith))
+
   pub candidate_last : (key : K) (n l : ℕ) → n ≡ prefix_len (λ x. is_le (cmp (start x) key)) xs → n ≡ 0 → l ≡ length xs → 0 < length xs → IsCandidate (span_has cmp start end key) (λ x. is_le (cmp (start x) key)) xs (l - 1) false
   candidate_last key n l e none hl some =
       record {

@@ -9,7 +9,7 @@ ghost use Rattle.range_index.specs.Place.{place_of};
 use crate::cut::{list_with, met_in};
 use crate::kept::kept_shares;
 use crate::ring_span::ByStart;
-use crate::search::{candidate, place_in, span_has, starting_at};
+use crate::search::{OneSpan, candidate, place_in, span_has, starting_at};
 use crate::{Met, OutOfMemory, Place, RingSpan};
 use page_list::{Iter, MarkedList};
 use std::alloc::Global;
@@ -81,8 +81,8 @@ impl<T: Drop, R: RingSpan<T>> Arcs<T, R> {
         if self.list.len() == 0 {
             return None;
         }
-        let (place, started) = candidate(&self.list, frame, key);
-        let span: &T = self.list.get(place);
+        let OneSpan { span, started, .. } = candidate(&self.list, frame, key);
+        let span: &T = span;
         if span_has::<T, R>(span, key, started) {
             Some((span, place_in::<T, R>(span, key, started)))
         } else {

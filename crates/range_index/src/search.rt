@@ -1,5 +1,6 @@
 //! Places in lists of spans that don't meet, found by search.
-ghost use Rattle.std.specs.Prelude.{◌≡◌, ◌<◌, ◌≤◌, length};
+ghost use Rattle.std.specs.Prelude.{◌≡◌, ◌<◌, ◌≤◌, ◌+◌, length, IfSome, MatchOption, slice_index_or};
+ghost use Rattle.std.specs.Arc.{arc_value};
 ghost use Rattle.std.specs.List.{prefix_len};
 ghost use Rattle.std.specs.List.Sorted.{IsPartitionedBy};
 ghost use Rattle.std.specs.Ordering.{is_le, is_lt};
@@ -10,8 +11,9 @@ ghost use Rattle.range_index.specs.Place.{place_of};
 
 use crate::ring_span::ByStart;
 use crate::{Place, RingSpan};
-use page_list::MarkedList;
+use page_list::{Last, MarkedList};
 use std::cmp::Ordering;
+use std::sync::Arc;
 
 // How many spans start at the key or before it.
 pub(crate) fn starts_upto<T: Drop, R: RingSpan<T>>(
@@ -51,23 +53,65 @@ pub(crate) fn starts_before<T: Drop, R: RingSpan<T>>(
     )
 }
 
-// The place of the one span that can have the key, and whether it starts at the key or before it.
-pub(crate) fn candidate<T: Drop, R: RingSpan<T>>(
-    list: &MarkedList<T, ByStart<R>>,
+// The last span that starts at the key or before it.
+fn last_upto<'a, T: Drop, R: RingSpan<T>>(
+    list: &'a MarkedList<T, ByStart<R>>,
     frame: &R::Key,
     key: &R::Key,
-) -> (usize, bool)
+) -> Option<Last<'a, T>>
+    requires frame { AreOfFrame R.frame R.mark frame.now list.now }
+    requires parted { IsPartitionedBy
+        (λ span. is_le (R.Key.Ord.cmp (R.start span) key.now)) list.now }
+    ensures place { MatchOption result
+        (prefix_len (λ span. is_le (R.Key.Ord.cmp (R.start span) key.now)) list.now ≡ 0)
+        (λ last. last.place + 1
+        ≡ prefix_len (λ span. is_le (R.Key.Ord.cmp (R.start span) key.now)) list.now) }
+    ensures in_range { IfSome result (λ last. last.place < length list.now) }
+    ensures span { IfSome result (λ last. arc_value last.share.now
+        ≡ slice_index_or list.now last.place (arc_value last.share.now)) }
+{
+    list.last_at(
+        R::mark(frame, key),
+        |span| R::compare_start(span, key).is_le(),
+    )
+}
+
+/// The one span of a list that can have a key, its place, and whether it starts at the key or before it.
+#[derive(Drop)]
+pub(crate) struct OneSpan<'a, T> {
+    pub(crate) place: usize,
+    pub(crate) span: &'a Arc<T>,
+    pub(crate) started: bool,
+}
+
+pub(crate) fn candidate<'a, T: Drop, R: RingSpan<T>>(
+    list: &'a MarkedList<T, ByStart<R>>,
+    frame: &R::Key,
+    key: &R::Key,
+) -> OneSpan<'a, T>
     requires frame { AreOfFrame R.frame R.mark frame.now list.now }
     requires some { 0 < length list.now }
     requires arcs { IsArcs R.Key.Ord.cmp R.start R.end list.now }
-    ensures { IsCandidate (span_has R.Key.Ord.cmp R.start R.end key.now)
-        (λ span. is_le (R.Key.Ord.cmp (R.start span) key.now)) list.now result.0 result.1 }
+    ensures only { IsCandidate (span_has R.Key.Ord.cmp R.start R.end key.now)
+        (λ span. is_le (R.Key.Ord.cmp (R.start span) key.now)) list.now
+        result.place result.started }
+    ensures span { arc_value result.span.now
+        ≡ slice_index_or list.now result.place (arc_value result.span.now) }
 {
-    let upto = starts_upto(list, frame, key);
-    if upto > 0 {
-        (upto - 1, true)
-    } else {
-        (list.len() - 1, false)
+    match last_upto(list, frame, key) {
+        Some(last) => OneSpan {
+            place: last.place,
+            span: last.share,
+            started: true,
+        },
+        None => {
+            let place = list.len() - 1;
+            OneSpan {
+                place,
+                span: list.get(place),
+                started: false,
+            }
+        }
     }
 }
 

@@ -1,8 +1,8 @@
 -- What is looked up in the parts of a store is what is looked up in what they hold.
-use Rattle.std.proofs.Common.{◌≡◌, ◌↔◌, ℕ, ◌<◌, ◌≤◌, ◌⊎◌, inl, inr, ⊎_elim, Bool, true, false, true≢false, cond, List, [], ◌∷◌, ◌++◌, length, get_or, map, filter, find, Contains, Option, Some, None, refl, sym, ◌∙◌, ap, subst, arith}
+use Rattle.std.proofs.Common.{◌≡◌, ◌↔◌, ℕ, ◌+◌, ◌<◌, ◌≤◌, ◌⊎◌, inl, inr, ⊎_elim, Bool, true, false, true≢false, cond, List, [], ◌∷◌, ◌++◌, length, get_or, map, filter, find, Contains, Option, Some, None, refl, sym, ◌∙◌, ap, subst, arith}
 use Rattle.std.specs.List.{list_any, prefix_len}
 use Rattle.std.specs.Option.{option_or}
-use Rattle.std.specs.Ordering.{is_lt, nat_cmp}
+use Rattle.std.specs.Ordering.{is_le, nat_cmp}
 use Rattle.std.specs.Cmp.{IsTotalOrder}
 use Rattle.std.specs.declared.cmp.Ordering.{Ordering}
 use Rattle.std.specs.declared.cmp.Ordering.TheVariants.{Less, Equal}
@@ -32,6 +32,7 @@ use Rattle.held_laws.proofs.SameLemmas.{same_set, same_nsec, same_nsec3, same_zo
 use Rattle.ordered_list.specs.Order.{IsInOrder}
 use Rattle.ordered_list.proofs.FilterLemmas.{filter_all, filter_none}
 use Rattle.ordered_list.proofs.OrderLemmas.{below_rest, rest_in_order}
+use Rattle.ordered_list.proofs.PlaceLemmas.{upto_first}
 use Rattle.zone_chains.specs.Zone.{OneZone, chains_in, records_in, IsOneZone, IsDenialOf, IsChosen}
 use Rattle.record_store.specs.Holding.{held_in, chains_of_zones, IsTied}
 use Rattle.record_store.specs.LookUp.{is_apex, first_apex, IsFirstZone, IsZoneIn, set_like}
@@ -213,33 +214,36 @@ set_in_sets goings sets zones tied zone owner rtype result chosen =
 
 -- ---- the place of what ties, in a list in order
 
-module _ {X : Type 0} (cmp : X → X → Ordering) (total : IsTotalOrder cmp) (like : X) (xs : List X) (order : IsInOrder cmp xs) (n : ℕ) (start : n ≡ prefix_len (λ x. is_lt (cmp x like)) xs) where
-  abbrev below : X → Bool
-  below x = is_lt (cmp x like)
+module _ {X : Type 0} (cmp : X → X → Ordering) (total : IsTotalOrder cmp) (like : X) (xs : List X) (order : IsInOrder cmp xs) where
+  abbrev upto : X → Bool
+  upto x = is_le (cmp x like)
 
-  less_than_tied : (x y : X) → cmp x y ≡ Less → cmp y like ≡ Equal → is_lt (cmp x like) ≡ true
-  less_than_tied x y less tie = grind (arith, common_steps, total)
-
-  not_before : (x : X) (has : Contains xs x) → cmp x like ≡ Equal → n ≤ has.0
-  not_before x has tie = by (cases_lt has.0 n)
+  -- nothing that ties stands behind those that don't rank above
+  tied_within : (x : X) (has : Contains xs x) → cmp x like ≡ Equal → has.0 < prefix_len upto xs
+  tied_within x has tie = by (cases_lt has.0 (prefix_len upto xs))
     where
-      by : (has.0 < n) ⊎ (n ≤ has.0) → n ≤ has.0
-      by (inl before) = absurd (true≢false (sym (prefix_len_passes below xs has.0 x (omega (arith, start, before))) ∙ (ap below has.2 ∙ ap is_lt tie)))
-      by (inr from) = from
+      by : (has.0 < prefix_len upto xs) ⊎ (prefix_len upto xs ≤ has.0) → has.0 < prefix_len upto xs
+      by (inl within) = within
+      by (inr behind) =
+          let passes : upto (get_or xs has.0 x) ≡ true = ap upto has.2 ∙ ap is_le tie in
+          let first : upto (get_or xs (prefix_len upto xs) x) ≡ true = upto_first cmp total like xs order (prefix_len upto xs) has.0 x behind has.1 passes in
+          absurd (true≢false (sym first ∙ prefix_len_stops upto xs x (omega (arith, has.1))))
 
-  tied_is_here : (x : X) → Contains xs x → cmp x like ≡ Equal → (y : X) → n < length xs → y ≡ get_or xs n y → y ≡ x
-  tied_is_here x has tie y within is = by (cases_lt n has.0)
+  above_tied : (x y : X) → cmp x y ≡ Less → cmp x like ≡ Equal → is_le (cmp y like) ≡ false
+  above_tied x y less tie = grind (arith, common_steps, total)
+
+  tied_is_last : (n : ℕ) → n + 1 ≡ prefix_len upto xs → (x : X) → Contains xs x → cmp x like ≡ Equal → (y : X) → n < length xs → y ≡ get_or xs n y → y ≡ x
+  tied_is_last n last x has tie y within is = by (cases_lt has.0 n)
     where
       y_here : y ≡ get_or xs n x
       y_here = get_or_read xs n y within is x
 
-      by : (n < has.0) ⊎ (has.0 ≤ n) → y ≡ x
-      by (inl behind) =
-          let less : cmp (get_or xs n x) x ≡ Less = subst (λ z. cmp (get_or xs n x) z ≡ Less) has.2 (order n has.0 x behind has.1) in
-          let stops : below (get_or xs n x) ≡ false = ap (λ k. below (get_or xs k x)) start ∙ prefix_len_stops below xs x (omega (arith, start, within)) in
-          absurd (true≢false (sym (less_than_tied (get_or xs n x) x less tie) ∙ stops))
-      by (inr upto) =
-          let same : n ≡ has.0 = omega (arith, upto, not_before x has tie) in
+      by : (has.0 < n) ⊎ (n ≤ has.0) → y ≡ x
+      by (inl before) =
+          let less : cmp x (get_or xs n x) ≡ Less = subst (λ z. cmp z (get_or xs n x) ≡ Less) has.2 (order has.0 n x before within) in
+          absurd (true≢false (sym (prefix_len_passes upto xs n x (omega (arith, last))) ∙ above_tied x (get_or xs n x) less tie))
+      by (inr from) =
+          let same : n ≡ has.0 = omega (arith, from, last, tied_within x has tie) in
           y_here ∙ (ap (λ k. get_or xs k x) same ∙ has.2)
 
 -- a set that is chosen ties with such a set
@@ -261,26 +265,25 @@ other_number zone owner rtype item apart = by (as_set_at zone owner rtype item) 
     by None none = sym none
     by (Some set) some = absurd (apart (key_mark item (set_like zone owner rtype) (set_ties zone owner rtype item set some)))
 
-module _ (zone owner : List Label) (rtype : ℕ) (sets : List Record) (order : IsInOrder set_cmp sets) (n : ℕ) (start : n ≡ prefix_len (λ item. is_lt (set_cmp item (set_like zone owner rtype))) sets) where
-  pub chosen_here : (item : Record) → n < length sets → item ≡ get_or sets n item → (result : Option SetRec) → result ≡ as_set_at zone owner rtype item → IsChosen (as_set_at zone owner rtype) sets result
-  chosen_here item within is (Some set) result = (item, (n, within, sym is), sym result)
-  chosen_here item within is None result = λ each has. by each has (as_set_at zone owner rtype each) refl
+module _ (zone owner : List Label) (rtype : ℕ) (sets : List Record) (order : IsInOrder set_cmp sets) where
+  pub chosen_last : (n : ℕ) → n + 1 ≡ prefix_len (λ item. is_le (set_cmp item (set_like zone owner rtype))) sets → (item : Record) → n < length sets → item ≡ get_or sets n item → (result : Option SetRec) → result ≡ as_set_at zone owner rtype item → IsChosen (as_set_at zone owner rtype) sets result
+  chosen_last n last item within is (Some set) result = (item, (n, within, sym is), sym result)
+  chosen_last n last item within is None result = λ each has. by each has (as_set_at zone owner rtype each) refl
     where
       by : (each : Record) → Contains sets each → (o : Option SetRec) → as_set_at zone owner rtype each ≡ o → as_set_at zone owner rtype each ≡ None
       by each has None none = none
       by each has (Some set) some =
-          let same = tied_is_here set_cmp sets_total (set_like zone owner rtype) sets order n start each has (set_tied each (set_like zone owner rtype) (set_ties zone owner rtype each set some)) item within is in
+          let same = tied_is_last set_cmp sets_total (set_like zone owner rtype) sets order n last each has (set_tied each (set_like zone owner rtype) (set_ties zone owner rtype each set some)) item within is in
           absurd (none_some (result ∙ (ap (as_set_at zone owner rtype) same ∙ some)))
 
   -- a record of another number is no such set
-  pub none_at : n < length sets → (set_mark (get_or sets n (set_like zone owner rtype)) ≡ set_mark (set_like zone owner rtype) → ⊥) → IsChosen (as_set_at zone owner rtype) sets None
-  none_at within apart =
-      let item = get_or sets n (set_like zone owner rtype) in
-      chosen_here item within (get_or_default sets n (set_like zone owner rtype) item within) None (other_number zone owner rtype item apart)
+  pub none_of_number : (n : ℕ) → n + 1 ≡ prefix_len (λ item. is_le (set_cmp item (set_like zone owner rtype))) sets → (item : Record) → n < length sets → item ≡ get_or sets n item → (set_mark item ≡ set_mark (set_like zone owner rtype) → ⊥) → IsChosen (as_set_at zone owner rtype) sets None
+  none_of_number n last item within is apart =
+      chosen_last n last item within is None (other_number zone owner rtype item apart)
 
-  pub none_here : length sets ≤ n → IsChosen (as_set_at zone owner rtype) sets None
-  none_here past each has = by (as_set_at zone owner rtype each) refl
+  pub none_upto : prefix_len (λ item. is_le (set_cmp item (set_like zone owner rtype))) sets ≡ 0 → IsChosen (as_set_at zone owner rtype) sets None
+  none_upto none each has = by (as_set_at zone owner rtype each) refl
     where
       by : (o : Option SetRec) → as_set_at zone owner rtype each ≡ o → as_set_at zone owner rtype each ≡ None
-      by None none = none
-      by (Some set) some = absurd (omega (arith, past, has.1, not_before set_cmp sets_total (set_like zone owner rtype) sets order n start each has (set_tied each (set_like zone owner rtype) (set_ties zone owner rtype each set some))))
+      by None none' = none'
+      by (Some set) some = absurd (omega (arith, none, tied_within set_cmp sets_total (set_like zone owner rtype) sets order each has (set_tied each (set_like zone owner rtype) (set_ties zone owner rtype each set some))))

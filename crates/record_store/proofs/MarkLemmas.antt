@@ -1,7 +1,7 @@
 -- Sets by their numbers.
 use Rattle.std.proofs.Common.{◌≡◌, ℕ, ◌+◌, ◌*◌, ◌%◌, ◌^◌, ◌<◌, ◌≤◌, ◌⊎◌, inl, inr, true, false, nat_lt, List, length, get_or, Contains, None, refl, sym, ◌∙◌, ap, subst, arith}
 use Rattle.std.specs.List.{prefix_len}
-use Rattle.std.specs.Ordering.{nat_cmp, is_lt, ordering_then}
+use Rattle.std.specs.Ordering.{nat_cmp, is_le, ordering_then}
 use Rattle.std.specs.declared.cmp.Ordering.{Ordering}
 use Rattle.std.specs.declared.cmp.Ordering.TheVariants.{Less, Equal, Greater}
 use Rattle.std.proofs.lemmas.Bool.{cases_lt}
@@ -33,7 +33,7 @@ then_equal Greater b is = cc
 level_is : (n m : ℕ) → nat_cmp n m ≡ Equal → n ≡ m
 level_is n m is = grind (arith, nat_tests, common_steps)
 
-above : (n : ℕ) → nat_lt 0 n ≡ is_lt (ordering_then (nat_cmp 0 n) Greater)
+above : (n : ℕ) → nat_lt 0 n ≡ is_le (ordering_then (nat_cmp 0 n) Greater)
 above n = grind (arith, nat_tests, common_steps)
 
 pub key_mark : (one other : Record) → key_cmp one other ≡ Equal → set_mark one ≡ set_mark other
@@ -173,10 +173,10 @@ module _ (sets : List Record) (order : IsInOrder set_cmp sets) (are : (item : Re
 
 -- ---- a record, and a set that is sought
 
-pub no_set_before : (item : Record) → ((set : SetRec) → item ≡ Set set → ⊥) → (zone owner : List Label) (rtype number : ℕ) → number ≡ set_number zone owner rtype → nat_lt 0 number ≡ is_lt (set_cmp item (set_like zone owner rtype))
-no_set_before (Set set) none zone owner rtype number is = absurd (none set refl)
-no_set_before (Nsec nsec) none zone owner rtype number is = above number ∙ ap (λ n. is_lt (ordering_then (nat_cmp 0 n) Greater)) is
-no_set_before (Nsec3 nsec3) none zone owner rtype number is = above number ∙ ap (λ n. is_lt (ordering_then (nat_cmp 0 n) Greater)) is
+pub no_set_upto : (item : Record) → ((set : SetRec) → item ≡ Set set → ⊥) → (zone owner : List Label) (rtype number : ℕ) → number ≡ set_number zone owner rtype → nat_lt 0 number ≡ is_le (set_cmp item (set_like zone owner rtype))
+no_set_upto (Set set) none zone owner rtype number is = absurd (none set refl)
+no_set_upto (Nsec nsec) none zone owner rtype number is = above number ∙ ap (λ n. is_le (ordering_then (nat_cmp 0 n) Greater)) is
+no_set_upto (Nsec3 nsec3) none zone owner rtype number is = above number ∙ ap (λ n. is_le (ordering_then (nat_cmp 0 n) Greater)) is
 
-pub set_level : (set : SetRec) (zone owner : List Label) (rtype : ℕ) (o : Ordering) → o ≡ key_cmp (Set set) (set_like zone owner rtype) → o ≡ Equal → false ≡ is_lt (set_cmp (Set set) (set_like zone owner rtype))
-set_level set zone owner rtype o by_key at = sym (ap is_lt (set_tied (Set set) (set_like zone owner rtype) (sym by_key ∙ at)))
+pub set_level : (set : SetRec) (zone owner : List Label) (rtype : ℕ) (o : Ordering) → o ≡ key_cmp (Set set) (set_like zone owner rtype) → o ≡ Equal → true ≡ is_le (set_cmp (Set set) (set_like zone owner rtype))
+set_level set zone owner rtype o by_key at = sym (ap is_le (set_tied (Set set) (set_like zone owner rtype) (sym by_key ∙ at)))

@@ -1,7 +1,7 @@
 //! A set by search among the sets.
 ghost use Rattle.std.specs.Prelude.{◌≡◌};
 ghost use Rattle.std.specs.Option.{option_copied};
-ghost use Rattle.std.specs.Ordering.{is_lt};
+ghost use Rattle.std.specs.Ordering.{is_le};
 ghost use Rattle.record_store.specs.Ranks.{set_cmp};
 ghost use Rattle.record_store.specs.Marks.{set_number};
 ghost use Rattle.cache_meaning.specs.Zones.{as_set_at};
@@ -12,6 +12,7 @@ use crate::holding::Sets;
 use crate::marks::set_number;
 use denial_records::{KeptSet, Record};
 use dname::Name;
+use page_list::Last;
 use std::cmp::Ordering;
 
 /// The set of the zone at the owner name and type.
@@ -24,31 +25,33 @@ pub(crate) fn set_in<'s>(
     ensures { IsChosen (as_set_at zone.now owner.now rtype) sets.now (option_copied result) }
 {
     let number = set_number(zone, owner, rtype);
-    let place = sets.find_at(number, |item| is_before(item, zone, owner, rtype, number));
-    if place >= sets.len() {
-        return None;
+    match sets.last_at(number, |item| is_upto(item, zone, owner, rtype, number)) {
+        // a record of another number is no such set, and isn't read
+        Some(Last { mark, share, .. }) => {
+            if mark == number {
+                as_set_at(share, zone, owner, rtype)
+            } else {
+                None
+            }
+        }
+        None => None,
     }
-    // a record of another number is no such set, and isn't read
-    if sets.mark_at(place) != number {
-        return None;
-    }
-    as_set_at(sets.get(place), zone, owner, rtype)
 }
 
-// Whether the record comes before such a set, whose number it is.
-fn is_before(item: &Record, zone: &Name, owner: &Name, rtype: u16, number: u64) -> bool
+// Whether the record comes before such a set, whose number it is, or is one.
+fn is_upto(item: &Record, zone: &Name, owner: &Name, rtype: u16, number: u64) -> bool
     requires { number ≡ set_number zone.now owner.now rtype }
-    ensures { result ≡ is_lt (set_cmp item.now (set_like zone.now owner.now rtype)) }
+    ensures { result ≡ is_le (set_cmp item.now (set_like zone.now owner.now rtype)) }
 {
     match item {
-        Record::Set(set) => set_is_before(set, zone, owner, rtype, number),
+        Record::Set(set) => set_is_upto(set, zone, owner, rtype, number),
         _ => 0 < number,
     }
 }
 
-fn set_is_before(set: &KeptSet, zone: &Name, owner: &Name, rtype: u16, number: u64) -> bool
+fn set_is_upto(set: &KeptSet, zone: &Name, owner: &Name, rtype: u16, number: u64) -> bool
     requires { number ≡ set_number zone.now owner.now rtype }
-    ensures { result ≡ is_lt (set_cmp (Record.Set set.now) (set_like zone.now owner.now rtype)) }
+    ensures { result ≡ is_le (set_cmp (Record.Set set.now) (set_like zone.now owner.now rtype)) }
 {
     let by_key = set.zone().cmp(&zone.lent()).then_with(|| set
         .owner()
@@ -56,11 +59,11 @@ fn set_is_before(set: &KeptSet, zone: &Name, owner: &Name, rtype: u16, number: u
         .then(set.rtype().cmp(&rtype)));
     match by_key {
         // sets of one key have one number
-        Ordering::Equal => false,
+        Ordering::Equal => true,
         _ => set_number(&set.zone().name(), &set.owner().name(), set.rtype())
             .cmp(&number)
             .then(by_key)
-            .is_lt(),
+            .is_le(),
     }
 }
 

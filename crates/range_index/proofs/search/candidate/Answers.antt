@@ -1,14 +1,14 @@
-use Rattle.std.proofs.Common.{arith}
-use Rattle.range_index.proofs.SpanLemmas.{upto_parted, candidate_before, candidate_last}
+use Rattle.std.proofs.Common.{refl}
+use Rattle.range_index.proofs.SpanLemmas.{upto_parted, candidate_upto, candidate_last}
 use Rattle.range_index.proofs.search.candidate.Goals as goal
 
-pub returns-then-upto-gt0 : goal.returns-then-upto-gt0
-returns-then-upto-gt0 g c =
-    candidate_before _ g.met.R.Key.Ord.total _ _ c.args.list.now c.requires.arcs c.args.key.now _ c.starts_upto-upto.ensures.value (omega arith)
+pub returns-in-Some-clause-only : goal.returns-in-Some-clause-only
+returns-in-Some-clause-only g c =
+    candidate_upto _ g.met.R.Key.Ord.total _ _ c.args.list.now c.requires.arcs c.args.key.now _ c.in-Some.ensures.place
 
-pub returns-else-upto-gt0 : goal.returns-else-upto-gt0
-returns-else-upto-gt0 g c =
-    candidate_last _ g.met.R.Key.Ord.total _ _ c.args.list.now c.requires.arcs c.args.key.now _ _ c.starts_upto-upto.ensures.value (omega arith) c.len.ensures c.requires.some
+pub returns-in-None-clause-only : goal.returns-in-None-clause-only
+returns-in-None-clause-only g c =
+    candidate_last _ g.met.R.Key.Ord.total _ _ c.args.list.now c.requires.arcs c.args.key.now _ _ refl c.in-None.ensures.place c.len-place.ensures c.requires.some
 
-pub starts_upto-upto-requires-clause-parted : goal.starts_upto-upto-requires-clause-parted
-starts_upto-upto-requires-clause-parted g c = upto_parted _ g.met.R.Key.Ord.total _ g.R.RingSpan.end c.args.list.now c.requires.arcs _
+pub last_upto-requires-clause-parted : goal.last_upto-requires-clause-parted
+last_upto-requires-clause-parted g c = upto_parted _ g.met.R.Key.Ord.total _ g.R.RingSpan.end c.args.list.now c.requires.arcs _

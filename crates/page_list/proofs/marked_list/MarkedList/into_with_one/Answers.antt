@@ -1,4 +1,4 @@
-use Rattle.std.proofs.Common.{[], ◌∷◌, ap, ◌∙◌}
+use Rattle.std.proofs.Common.{[], ◌∷◌}
 use Rattle.std.specs.Arc.{arc_value}
 use Rattle.page_list.proofs.Values.{marked_item, one_value, replaced_marked}
 use Rattle.page_list.proofs.marked_list.MarkedList.into_with_one.Goals as goal

@@ -6,10 +6,10 @@ pub returns-then-span_has-clause-span : goal.returns-then-span_has-clause-span
 returns-then-span_has-clause-span g c =
     rw (← c.self.view_is)
     (found_at _ g.met.R.Key.Ord.total _ _ c.self.inside.list c.self.invariant c.args.key.now _ _ c.deref-span.result.now
-    c.candidate-place.ensures (rw c.deref-span.ensures c.get.ensures) (sym c.span_has.ensures ∙ c.if-span_has.true))
+    c.candidate-started.ensures.only (rw c.deref-span.ensures c.candidate-started.ensures.span) (sym c.span_has.ensures ∙ c.if-span_has.true))
 
 pub returns-else-span_has-clause-span : goal.returns-else-span_has-clause-span
 returns-else-span_has-clause-span g c =
     rw (← c.self.view_is)
     (none_at _ g.met.R.Key.Ord.total _ _ c.self.inside.list c.self.invariant c.args.key.now _ _ c.deref-span.result.now
-    c.candidate-place.ensures (rw c.deref-span.ensures c.get.ensures) (sym c.span_has.ensures ∙ c.if-span_has.false))
+    c.candidate-started.ensures.only (rw c.deref-span.ensures c.candidate-started.ensures.span) (sym c.span_has.ensures ∙ c.if-span_has.false))
