@@ -144,6 +144,7 @@ impl<T: Drop, R: Ranking<T>> OrderedList<T, R> {
                     place,
                     mark: own,
                     share,
+                    ..
                 },
             ) => {
                 if ranks_equal::<T, R>(share, own, like, mark) {
@@ -188,6 +189,7 @@ impl<T: Drop, R: Ranking<T>> OrderedList<T, R> {
         ensures value { IfSome result (λ last. arc_value last.share.now
             ≡ slice_index_or self.now last.place (arc_value last.share.now)) }
         ensures mark { IfSome result (λ last. last.mark ≡ R.mark (arc_value last.share.now)) }
+        ensures note { IfSome result (λ last. last.note ≡ R.note (arc_value last.share.now)) }
         ensures exact { (p : T → Bool)
             → ((x : T) (r : Bool) → FnReturnsAt F.Fn before x r → r ≡ p x)
             → PartsAtMark R.mark mark p self.now → MatchOption result (prefix_len p self.now ≡ 0)

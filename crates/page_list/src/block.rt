@@ -56,7 +56,8 @@ pub(crate) trait Block<T: Drop>: Drop {
         ensures exact { (p : Marked T → Bool) → IsTestOf F.Fn before.now p
             → PartsAtMark mark_of mark p (entries self.now)
             → result.count ≡ prefix_len p (entries self.now) }
-        ensures last { IfSome result.last (λ last. IsLastOf (entries self.now) result.count last.now) };
+        ensures last { IfSome result.last
+            (λ last. IsLastOf (entries self.now) result.count last.now) };
 
     /// The entries with `items` in place of those in `from..to`, in one block of as many parts, or a page that has at
     /// least a quarter of what it may have, or no fewer entries than before, and isn't too long. None where that can't be, and for

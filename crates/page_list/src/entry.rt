@@ -6,10 +6,11 @@ use crate::OutOfMemory;
 use std::marker::Model;
 use std::sync::Arc;
 
-/// A shared value and its mark, which lie together.
+/// A shared value, its mark and its note, which lie together.
 #[derive(Drop)]
 pub(crate) struct Entry<T> {
     mark: u64,
+    note: u64,
     share: Arc<T>,
 }
 
@@ -19,20 +20,26 @@ impl<T> Model for Entry<T> {
 
     ghost Value = { Marked T };
 
-    ghost view = { λ e. record { mark = e.mark; value = arc_value e.share } };
+    ghost view = { λ e. record { mark = e.mark; note = e.note; value = arc_value e.share } };
 }
 
 impl<T> Entry<T> {
-    pub(crate) fn of(mark: u64, share: Arc<T>) -> Entry<T>
-        ensures { result ≡ record { mark = mark; value = arc_value share } }
+    pub(crate) fn of(mark: u64, note: u64, share: Arc<T>) -> Entry<T>
+        ensures { result ≡ record { mark = mark; note = note; value = arc_value share } }
     {
-        Entry { mark, share }
+        Entry { mark, note, share }
     }
 
     pub(crate) fn mark(&self) -> u64
         ensures { result ≡ self.now.mark }
     {
         self.mark
+    }
+
+    pub(crate) fn note(&self) -> u64
+        ensures { result ≡ self.now.note }
+    {
+        self.note
     }
 
     pub(crate) fn share(&self) -> &Arc<T>
@@ -49,6 +56,7 @@ impl<T: Drop> Entry<T> {
     {
         Ok(Entry {
             mark: self.mark,
+            note: self.note,
             share: Arc::try_clone(&self.share)?,
         })
     }

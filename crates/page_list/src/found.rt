@@ -9,10 +9,11 @@ pub(crate) struct Found<'a, T> {
     pub(crate) last: Option<&'a Entry<T>>,
 }
 
-/// The last entry that comes before: its place, its mark and a share of it.
+/// The last entry that comes before: its place, its mark, its note and a share of it.
 #[derive(Drop)]
 pub struct Last<'a, T> {
     pub place: usize,
     pub mark: u64,
+    pub note: u64,
     pub share: &'a Arc<T>,
 }

@@ -32,7 +32,7 @@ impl<T: Drop, M: Marking<T>> Model for MarkedList<T, M> {
 
     ghost view = { λ l. map value_of l.entries };
 
-    ghost invariant = { λ l. l.entries ≡ map (marked_by M.mark) (map value_of l.entries) };
+    ghost invariant = { λ l. l.entries ≡ map (marked_by M.mark M.note) (map value_of l.entries) };
 }
 
 impl<T: Drop, M: Marking<T>> MarkedList<T, M> {
@@ -102,6 +102,7 @@ impl<T: Drop, M: Marking<T>> MarkedList<T, M> {
         ensures value { IfSome result (λ last. arc_value last.share.now
             ≡ slice_index_or self.now last.place (arc_value last.share.now)) }
         ensures mark { IfSome result (λ last. last.mark ≡ M.mark (arc_value last.share.now)) }
+        ensures note { IfSome result (λ last. last.note ≡ M.note (arc_value last.share.now)) }
         ensures exact { (p : T → Bool)
             → ((x : T) (r : Bool) → FnReturnsAt F.Fn before x r → r ≡ p x)
             → PartsAtMark M.mark mark p self.now → MatchOption result (prefix_len p self.now ≡ 0)
@@ -111,6 +112,7 @@ impl<T: Drop, M: Marking<T>> MarkedList<T, M> {
             Some((place, entry)) => Some(Last {
                 place,
                 mark: entry.mark(),
+                note: entry.note(),
                 share: entry.share(),
             }),
             None => None,
@@ -194,7 +196,8 @@ impl<T: Drop, M: Marking<T>> MarkedList<T, M> {
     {
         let MarkedList { entries, by } = self;
         let mark = M::mark(&item);
-        let entry = Entry::of(mark, item);
+        let note = M::note(&item);
+        let entry = Entry::of(mark, note, item);
         let entries = entries.into_replaced(alloc, from, to, from_ref(&entry))?;
         Ok(MarkedList { entries, by })
     }
@@ -223,12 +226,13 @@ fn marked_entries<T: Drop, M: Marking<T>>(
     items: Vec<Arc<T>>,
 ) -> Result<Vec<Entry<T>>, OutOfMemory>
     ensures { IfOk result (λ made.
-        made.items ≡ map (marked_by M.mark) (map arc_value items.items)) }
+        made.items ≡ map (marked_by M.mark M.note) (map arc_value items.items)) }
 {
     let mut made = Vec::with_capacity(alloc, items.len())?;
     for share in items {
         let mark = M::mark(&share);
-        made.push(Entry::of(mark, share))?;
+        let note = M::note(&share);
+        made.push(Entry::of(mark, note, share))?;
     }
     Ok(made)
 }

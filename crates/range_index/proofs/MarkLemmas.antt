@@ -4,11 +4,12 @@ use Rattle.std.specs.List.Sorted.{IsPartitionedBy}
 use Rattle.std.specs.Cmp.{IsTotalOrder}
 use Rattle.std.specs.Ordering.{is_lt, is_le}
 use Rattle.std.specs.declared.cmp.Ordering.{Ordering}
-use Rattle.std.specs.declared.cmp.Ordering.TheVariants.{Less}
+use Rattle.std.specs.declared.cmp.Ordering.TheVariants.{Less, Greater}
 use Rattle.std.proofs.lemmas.Grind.{common_steps}
 use Rattle.std.proofs.lemmas.List.Elements.{All-contains}
 use Rattle.page_list.specs.Marks.{PartsAtMark}
 use Rattle.range_index.specs.Arcs.{AreOfFrame}
+use Rattle.range_index.specs.Steps.{Tell}
 
 module _ {S F K : Type 0} (cmp : K → K → Ordering) (total : IsTotalOrder cmp) (start : S → K) (frame_of : S → F) (mark : F → K → ℕ)
     (rise : (frame : F) (one other : K) → mark frame one < mark frame other → cmp one other ≡ Less) (frame : F) (key : K) where
@@ -44,3 +45,28 @@ module _ {S F K : Type 0} (cmp : K → K → Ordering) (total : IsTotalOrder cmp
       lesser = λ x has less. ap is_lt (lesser x has less);
       greater = λ x has less. after_is_not_before key (start x) (greater x has less);
     }
+
+  flipped : (one other : K) → cmp one other ≡ Less → cmp other one ≡ Greater
+  flipped one other less = grind (arith, common_steps, total)
+
+  -- what the marks of a span in the list tell
+  pub tells : (end : S → K) (xs : List S) → AreOfFrame frame_of mark frame xs → (x : S) → Contains xs x → (m a b : ℕ) → m ≡ mark frame key → a ≡ mark (frame_of x) (start x) → b ≡ mark (frame_of x) (end x) → Tell cmp start end key x m a b
+  tells end xs all x has m a b m_is a_is b_is =
+      let at : (other : K) → mark (frame_of x) other ≡ mark frame other = All-contains (λ span. (other : K) → mark (frame_of span) other ≡ mark frame other) xs x all has in
+      record {
+        starts = λ less. rise frame (start x) key (omega (arith, a_is, at (start x), m_is));
+        ends_behind = λ less. flipped key (end x) (rise frame key (end x) (omega (arith, b_is, at (end x), m_is)));
+        ends_before = λ less. rise frame (end x) key (omega (arith, b_is, at (end x), m_is));
+        plain = λ less. rise frame (start x) (end x) (omega (arith, a_is, at (start x), b_is, at (end x)));
+        over = λ less. flipped (end x) (start x) (rise frame (end x) (start x) (omega (arith, a_is, at (start x), b_is, at (end x))));
+      }
+
+-- equal marks tell nothing
+pub silent : {S K : Type 0} (cmp : K → K → Ordering) (start end : S → K) (key : K) (span : S) → Tell cmp start end key span 0 0 0
+silent cmp start end key span = record {
+  starts = λ less. absurd (omega arith);
+  ends_behind = λ less. absurd (omega arith);
+  ends_before = λ less. absurd (omega arith);
+  plain = λ less. absurd (omega arith);
+  over = λ less. absurd (omega arith);
+}

@@ -1,6 +1,8 @@
 -- No public clause cites this module.
 use Rattle.std.specs.Prelude.{◌≡◌, ◌+◌, ◌<◌, ◌≤◌, ℕ, length, Bool, false, true, List, [], ◌∷◌, ◌++◌, take, drop}
 use Rattle.std.specs.List.{AllWithin, HoldsAt, filter, slice_index_or}
+use Rattle.std.specs.declared.cmp.Ordering.{Ordering}
+use Rattle.std.specs.declared.cmp.Ordering.TheVariants.{Less, Greater}
 use Rattle.range_index.specs.Arcs.{FailInRuns}
 
 -- only the element at the place can pass p; `says` is whether it passes q
@@ -32,3 +34,11 @@ pub record IsPlainMet {X : Type 0} (p : X → Bool) (xs : List X) (new : X) (mad
 pub record IsOverMet {X : Type 0} (p : X → Bool) (xs : List X) (new : X) (made : List X) (to last : ℕ) : Type 0 where
   pub runs : FailInRuns p xs 0 to last
   pub is : drop to (take last xs) ++ new ∷ [] ≡ made
+
+-- what the marks of a key and of a span's two keys tell of how these compare
+pub record Tell {S K : Type 0} (cmp : K → K → Ordering) (start end : S → K) (key : K) (span : S) (of_key of_start of_end : ℕ) : Type 0 where
+  pub starts : of_start < of_key → cmp (start span) key ≡ Less
+  pub ends_behind : of_key < of_end → cmp (end span) key ≡ Greater
+  pub ends_before : of_end < of_key → cmp (end span) key ≡ Less
+  pub plain : of_start < of_end → cmp (start span) (end span) ≡ Less
+  pub over : of_end < of_start → cmp (start span) (end span) ≡ Greater

@@ -81,10 +81,15 @@ impl<T: Drop, R: RingSpan<T>> Arcs<T, R> {
         if self.list.len() == 0 {
             return None;
         }
-        let OneSpan { span, started, .. } = candidate(&self.list, frame, key);
+        let OneSpan {
+            span,
+            started,
+            marks,
+            ..
+        } = candidate(&self.list, frame, key);
         let span: &T = span;
-        if span_has::<T, R>(span, key, started) {
-            Some((span, place_in::<T, R>(span, key, started)))
+        if span_has::<T, R>(span, key, started, marks) {
+            Some((span, place_in::<T, R>(span, key, started, marks)))
         } else {
             None
         }

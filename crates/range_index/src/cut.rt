@@ -8,6 +8,7 @@ ghost use Rattle.range_index.specs.Steps.{IsTrimmed, IsPlainMet, IsOverMet};
 
 use crate::ring_span::ByStart;
 use crate::search::{span_has, starts_before};
+use crate::span_marks::SILENT;
 use crate::{Met, OutOfMemory, RingSpan};
 use page_list::MarkedList;
 use std::alloc::Global;
@@ -142,7 +143,7 @@ fn trimmed<T: Drop, R: RingSpan<T>>(
     }
     let last: &T = list.get(high - 1);
     let started = R::compare_start(last, key).is_le();
-    if span_has::<T, R>(last, key, started) {
+    if span_has::<T, R>(last, key, started, SILENT) {
         high - 1
     } else {
         high

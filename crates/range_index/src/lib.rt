@@ -13,6 +13,7 @@ mod met;
 mod place;
 mod ring_span;
 mod search;
+mod span_marks;
 
 pub use arcs::Arcs;
 pub use laws::{arcs_stay_arcs, one_span_has_a_key, what_with_leaves};

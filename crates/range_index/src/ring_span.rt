@@ -51,7 +51,7 @@ pub trait RingSpan<T> {
         → mark frame one < mark frame other → Self.Key.Ord.cmp one other ≡ Less };
 }
 
-/// The mark of a span: that of its start.
+/// The mark of a span: that of its start. Its note is the mark of its end.
 #[derive(Drop)]
 pub struct ByStart<R> {
     spans: PhantomData<R>,
@@ -60,7 +60,13 @@ pub struct ByStart<R> {
 impl<T, R: RingSpan<T>> Marking<T> for ByStart<R> {
     ghost mark = { λ span. R.mark (R.frame span) (R.start span) };
 
+    ghost note = { λ span. R.mark (R.frame span) (R.end span) };
+
     fn mark(span: &T) -> u64 {
         R::mark(&R::frame(span), &R::start_key(span))
+    }
+
+    fn note(span: &T) -> u64 {
+        R::mark(&R::frame(span), &R::end_key(span))
     }
 }

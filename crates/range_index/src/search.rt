@@ -6,10 +6,11 @@ ghost use Rattle.std.specs.List.Sorted.{IsPartitionedBy};
 ghost use Rattle.std.specs.Ordering.{is_le, is_lt};
 ghost use Rattle.dname.specs.Arc.{arc_has};
 ghost use Rattle.range_index.specs.Arcs.{span_has, starts_elsewhere, AreOfFrame, IsArcs};
-ghost use Rattle.range_index.specs.Steps.{IsCandidate, IsCut};
+ghost use Rattle.range_index.specs.Steps.{IsCandidate, IsCut, Tell};
 ghost use Rattle.range_index.specs.Place.{place_of};
 
 use crate::ring_span::ByStart;
+use crate::span_marks::{SILENT, SpanMarks, end_to_key, start_to_end, start_to_key};
 use crate::{Place, RingSpan};
 use page_list::{Last, MarkedList};
 use std::cmp::Ordering;
@@ -53,15 +54,17 @@ pub(crate) fn starts_before<T: Drop, R: RingSpan<T>>(
     )
 }
 
-// The last span that starts at the key or before it.
+// The last span that starts at the key, whose mark it is, or before it.
 fn last_upto<'a, T: Drop, R: RingSpan<T>>(
     list: &'a MarkedList<T, ByStart<R>>,
     frame: &R::Key,
     key: &R::Key,
+    mark: u64,
 ) -> Option<Last<'a, T>>
     requires frame { AreOfFrame R.frame R.mark frame.now list.now }
     requires parted { IsPartitionedBy
         (λ span. is_le (R.Key.Ord.cmp (R.start span) key.now)) list.now }
+    requires mark { mark ≡ R.mark frame.now key.now }
     ensures place { MatchOption result
         (prefix_len (λ span. is_le (R.Key.Ord.cmp (R.start span) key.now)) list.now ≡ 0)
         (λ last. last.place + 1
@@ -69,19 +72,23 @@ fn last_upto<'a, T: Drop, R: RingSpan<T>>(
     ensures in_range { IfSome result (λ last. last.place < length list.now) }
     ensures span { IfSome result (λ last. arc_value last.share.now
         ≡ slice_index_or list.now last.place (arc_value last.share.now)) }
+    ensures marks { IfSome result (λ last. Tell R.Key.Ord.cmp R.start R.end key.now
+        (arc_value last.share.now) mark last.mark last.note) }
 {
-    list.last_at(
-        R::mark(frame, key),
-        |span| R::compare_start(span, key).is_le(),
-    )
+    let _frame = frame;
+    match list.last_at(mark, |span| R::compare_start(span, key).is_le()) {
+        Some(last) => Some(last),
+        None => None,
+    }
 }
 
-/// The one span of a list that can have a key, its place, and whether it starts at the key or before it.
+/// The one span of a list that can have a key, its place, whether it starts at the key or before it, and the marks of both.
 #[derive(Drop)]
 pub(crate) struct OneSpan<'a, T> {
     pub(crate) place: usize,
     pub(crate) span: &'a Arc<T>,
     pub(crate) started: bool,
+    pub(crate) marks: SpanMarks,
 }
 
 pub(crate) fn candidate<'a, T: Drop, R: RingSpan<T>>(
@@ -97,12 +104,20 @@ pub(crate) fn candidate<'a, T: Drop, R: RingSpan<T>>(
         result.place result.started }
     ensures span { arc_value result.span.now
         ≡ slice_index_or list.now result.place (arc_value result.span.now) }
+    ensures marks { Tell R.Key.Ord.cmp R.start R.end key.now (arc_value result.span.now)
+        result.marks.key result.marks.start result.marks.end }
 {
-    match last_upto(list, frame, key) {
+    let mark = R::mark(frame, key);
+    match last_upto(list, frame, key, mark) {
         Some(last) => OneSpan {
             place: last.place,
             span: last.share,
             started: true,
+            marks: SpanMarks {
+                key: mark,
+                start: last.mark,
+                end: last.note,
+            },
         },
         None => {
             let place = list.len() - 1;
@@ -110,6 +125,7 @@ pub(crate) fn candidate<'a, T: Drop, R: RingSpan<T>>(
                 place,
                 span: list.get(place),
                 started: false,
+                marks: SILENT,
             }
         }
     }
@@ -132,23 +148,37 @@ pub(crate) fn starting_at<T: Drop, R: RingSpan<T>>(
 }
 
 // Whether the span's arc has the key; `started` says whether it starts at the key or before it.
-pub(crate) fn span_has<T: Drop, R: RingSpan<T>>(span: &T, key: &R::Key, started: bool) -> bool
-    requires { started ≡ is_le (R.Key.Ord.cmp (R.start span.now) key.now) }
+pub(crate) fn span_has<T: Drop, R: RingSpan<T>>(
+    span: &T,
+    key: &R::Key,
+    started: bool,
+    marks: SpanMarks,
+) -> bool
+    requires started { started ≡ is_le (R.Key.Ord.cmp (R.start span.now) key.now) }
+    requires marks { Tell R.Key.Ord.cmp R.start R.end key.now span.now
+        marks.key marks.start marks.end }
     ensures { result ≡ span_has R.Key.Ord.cmp R.start R.end key.now span.now }
 {
-    let before_end = R::compare_end(span, key).is_gt();
+    let before_end = end_to_key::<T, R>(span, key, marks).is_gt();
     if started == before_end {
         return started;
     }
     // only over the end of the order is one of the two enough
-    !R::compare_ends(span).is_lt()
+    !start_to_end::<T, R>(span, key, marks).is_lt()
 }
 
-pub(crate) fn place_in<T: Drop, R: RingSpan<T>>(span: &T, key: &R::Key, started: bool) -> Place
-    requires { started ≡ is_le (R.Key.Ord.cmp (R.start span.now) key.now) }
+pub(crate) fn place_in<T: Drop, R: RingSpan<T>>(
+    span: &T,
+    key: &R::Key,
+    started: bool,
+    marks: SpanMarks,
+) -> Place
+    requires started { started ≡ is_le (R.Key.Ord.cmp (R.start span.now) key.now) }
+    requires marks { Tell R.Key.Ord.cmp R.start R.end key.now span.now
+        marks.key marks.start marks.end }
     ensures { result ≡ place_of (R.Key.Ord.cmp (R.start span.now) key.now) }
 {
-    if started && R::compare_start(span, key) == Ordering::Equal {
+    if started && start_to_key::<T, R>(span, key, marks) == Ordering::Equal {
         Place::Start
     } else {
         Place::Inside

@@ -17,7 +17,13 @@ pub(crate) struct ByApex;
 impl Marking<ZoneRecords> for ByApex {
     ghost mark = { λ zone. 0 };
 
+    ghost note = { λ _. 0 };
+
     fn mark(_zone: &ZoneRecords) -> u64 {
+        0
+    }
+
+    fn note(_entry: &ZoneRecords) -> u64 {
         0
     }
 }
@@ -46,11 +52,17 @@ impl Marking<Record> for BySet {
 
     ghost mark = { set_mark };
 
+    ghost note = { λ _. 0 };
+
     fn mark(item: &Record) -> u64 {
         match item {
             Record::Set(set) => lent_set_number(&set.zone(), &set.owner(), set.rtype()),
             _ => 0,
         }
+    }
+
+    fn note(_entry: &Record) -> u64 {
+        0
     }
 }
 
@@ -82,8 +94,14 @@ impl Marking<Record> for ByGoing {
 
     ghost mark = { expiry_of };
 
+    ghost note = { λ _. 0 };
+
     fn mark(item: &Record) -> u64 {
         expiry_of(item)
+    }
+
+    fn note(_entry: &Record) -> u64 {
+        0
     }
 }
 

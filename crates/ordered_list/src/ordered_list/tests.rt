@@ -18,8 +18,14 @@ struct ByTens;
 impl Marking<u64> for ByTens {
     ghost mark = { λ x. x / 10 };
 
+    ghost note = { λ _. 0 };
+
     fn mark(entry: &u64) -> u64 {
         *entry / 10
+    }
+
+    fn note(_entry: &u64) -> u64 {
+        0
     }
 }
 
@@ -234,7 +240,13 @@ struct ByNumber;
 impl<'a> Marking<Counted<'a>> for ByNumber {
     ghost mark = { λ _. 0 };
 
+    ghost note = { λ _. 0 };
+
     fn mark(_entry: &Counted<'a>) -> u64 {
+        0
+    }
+
+    fn note(_entry: &Counted<'a>) -> u64 {
         0
     }
 }

@@ -414,7 +414,13 @@ struct Itself;
 impl Marking<u64> for Itself {
     ghost mark = { λ x. x };
 
+    ghost note = { λ x. x };
+
     fn mark(entry: &u64) -> u64 {
+        *entry
+    }
+
+    fn note(entry: &u64) -> u64 {
         *entry
     }
 }
@@ -426,8 +432,14 @@ struct Tens;
 impl Marking<u64> for Tens {
     ghost mark = { λ x. x / 10 };
 
+    ghost note = { λ x. x };
+
     fn mark(entry: &u64) -> u64 {
         *entry / 10
+    }
+
+    fn note(entry: &u64) -> u64 {
+        *entry
     }
 }
 

@@ -1,12 +1,27 @@
-use Rattle.std.proofs.Common.{rules}
+use Rattle.std.proofs.Common.{rules, sym}
+use Rattle.std.specs.Arc.{arc_value}
 use Rattle.std.specs.Ordering.{is_le}
-use Rattle.range_index.proofs.MarkLemmas.{upto_parts}
+use Rattle.range_index.proofs.MarkLemmas.{upto_parts, tells}
 use Rattle.range_index.proofs.search.last_upto.Goals as goal
 
-pub returns-clause-place : goal.returns-clause-place
-returns-clause-place g c =
+pub returns-in-Some-clause-place : goal.returns-in-Some-clause-place
+returns-in-Some-clause-place g c =
     let cmp = g.R.Key.Ord.cmp in
     let ring = g.R.RingSpan in
     let key = c.args.key.now in
     let parts = upto_parts cmp g.met.R.Key.Ord.total ring.start ring.frame ring.mark g.met.R.RingSpan.marks_rise c.args.frame.now key c.args.list.now c.requires.frame c.requires.parted in
-    c.last_at.ensures.exact (λ x. is_le (cmp (ring.start x) key)) (λ x r says. search rules) (rw c.mark.ensures parts)
+    c.in-Some.ensures.exact (λ x. is_le (cmp (ring.start x) key)) (λ x r says. search rules) (rw c.requires.mark parts)
+
+pub returns-in-None-clause-place : goal.returns-in-None-clause-place
+returns-in-None-clause-place g c =
+    let cmp = g.R.Key.Ord.cmp in
+    let ring = g.R.RingSpan in
+    let key = c.args.key.now in
+    let parts = upto_parts cmp g.met.R.Key.Ord.total ring.start ring.frame ring.mark g.met.R.RingSpan.marks_rise c.args.frame.now key c.args.list.now c.requires.frame c.requires.parted in
+    c.in-None.ensures.exact (λ x. is_le (cmp (ring.start x) key)) (λ x r says. search rules) (rw c.requires.mark parts)
+
+pub returns-in-Some-clause-marks : goal.returns-in-Some-clause-marks
+returns-in-Some-clause-marks g c =
+    let ring = g.R.RingSpan in
+    let last = arc_value c.in-Some.last.share.now in
+    tells g.R.Key.Ord.cmp g.met.R.Key.Ord.total ring.start ring.frame ring.mark g.met.R.RingSpan.marks_rise c.args.frame.now c.args.key.now ring.end c.args.list.now c.requires.frame last (c.in-Some.last.place, c.in-Some.ensures.in_range, sym c.in-Some.ensures.value) c.args.mark c.in-Some.last.mark c.in-Some.last.note c.requires.mark c.in-Some.ensures.mark c.in-Some.ensures.note

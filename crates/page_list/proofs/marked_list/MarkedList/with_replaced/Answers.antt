@@ -5,10 +5,10 @@ use Rattle.page_list.proofs.marked_list.MarkedList.with_replaced.Goals as goal
 
 pub invariant_of-result : goal.invariant_of-result
 invariant_of-result g c =
-    replaced_marked g.M.Marking.mark c.self.inside.entries c.in_ok-marked.marked.items c.in_ok-entries.entries (map arc_value c.args.items.items) c.args.from c.args.to c.in_ok-entries.ensures c.in_ok-marked.ensures c.self.invariant
+    replaced_marked g.M.Marking.mark g.M.Marking.note c.self.inside.entries c.in_ok-marked.marked.items c.in_ok-entries.entries (map arc_value c.args.items.items) c.args.from c.args.to c.in_ok-entries.ensures c.in_ok-marked.ensures c.self.invariant
 
 pub returns : goal.returns
 returns g c =
     let items = map arc_value c.args.items.items in
     rw (← c.self.view_is)
-    (replaced_values g.M.Marking.mark c.self.inside.entries c.in_ok-marked.marked.items c.in_ok-entries.entries items c.args.from c.args.to c.in_ok-entries.ensures c.in_ok-marked.ensures)
+    (replaced_values g.M.Marking.mark g.M.Marking.note c.self.inside.entries c.in_ok-marked.marked.items c.in_ok-entries.entries items c.args.from c.args.to c.in_ok-entries.ensures c.in_ok-marked.ensures)
