@@ -1,5 +1,5 @@
 -- Sets by their numbers.
-use Rattle.std.proofs.Common.{◌≡◌, ℕ, ◌+◌, ◌*◌, ◌%◌, ◌^◌, ◌<◌, ◌≤◌, ◌⊎◌, inl, inr, true, false, nat_lt, List, length, get_or, Contains, None, refl, sym, ◌∙◌, ap, subst, arith}
+use Rattle.std.proofs.Common.{◌≡◌, ℕ, suc, ◌+◌, ◌*◌, ◌/◌, ◌%◌, ◌^◌, ◌<◌, ◌≤◌, ◌⊎◌, inl, inr, true, false, nat_lt, List, length, drop, get_or, Contains, None, refl, sym, ◌∙◌, ap, subst, arith}
 use Rattle.std.specs.List.{prefix_len}
 use Rattle.std.specs.Ordering.{nat_cmp, is_le, ordering_then}
 use Rattle.std.specs.declared.cmp.Ordering.{Ordering}
@@ -8,7 +8,7 @@ use Rattle.std.proofs.lemmas.Bool.{cases_lt}
 use Rattle.std.proofs.lemmas.Bool.Decides.{nat_tests}
 use Rattle.std.proofs.lemmas.Cmp.{nat_cmp_total, ranked, by_ranked, tied_itself}
 use Rattle.std.proofs.lemmas.Grind.{common_steps}
-use Rattle.std.proofs.lemmas.List.{get_or_read}
+use Rattle.std.proofs.lemmas.List.{get_or_read, length-drop}
 use Rattle.std.proofs.lemmas.List.Sums.{prefix_len_passes, prefix_len_stops}
 use Rattle.dname.specs.Name.{Label}
 use Rattle.dname.specs.Order.{canonical_equal}
@@ -19,9 +19,17 @@ use Rattle.denial_records.specs.declared.record.Record.TheVariants.{Set, Nsec, N
 use Rattle.cache_meaning.specs.Held.{chain_of, zone_of, key_cmp}
 use Rattle.ordered_list.specs.Order.{IsInOrder}
 use Rattle.ordered_list.proofs.OrderLemmas.{partitioned}
-use Rattle.record_store.specs.Marks.{zone_part, owner_part, set_number, set_mark}
+use Rattle.record_store.specs.Marks.{mixed, word_of, words_mixed, zone_part, owner_part, set_number, set_mark}
 use Rattle.record_store.specs.LookUp.{set_like}
 use Rattle.record_store.specs.Ranks.{set_cmp}
+
+-- ---- a word more
+
+pub one_word : (octets : List ℕ) (hash : ℕ) → 8 ≤ length octets → words_mixed (length (drop 8 octets) / 8) (drop 8 octets) (mixed hash (word_of octets)) ≡ words_mixed (length octets / 8) octets hash
+one_word octets hash long = ap (λ n. words_mixed n octets hash) count
+  where
+    count : suc (length (drop 8 octets) / 8) ≡ length octets / 8
+    count = omega (arith, length-drop 8 octets, long)
 
 -- ---- sets of one key have one number
 

@@ -1,8 +1,8 @@
 //! The numbers by which sets are sought.
-ghost use Rattle.std.specs.Prelude.{◌≡◌, ◌<◌, ◌≤◌, ◌*◌, ◌+◌, ◌^◌};
-ghost use Rattle.record_store.specs.Marks.{mixed, hash_of, upper, zone_part, set_number};
+ghost use Rattle.std.specs.Prelude.{◌≡◌, ◌<◌, ◌≤◌, ◌*◌, ◌+◌, ◌-◌, ◌/◌, ◌^◌, length, drop, fold};
+ghost use Rattle.record_store.specs.Marks.{mixed, word_of, words_mixed, hash_of, lower, zone_part, set_number};
 
-use dname::{LentName, Name};
+use dname::{LentName, Name, octets_from};
 
 // An odd number, as near to 2 ^ 64 over the golden ratio as one is.
 const FACTOR: u64 = 0x9E37_79B9_7F4A_7C15;
@@ -21,7 +21,7 @@ pub(crate) fn lent_set_number(zone: &LentName<'_>, owner: &LentName<'_>, rtype: 
     ensures { result ≡ set_number zone.now owner.now rtype }
 {
     let hash = mixed(hash_of(owner.wire()), u64::from(rtype));
-    zone_number(zone.wire()) + upper(hash)
+    zone_number(zone.wire()) + lower(hash)
 }
 
 /// The least number that a set of the zone may have.
@@ -34,22 +34,40 @@ pub(crate) fn first_of_zone(zone: &Name) -> u64
 
 // The same, of the apex's wire form.
 fn zone_number(apex: &[u8]) -> u64
-    ensures value { result ≡ upper (hash_of apex.now) * 2 ^ 32 }
+    ensures value { result ≡ lower (hash_of apex.now) * 2 ^ 32 }
     ensures room { result + 2 ^ 32 ≤ 2 ^ 64 }
 {
-    upper(hash_of(apex)) * HALF
+    lower(hash_of(apex)) * HALF
 }
 
-fn mixed(hash: u64, number: u64) -> u64
-    requires { number < 2 ^ 16 }
-    ensures { result ≡ mixed hash number }
-{
-    hash.wrapping_mul(FACTOR).wrapping_add(number + 1)
-}
-
+// Word by word, and then the last eight octets, which may overlap the word before them: one multiplication for eight octets.
 #[tactic(auto, unfolding(crate::specs::Marks::hash_of))]
 fn hash_of(octets: &[u8]) -> u64
     ensures { result ≡ hash_of octets.now }
+{
+    if octets.len() < 8 {
+        return short_hash(octets);
+    }
+    mixed(words_mixed(octets), last_word(octets))
+}
+
+// All whole words of eight octets.
+#[tactic(auto, using(crate::proofs::MarkLemmas::one_word))]
+fn words_mixed(octets: &[u8]) -> u64
+    ensures { result ≡ words_mixed (length octets.now / 8) octets.now 0 }
+{
+    let mut hash = 0;
+    let mut rest = octets;
+    while rest.len() >= 8 {
+        hash = mixed(hash, word_of(rest));
+        rest = octets_from(rest, 8);
+    }
+    hash
+}
+
+// Octet by octet, of fewer than eight.
+fn short_hash(octets: &[u8]) -> u64
+    ensures { result ≡ fold mixed 0 octets.now }
 {
     let mut hash = 0;
     for octet in octets {
@@ -58,9 +76,37 @@ fn hash_of(octets: &[u8]) -> u64
     hash
 }
 
-fn upper(hash: u64) -> u64
-    ensures value { result ≡ upper hash }
+// The last eight octets as one number.
+fn last_word(octets: &[u8]) -> u64
+    requires { 8 ≤ length octets.now }
+    ensures { result ≡ word_of (drop (length octets.now - 8) octets.now) }
+{
+    word_of(octets_from(octets, octets.len() - 8))
+}
+
+// The first eight octets as one number.
+fn word_of(octets: &[u8]) -> u64
+    requires { 8 ≤ length octets.now }
+    ensures { result ≡ word_of octets.now }
+{
+    u64::from_le_bytes([
+        octets[0], octets[1], octets[2], octets[3], octets[4], octets[5], octets[6], octets[7],
+    ])
+}
+
+// One number more. The upper half of the product, on which more of the bits tell, comes to lie below.
+#[tactic(auto, unfolding(crate::specs::Marks::mixed))]
+fn mixed(hash: u64, number: u64) -> u64
+    ensures { result ≡ mixed hash number }
+{
+    hash.wrapping_add(number)
+        .wrapping_mul(FACTOR)
+        .rotate_left(32)
+}
+
+fn lower(hash: u64) -> u64
+    ensures value { result ≡ lower hash }
     ensures small { result < 2 ^ 32 }
 {
-    hash / HALF % HALF
+    hash % HALF
 }
