@@ -1,5 +1,5 @@
 -- What shows of the adapters over std's network and clock.
-use Rattle.std.specs.Prelude.{ℕ, ◌+◌, ◌*◌, ◌^◌, ◌==◌, ◌&&◌, if◌then◌else◌}
+use Rattle.std.specs.Prelude.{ℕ, ◌+◌, ◌*◌, ◌^◌, ◌==◌, ◌&&◌, if◌then◌else◌, List, Option, Some, None}
 use Rattle.std.specs.Net.Addr.{ipv4_bits}
 use Rattle.std.specs.Net.Socket.{v4_ip, v4_port}
 use Rattle.std.specs.declared.net.socket_addr.SocketAddrV4.{SocketAddrV4}
@@ -41,3 +41,7 @@ link_upstream link = link.upstream
 
 abbrev pub link_faults : UdpLink → ℕ
 link_faults link = link.faults
+
+-- the octets of the upstream resolver's datagram that a link holds back, where it does
+abbrev pub held_back : UdpLink → Option (List ℕ)
+held_back link = if link.is_holding then Some link.held else None

@@ -54,8 +54,18 @@ impl DatagramOctets {
         &self.store[..self.len]
     }
 
-    /// Waits for a socket's next datagram, puts its octets in the place of these, and gives its
-    /// sender's address. What they are after a failed call is left open.
+    /// Puts other octets in the place of these.
+    pub(crate) fn set(&mut self, octets: &[u8])
+        requires { length octets.now ≤ 4096 }
+        ensures { self.new ≡ octets.now }
+    {
+        self.store[..octets.len()].copy_from_slice(octets);
+        self.len = octets.len();
+    }
+
+    /// Takes a socket's next datagram, puts its octets in the place of these, and gives its
+    /// sender's address. The socket's mode says whether it waits for one. What they are after a
+    /// failed call is left open.
     pub(crate) fn receive(&mut self, socket: &UdpSocket) -> io::Result<SocketAddr> {
         let (len, sender) = socket.recv_from(&mut self.store)?;
         self.len = len;

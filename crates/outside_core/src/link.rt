@@ -1,6 +1,6 @@
-ghost use Rattle.std.specs.Prelude.{◌≡◌, ℕ, ◌≤◌, List, length, Option, OnOk, OnErr};
+ghost use Rattle.std.specs.Prelude.{◌≡◌, ℕ, ◌≤◌, List, length, false, IsTrue, Option, OnOk, OnErr};
 ghost use Rattle.outside_core.specs.declared.datagram.Datagram.{Datagram as Carried};
-ghost use Rattle.outside_core.specs.Datagram.{datagram_of, one_more_told};
+ghost use Rattle.outside_core.specs.Datagram.{datagram_of, IsClient, one_more_told};
 ghost use Rattle.outside_core.specs.Fault.{HasCause};
 
 use crate::{Datagram, Failed, Peer};
@@ -33,6 +33,26 @@ pub trait Link {
         ensures port { port self.new ≡ port self.old }
         ensures upstream { upstream self.new ≡ upstream self.old }
         ensures cause { HasCause (faults self.old) (faults self.new) result };
+
+    /// Takes the next datagram into `into` where one has come already and a client sent it, without
+    /// waiting, and says whether it did. What `into` holds where none was taken is left open. A link
+    /// may always say that none has come, as this body does.
+    ///
+    /// What the upstream resolver sends is left to the next `receive`, where want of memory for it
+    /// can be reported. What fails is left to it too, which reports it if it lasts.
+    fn receive_waiting(&mut self, into: &mut Datagram) -> bool
+        ensures taken { IsTrue result →
+            received self.new ≡ one_more_told (received self.old) into.new }
+        ensures client { IsTrue result → IsClient into.new.peer }
+        ensures none { result ≡ false → received self.new ≡ received self.old }
+        ensures sent { sent self.new ≡ sent self.old }
+        ensures port { port self.new ≡ port self.old }
+        ensures upstream { upstream self.new ≡ upstream self.old }
+        ensures faults { faults self.new ≡ faults self.old }
+    {
+        let _into = into;
+        false
+    }
 
     /// Sends one datagram. That it arrives isn't said.
     fn send(&mut self, to: Peer, octets: &[u8]) -> Result<(), Failed>

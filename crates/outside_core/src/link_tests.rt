@@ -1,7 +1,8 @@
 // Links, harbors and clocks in memory, as generic callers see them.
-ghost use Rattle.std.specs.Prelude.{◌≡◌, Some, IfOk, OnOk};
+ghost use Rattle.std.specs.Prelude.{◌≡◌, List, length, ◌++◌, option_map, Some, IfOk, OnOk};
 ghost use Rattle.std.specs.List.{All};
-ghost use Rattle.outside_core.specs.Datagram.{one_more_told};
+ghost use Rattle.outside_core.specs.declared.datagram.Datagram.{Datagram as Carried};
+ghost use Rattle.outside_core.specs.Datagram.{one_more_told, IsClient};
 ghost use Rattle.outside_core.specs.MemoryLink.{IsFresh};
 ghost use Rattle.outside_core.specs.Returned.{unused, then_returned, TellsAtMost};
 
@@ -22,6 +23,24 @@ fn echo<R: Wait, L: Link>(rt: &R, link: &mut L, into: &mut Datagram) -> Result<(
 {
     link.receive(rt, into)?;
     link.send(into.peer, into.octets.as_slice())
+}
+
+// Takes what clients sent and waits already, at most 16 datagrams, and gives their number. `into`
+// has the last of them.
+pub(crate) fn drain<L: Link>(link: &mut L, into: &mut Datagram) -> usize
+    ensures received { (came : List Carried) × (length came ≡ result)
+        × All (λ (one : Carried). IsClient one.peer) came
+        × (L.received link.new ≡ option_map (λ before. before ++ came) (L.received link.old)) }
+    ensures sent { L.sent link.new ≡ L.sent link.old }
+    ensures port { L.port link.new ≡ L.port link.old }
+    ensures upstream { L.upstream link.new ≡ L.upstream link.old }
+    ensures faults { L.faults link.new ≡ L.faults link.old }
+{
+    let mut count = 0;
+    while count < 16 && link.receive_waiting(into) {
+        count += 1;
+    }
+    count
 }
 
 // Binds a link and hands it back at once.
@@ -83,6 +102,19 @@ fn a_link_fails_where_it_is_told_and_at_its_ends(rt: HostRuntime) -> Result<(), 
     assert_eq!(rt; sent.len(), 2);
     assert_eq!(rt; sent.first(), Some(&Datagram::of(Peer::Upstream, b"ask")));
     assert_eq!(rt; sent.last(), Some(&Datagram::of(Peer::Upstream, b"answer")));
+    Ok(())
+}
+
+#[test]
+fn of_a_link_in_memory_nothing_is_taken_without_waiting(rt: HostRuntime) -> Result<(), Fail> {
+    let alloc = rt.alloc();
+    let mut link = two_to_come(alloc, 0, Vec::new(alloc))?;
+    let mut held = Datagram::of(Peer::Upstream, b"");
+
+    assert_eq!(rt; drain(&mut link, &mut held), 0);
+    assert_eq!(rt; link.receive(&rt, &mut held), Ok(()));
+    assert_eq!(rt; held, Datagram::of(Peer::Client(7), b"question"));
+    assert_eq!(rt; drain(&mut link, &mut held), 0);
     Ok(())
 }
 

@@ -1,12 +1,16 @@
 //! Datagrams of the machine's own network, on 127.0.0.1.
-ghost use Rattle.std.specs.Prelude.{◌≡◌, ◌≤◌, ◌^◌, ◌↔◌, length, None, IsNone, IfSome, IfOk, OnErr};
+ghost use Rattle.std.specs.Prelude.{◌≡◌, ◌≤◌, ◌^◌, ◌↔◌, length, false, IsTrue, None, IsNone, IfSome, IsOk, IfOk, OnErr};
+ghost use Rattle.outside_core.specs.declared.datagram.Peer.TheVariants.{Upstream};
+ghost use Rattle.outside_core.specs.Datagram.{datagram_of, IsClient};
 ghost use Rattle.outside_core.specs.Fault.{next_count, HasCause, Rose};
-ghost use Rattle.outside_core.specs.Udp.{harbor_faults, link_port, link_upstream, link_faults, client_number, peer_number, peer_at};
+ghost use Rattle.outside_core.specs.Udp.{harbor_faults, link_port, link_upstream, link_faults, held_back, client_number, peer_number, peer_at};
 
-use crate::{Datagram, Failed, Harbor, Link, Peer};
-use std::net::{Ipv4Addr, Net, SocketAddr, SocketAddrV4, UdpSocket};
+use crate::{Datagram, DatagramOctets, Failed, Harbor, Link, Peer};
+use std::net::{Ipv4Addr, Net, SocketAddr, SocketAddrV4};
 use std::sync::Wait;
+use tap::Tap;
 
+mod tap;
 #[cfg(test)]
 mod tests;
 
@@ -43,13 +47,16 @@ impl<N: Net + Drop> Harbor for UdpHarbor<N> {
         // Beyond the trait.
         ensures counted { OnErr result (
             harbor_faults self.new ≡ next_count (harbor_faults self.old)) }
+        ensures none_held { IfOk result (λ link. held_back link ≡ None) }
     {
         match self.net.bind_udp(on_loopback(port)) {
             Ok(socket) => Ok(UdpLink {
-                socket,
+                tap: Tap::over(socket),
                 port,
                 upstream,
                 faults: 0,
+                held: DatagramOctets::of(b""),
+                is_holding: false,
             }),
             Err(_) => Err(Failed::counted(&mut self.faults)),
         }
@@ -75,15 +82,22 @@ impl<N: Net + Drop> Harbor for UdpHarbor<N> {
 /// What comes from 127.0.0.1 and the upstream port is from `Upstream`. What comes from elsewhere is
 /// from a `Client`, whose number is the IPv4 address times 65,536 plus the port.
 ///
+/// After a `receive_waiting` that finds nothing, where none since the last `receive` found one, the
+/// next fifteen don't look at the socket and answer that none has come.
+///
 /// When a call fails is left open, since nothing in std says so: it is where the socket's call
 /// fails, also where a signal interrupted that, where a client's number is none that a link gives,
 /// and where not all of a datagram was taken.
 #[derive(Debug, Drop)]
 pub struct UdpLink {
-    socket: UdpSocket,
+    tap: Tap,
     port: u16,
     upstream: u16,
     faults: u64,
+    // The upstream resolver's datagram that came where only a client's was wanted, while the link
+    // is holding one.
+    held: DatagramOctets,
+    is_holding: bool,
 }
 
 impl Link for UdpLink {
@@ -105,14 +119,49 @@ impl Link for UdpLink {
         // Beyond the trait.
         ensures counted { OnErr result
             (link_faults self.new ≡ next_count (link_faults self.old)) }
+        ensures held_first { IfSome (held_back self.old) (λ octets.
+            IsOk result × (into.new ≡ datagram_of Upstream octets)) }
+        ensures none_held { held_back self.new ≡ None }
     {
-        match into.octets.receive(&self.socket) {
+        if self.is_holding {
+            self.is_holding = false;
+            into.peer = Peer::Upstream;
+            into.octets.set(self.held.as_slice());
+            return Ok(());
+        }
+        match self.tap.receive(&mut into.octets) {
             Ok(SocketAddr::V4(address)) => {
                 into.peer = peer_of(address, self.upstream);
                 Ok(())
             }
             _ => Err(Failed::counted(&mut self.faults)),
         }
+    }
+
+    fn receive_waiting(&mut self, into: &mut Datagram) -> bool
+        ensures client { IsTrue result → IsClient into.new.peer }
+        ensures port { link_port self.new ≡ link_port self.old }
+        ensures upstream { link_upstream self.new ≡ link_upstream self.old }
+        ensures faults { link_faults self.new ≡ link_faults self.old }
+
+        // Beyond the trait.
+        ensures held_first { IfSome (held_back self.old) (λ _.
+            (result ≡ false) × (self.new ≡ self.old)) }
+        ensures held { IsNone (held_back self.old) → IfSome (held_back self.new) (λ octets.
+            (result ≡ false) × (into.new ≡ datagram_of Upstream octets)) }
+    {
+        if self.is_holding {
+            return false;
+        }
+        let Some(SocketAddr::V4(address)) = self.tap.receive_waiting(&mut into.octets) else {
+            return false;
+        };
+        into.peer = peer_of(address, self.upstream);
+        if into.peer == Peer::Upstream {
+            self.held.set(into.octets.as_slice());
+            self.is_holding = true;
+        }
+        !self.is_holding
     }
 
     fn send(&mut self, to: Peer, octets: &[u8]) -> Result<(), Failed>
@@ -126,7 +175,7 @@ impl Link for UdpLink {
             (link_faults self.new ≡ next_count (link_faults self.old)) }
     {
         let whole = match address_of(number_of(to, self.upstream)) {
-            Some(address) => send_to(&self.socket, octets, address),
+            Some(address) => self.tap.send_to(octets, address),
             None => false,
         };
         if whole {
@@ -134,14 +183,6 @@ impl Link for UdpLink {
         } else {
             Err(Failed::counted(&mut self.faults))
         }
-    }
-}
-
-// Sends a datagram, and tells whether all of it was taken.
-fn send_to(socket: &UdpSocket, octets: &[u8], address: SocketAddrV4) -> bool {
-    match socket.send_to(octets, address) {
-        Ok(count) => count == octets.len(),
-        Err(_) => false,
     }
 }
 

@@ -2,3 +2,4 @@ pub mod DoneLemmas
 pub mod TurnLemmas
 pub mod WorkerLemmas
 pub mod LinkLemmas
+pub mod RoundLemmas

@@ -17,6 +17,7 @@ use Rattle.resolver.specs.Pending.{Slot, empty_table}
 use Rattle.outside_core.specs.declared.datagram.Datagram.{Datagram}
 use Rattle.serving.specs.Done.{Done, IsDone}
 use Rattle.serving.specs.Serves.{IsKept, IsPlaced, Serves}
+use Rattle.serving.specs.Round.{left_by}
 use Rattle.serving.specs.Turn.{Turn, AreTurns, AreTurnsOf, IsInTurn, IsKeptAt, IsTurn, places_of}
 
 -- ---- more batches
@@ -41,11 +42,6 @@ turns_more seen journal table [] begins are = tt
 turns_more seen journal table (turn ∷ later) begins are = (turn_more seen journal table turn begins are.0, turns_more seen journal turn.done.table later begins are.1)
 
 -- ---- one more turn
-
--- the table that the turns leave
-abbrev pub left_by : List Slot → List Turn → List Slot
-left_by table [] = table
-left_by table (turn ∷ later) = left_by turn.done.table later
 
 pub left_push : (table : List Slot) (turns : List Turn) (turn : Turn) → left_by table (turns ++ turn ∷ []) ≡ turn.done.table
 left_push table [] turn = refl

@@ -21,8 +21,8 @@ use Rattle.serving.specs.Done.{done_as}
 use Rattle.serving.specs.Serves.{DoesServe, IsUnmoved, Serves}
 use Rattle.serving.specs.Turn.{Turn, AreTurnsOf, places_of, sent_by, sent_of}
 use Rattle.serving.specs.Worker.{HasServed, more_told}
-use Rattle.serving.specs.Next.{Takes, TakesAndSends, ReceivesNone, SendsNone, Loses, Stops}
-use Rattle.serving.proofs.TurnLemmas.{flat_push, left_by, left_push, no_turns, places_one_more, turn_of, turns_one_more}
+use Rattle.serving.specs.Round.{IsAtWork, IsSentInPart, left_by}
+use Rattle.serving.proofs.TurnLemmas.{flat_push, left_push, no_turns, places_one_more, turn_of, turns_one_more}
 
 -- ---- what is told
 
@@ -48,25 +48,10 @@ datagram_in turn = turn.datagram
 sent_push : (turns : List Turn) (turn : Turn) → sent_of (turns ++ turn ∷ []) ≡ sent_of turns ++ sent_by turn.done.deed turn.done.octets
 sent_push turns turn = flat_push (λ (t : Turn). sent_by t.done.deed t.done.octets) turns turn
 
-no_more : (received received' : Option (List Datagram)) (turns : List Turn) → received' ≡ more_told received (map datagram_in turns) → received' ≡ more_told received (map datagram_in turns ++ [])
-no_more received received' turns is = is ∙ ap (more_told received) (sym (append-nil (map datagram_in turns)))
-
 module _ {g : Ghosts Held Batch (Unit {0})} where
-  -- a worker has done so many datagrams, and has sent what they say
-  pub record HasTurned (count : ℕ) (moment : Option ℕ) (before now : Seat Held Batch (Unit {0}) g) (table : List Slot) (received received' sent sent' : Option (List Datagram)) : Type 0 where
-    pub turns : List Turn
-    pub many : length turns ≡ count
-    pub moments : IfSome moment (λ always. All (λ turn. turn.now ≡ always) turns)
-    pub begins : IsPrefix (seen_by before) (seen_by now)
-    pub placed : List ℕ
-    pub places : places_by now ≡ places_by before ++ placed
-    pub are : AreTurnsOf (length (seen_by before)) (seen_by now) placed turns
-    pub left : table ≡ left_by empty_table turns
-    pub received_are : received' ≡ more_told received (map datagram_in turns)
-    pub sent_are : sent' ≡ more_told sent (sent_of turns)
-
-  pub turned_none : (moment : Option ℕ) (seat : Seat Held Batch (Unit {0}) g) (table : List Slot) (received sent : Option (List Datagram)) → table ≡ empty_table → HasTurned 0 moment seat seat table received received sent sent
-  turned_none moment seat table received sent left = record {
+  -- nothing was done so far
+  pub none_done : (moment : Option ℕ) (seat : Seat Held Batch (Unit {0}) g) (table : List Slot) (received sent : Option (List Datagram)) → table ≡ empty_table → IsAtWork 0 moment seat seat table received received sent sent [] []
+  none_done moment seat table received sent left = record {
     turns = [];
     many = refl;
     moments = moments_none moment;
@@ -76,179 +61,162 @@ module _ {g : Ghosts Held Batch (Unit {0})} where
     are = no_turns (length (seen_by seat)) (seen_by seat);
     left = left;
     received_are = told_none received;
+    went = [];
     sent_are = told_none sent;
+    all = refl;
   }
 
-  -- one more datagram was done, whatever was sent of it
-  pub record OneMore (count : ℕ) (moment : Option ℕ) (before now after : Seat Held Batch (Unit {0}) g) (table table' : List Slot) (received received' received'' sent sent' : Option (List Datagram)) (turned : HasTurned count moment before now table received received' sent sent') (takes : Takes moment now after table table' received' received'') : Type 0 where
-    pub turn : Turn
-    pub done_is : turn.done ≡ takes.done
-    pub many : length (turned.turns ++ turn ∷ []) ≡ count + 1
-    pub moments : IfSome moment (λ always. All (λ t. t.now ≡ always) (turned.turns ++ turn ∷ []))
-    pub begins : IsPrefix (seen_by before) (seen_by after)
-    pub placed : List ℕ
-    pub places : places_by after ≡ places_by before ++ placed
-    pub are : AreTurnsOf (length (seen_by before)) (seen_by after) placed (turned.turns ++ turn ∷ [])
-    pub left : table' ≡ left_by empty_table (turned.turns ++ turn ∷ [])
-    pub received_are : received'' ≡ more_told received (map datagram_in (turned.turns ++ turn ∷ []))
+  -- datagrams came
+  pub some_came : (n : ℕ) (moment : Option ℕ) (before now : Seat Held Batch (Unit {0}) g) (table : List Slot) (received received' received'' sent sent' : Option (List Datagram)) (came due : List Datagram)
+      → received'' ≡ more_told received' came → IsAtWork n moment before now table received received' sent sent' [] due → IsAtWork n moment before now table received received'' sent sent' came due
+  some_came n moment before now table received received' received'' sent sent' came due is at = record {
+    turns = at.turns;
+    many = at.many;
+    moments = at.moments;
+    begins = at.begins;
+    placed = at.placed;
+    places = at.places;
+    are = at.are;
+    left = at.left;
+    received_are =
+        is ∙ ap (λ o. more_told o came) at.received_are ∙ told_more received (map datagram_in at.turns ++ []) came
+        ∙ ap (λ l. more_told received (l ++ came)) (append-nil (map datagram_in at.turns));
+    went = at.went;
+    sent_are = at.sent_are;
+    all = at.all;
+  }
 
-  pub one_more : (count : ℕ) (moment : Option ℕ) (before now after : Seat Held Batch (Unit {0}) g) (table table' : List Slot) (received received' received'' sent sent' : Option (List Datagram)) (turned : HasTurned count moment before now table received received' sent sent') (takes : Takes moment now after table table' received' received'')
-      → OneMore count moment before now after table table' received received' received'' sent sent' turned takes
-  one_more count moment before now after table table' received received' received'' sent sent' turned takes =
-      let begun = left_by empty_table turned.turns in
-      let serves : Serves takes.now now after begun takes.datagram takes.done = subst (λ t. Serves takes.now now after t takes.datagram takes.done) turned.left takes.serves in
-      let turn = turn_of takes.now now after begun takes.datagram takes.done serves in
+  -- the first of those ahead was done
+  pub one_done : (n : ℕ) (moment : Option ℕ) (before now after : Seat Held Batch (Unit {0}) g) (table table' : List Slot) (received received' sent sent' : Option (List Datagram)) (datagram : Datagram) (ahead due : List Datagram) (at_moment : ℕ) (deed : Deed) (octets : List ℕ)
+      → IfSome moment (λ always. at_moment ≡ always) → DoesServe at_moment now after table datagram deed octets table' → IsAtWork n moment before now table received received' sent sent' (datagram ∷ ahead) due
+      → IsAtWork (n + 1) moment before after table' received received' sent sent' ahead (due ++ sent_by deed octets)
+  one_done n moment before now after table table' received received' sent sent' datagram ahead due at_moment deed octets moment_is does at =
+      let begun = left_by empty_table at.turns in
+      let done = done_as deed octets table' does.0 in
+      let serves : Serves at_moment now after begun datagram done = subst (λ t. Serves at_moment now after t datagram done) at.left does.1 in
+      let turn = turn_of at_moment now after begun datagram done serves in
       record {
-        turn = turn;
-        done_is = refl;
-        many = length-append turned.turns (turn ∷ []) ∙ ap (λ n. n + 1) turned.many;
-        moments = moments_push moment turned.turns turn turned.moments takes.moment_is;
-        begins = prefix_trans (seen_by before) (seen_by now) (seen_by after) turned.begins serves.begins;
-        placed = turned.placed ++ places_of turn;
-        places = places_one_more takes.now now after begun takes.datagram takes.done serves ∙ ap (λ l. l ++ places_of turn) turned.places ∙ append_assoc (places_by before) turned.placed (places_of turn);
-        are = turns_one_more (length (seen_by before)) takes.now now after turned.placed turned.turns takes.datagram takes.done (prefix_length (seen_by before) (seen_by now) turned.begins) serves turned.are;
-        left = takes.left ∙ sym (left_push empty_table turned.turns turn);
+        turns = at.turns ++ turn ∷ [];
+        many = length-append at.turns (turn ∷ []) ∙ ap (λ k. k + 1) at.many;
+        moments = moments_push moment at.turns turn at.moments moment_is;
+        begins = prefix_trans (seen_by before) (seen_by now) (seen_by after) at.begins serves.begins;
+        placed = at.placed ++ places_of turn;
+        places = places_one_more at_moment now after begun datagram done serves ∙ ap (λ l. l ++ places_of turn) at.places ∙ append_assoc (places_by before) at.placed (places_of turn);
+        are = turns_one_more (length (seen_by before)) at_moment now after at.placed at.turns datagram done (prefix_length (seen_by before) (seen_by now) at.begins) serves at.are;
+        left = sym (left_push empty_table at.turns turn);
         received_are =
-            takes.received_is ∙ ap (λ o. more_told o (takes.datagram ∷ [])) turned.received_are ∙ told_more received (map datagram_in turned.turns) (takes.datagram ∷ [])
-            ∙ ap (more_told received) (sym (map-append datagram_in turned.turns (turn ∷ [])));
+            at.received_are
+            ∙ ap (more_told received)
+            (sym (append_assoc (map datagram_in at.turns) (datagram ∷ []) ahead) ∙ ap (λ l. l ++ ahead) (sym (map-append datagram_in at.turns (turn ∷ []))));
+        went = at.went;
+        sent_are = at.sent_are;
+        all = sym (append_assoc at.went due (sent_by deed octets)) ∙ ap (λ l. l ++ sent_by deed octets) at.all ∙ sym (sent_push at.turns turn);
       }
 
-  -- and all that it sends was sent
-  pub turned_more : (count : ℕ) (moment : Option ℕ) (before now after : Seat Held Batch (Unit {0}) g) (table table' : List Slot) (received received' received'' sent sent' sent'' : Option (List Datagram))
-      → HasTurned count moment before now table received received' sent sent' → TakesAndSends moment now after table table' received' received'' sent' sent''
-      → HasTurned (count + 1) moment before after table' received received'' sent sent''
-  turned_more count moment before now after table table' received received' received'' sent sent' sent'' turned both =
-      let more = one_more count moment before now after table table' received received' received'' sent sent' turned both.takes in
-      record {
-        turns = turned.turns ++ more.turn ∷ [];
-        many = more.many;
-        moments = more.moments;
-        begins = more.begins;
-        placed = more.placed;
-        places = more.places;
-        are = more.are;
-        left = more.left;
-        received_are = more.received_are;
-        sent_are =
-            both.sent_is ∙ ap (λ o. more_told o (sent_by both.takes.done.deed both.takes.done.octets)) turned.sent_are
-            ∙ told_more sent (sent_of turned.turns) (sent_by both.takes.done.deed both.takes.done.octets)
-            ∙ ap (λ d. more_told sent (sent_of turned.turns ++ sent_by d.deed d.octets)) (sym more.done_is)
-            ∙ ap (more_told sent) (sym (sent_push turned.turns more.turn));
-      }
+  -- all that was due was sent
+  pub all_sent : (n : ℕ) (moment : Option ℕ) (before now : Seat Held Batch (Unit {0}) g) (table : List Slot) (received received' sent sent' sent'' : Option (List Datagram)) (due : List Datagram)
+      → sent'' ≡ more_told sent' due → IsAtWork n moment before now table received received' sent sent' [] due → IsAtWork n moment before now table received received' sent sent'' [] []
+  all_sent n moment before now table received received' sent sent' sent'' due is at = record {
+    turns = at.turns;
+    many = at.many;
+    moments = at.moments;
+    begins = at.begins;
+    placed = at.placed;
+    places = at.places;
+    are = at.are;
+    left = at.left;
+    received_are = at.received_are;
+    went = at.went ++ due;
+    sent_are = is ∙ ap (λ o. more_told o due) at.sent_are ∙ told_more sent at.went due;
+    all = append-nil (at.went ++ due) ∙ at.all;
+  }
 
   -- ---- how it ends
 
-  pub served_all : (datagrams count : ℕ) (moment : Option ℕ) (before after : Seat Held Batch (Unit {0}) g) (table : List Slot) (received received' sent sent' : Option (List Datagram))
-      → count ≡ datagrams → HasTurned count moment before after table received received' sent sent' → HasServed datagrams moment before after received received' sent sent' (Ok tt)
-  served_all datagrams count moment before after table received received' sent sent' all turned = record {
-    turns = turned.turns;
-    moments = turned.moments;
-    begins = turned.begins;
-    placed = turned.placed;
-    places = turned.places;
-    are = turned.are;
+  pub served_all : (datagrams n : ℕ) (moment : Option ℕ) (before after : Seat Held Batch (Unit {0}) g) (table : List Slot) (received received' sent sent' : Option (List Datagram))
+      → n ≡ datagrams → IsAtWork n moment before after table received received' sent sent' [] [] → HasServed datagrams moment before after received received' sent sent' (Ok tt)
+  served_all datagrams n moment before after table received received' sent sent' whole at = record {
+    turns = at.turns;
+    moments = at.moments;
+    begins = at.begins;
+    placed = at.placed;
+    places = at.places;
+    are = at.are;
     lost = [];
-    received_are = no_more received received' turned.turns turned.received_are;
-    went = sent_of turned.turns;
-    sent_are = turned.sent_are;
-    ends = (turned.many ∙ all, refl, refl);
+    received_are = at.received_are;
+    went = at.went;
+    sent_are = at.sent_are;
+    ends = (at.many ∙ whole, refl, sym (append-nil at.went) ∙ at.all);
   }
+
+  -- no datagram came
+  pub stopped_before : (datagrams n : ℕ) (moment : Option ℕ) (before after : Seat Held Batch (Unit {0}) g) (table : List Slot) (received received' received'' sent sent' sent'' : Option (List Datagram))
+      → n + 1 ≤ datagrams → received'' ≡ received' → sent'' ≡ sent' → IsAtWork n moment before after table received received' sent sent' [] []
+      → HasServed datagrams moment before after received received'' sent sent'' (Err Link)
+  stopped_before datagrams n moment before after table received received' received'' sent sent' sent'' fewer received_same sent_same at =
+      let whole : at.went ≡ sent_of at.turns = sym (append-nil at.went) ∙ at.all in
+      record {
+        turns = at.turns;
+        moments = at.moments;
+        begins = at.begins;
+        placed = at.placed;
+        places = at.places;
+        are = at.are;
+        lost = [];
+        received_are = received_same ∙ at.received_are;
+        went = at.went;
+        sent_are = sent_same ∙ at.sent_are;
+        ends = (omega (arith, fewer, at.many), refl, ([], at.all), inl (omega (arith, fewer, at.many)));
+      }
+
+  -- not all was sent
+  pub stopped_after : (datagrams n : ℕ) (moment : Option ℕ) (before after : Seat Held Batch (Unit {0}) g) (table : List Slot) (received received' sent sent' sent'' : Option (List Datagram)) (due : List Datagram)
+      → n ≤ datagrams → IsSentInPart due sent' sent'' → IsAtWork n moment before after table received received' sent sent' [] due
+      → HasServed datagrams moment before after received received' sent sent'' (Err Link)
+  stopped_after datagrams n moment before after table received received' sent sent' sent'' due few part at =
+      let whole : (at.went ++ part.went) ++ part.rest ≡ sent_of at.turns =
+      append_assoc at.went part.went part.rest ∙ ap (λ l. at.went ++ l) part.all ∙ at.all in
+      record {
+        turns = at.turns;
+        moments = at.moments;
+        begins = at.begins;
+        placed = at.placed;
+        places = at.places;
+        are = at.are;
+        lost = [];
+        received_are = at.received_are;
+        went = at.went ++ part.went;
+        sent_are = part.sent_are ∙ ap (λ o. more_told o part.went) at.sent_are ∙ told_more sent at.went part.went;
+        ends = (
+          omega (arith, few, at.many),
+          refl,
+          (part.rest, whole),
+          inr (omega (arith, part.some, ap length whole, length-append (at.went ++ part.went) part.rest)),
+        );
+      }
 
   seen_same : (before after : Seat Held Batch (Unit {0}) g) → kept_by after ≡ kept_by before → seen_by after ≡ seen_by before
   seen_same before after same = ap journal_of same
 
-  -- the seat keeps its version and its places
-  stays : (count : ℕ) (moment : Option ℕ) (before now after : Seat Held Batch (Unit {0}) g) (table : List Slot) (received received' sent sent' : Option (List Datagram))
-      → IsUnmoved now after → HasTurned count moment before now table received received' sent sent' → HasTurned count moment before after table received received' sent sent'
-  stays count moment before now after table received received' sent sent' unmoved turned = record {
-    turns = turned.turns;
-    many = turned.many;
-    moments = turned.moments;
-    begins = subst (IsPrefix (seen_by before)) (sym (seen_same now after unmoved.0)) turned.begins;
-    placed = turned.placed;
-    places = unmoved.1 ∙ turned.places;
-    are = subst (λ l. AreTurnsOf (length (seen_by before)) l turned.placed turned.turns) (sym (seen_same now after unmoved.0)) turned.are;
-    left = turned.left;
-    received_are = turned.received_are;
-    sent_are = turned.sent_are;
+  -- there was no memory for the one that came
+  pub stopped_at : (datagrams n : ℕ) (moment : Option ℕ) (before now after : Seat Held Batch (Unit {0}) g) (table : List Slot) (received received' sent sent' : Option (List Datagram)) (ahead : List Datagram)
+      → n + length ahead ≤ datagrams → length ahead ≡ 1 → IsUnmoved now after → IsAtWork n moment before now table received received' sent sent' ahead []
+      → HasServed datagrams moment before after received received' sent sent' (Err OutOfMemory)
+  stopped_at datagrams n moment before now after table received received' sent sent' ahead few one unmoved at = record {
+    turns = at.turns;
+    moments = at.moments;
+    begins = subst (IsPrefix (seen_by before)) (sym (seen_same now after unmoved.0)) at.begins;
+    placed = at.placed;
+    places = unmoved.1 ∙ at.places;
+    are = subst (λ l. AreTurnsOf (length (seen_by before)) l at.placed at.turns) (sym (seen_same now after unmoved.0)) at.are;
+    lost = ahead;
+    received_are = at.received_are;
+    went = at.went;
+    sent_are = at.sent_are;
+    ends = (omega (arith, few, at.many), omega (arith, one), sym (append-nil at.went) ∙ at.all);
   }
 
-  stopped_before : (datagrams count : ℕ) (moment : Option ℕ) (before now after : Seat Held Batch (Unit {0}) g) (table : List Slot) (received received' received'' sent sent' sent'' : Option (List Datagram))
-      → count < datagrams → HasTurned count moment before now table received received' sent sent' → ReceivesNone now after received' received'' sent' sent''
-      → HasServed datagrams moment before after received received'' sent sent'' (Err Link)
-  stopped_before datagrams count moment before now after table received received' received'' sent sent' sent'' fewer turned none =
-      let same = stays count moment before now after table received received' sent sent' none.unmoved turned in
-      record {
-        turns = same.turns;
-        moments = same.moments;
-        begins = same.begins;
-        placed = same.placed;
-        places = same.places;
-        are = same.are;
-        lost = [];
-        received_are = no_more received received'' same.turns (none.received_is ∙ same.received_are);
-        went = sent_of same.turns;
-        sent_are = none.sent_is ∙ same.sent_are;
-        ends = (omega (arith, fewer, same.many), refl, prefix_self (sent_of same.turns), inl (omega (arith, fewer, same.many)));
-      }
-
-  stopped_after : (datagrams count : ℕ) (moment : Option ℕ) (before now after : Seat Held Batch (Unit {0}) g) (table table' : List Slot) (received received' received'' sent sent' sent'' : Option (List Datagram))
-      → count < datagrams → HasTurned count moment before now table received received' sent sent' → SendsNone moment now after table table' received' received'' sent' sent''
-      → HasServed datagrams moment before after received received'' sent sent'' (Err Link)
-  stopped_after datagrams count moment before now after table table' received received' received'' sent sent' sent'' fewer turned none =
-      let more = one_more count moment before now after table table' received received' received'' sent sent' turned none.takes in
-      let due = sent_by more.turn.done.deed more.turn.done.octets in
-      let some : 1 ≤ length due = subst (λ d. 1 ≤ length (sent_by d.deed d.octets)) (sym more.done_is) none.some in
-      let whole = sent_push turned.turns more.turn in
-      record {
-        turns = turned.turns ++ more.turn ∷ [];
-        moments = more.moments;
-        begins = more.begins;
-        placed = more.placed;
-        places = more.places;
-        are = more.are;
-        lost = [];
-        received_are = no_more received received'' (turned.turns ++ more.turn ∷ []) more.received_are;
-        went = sent_of turned.turns;
-        sent_are = none.sent_is ∙ turned.sent_are;
-        ends = (
-          omega (arith, fewer, more.many),
-          refl,
-          (due, sym whole),
-          inr (omega (arith, some, ap length whole, length-append (sent_of turned.turns) due)),
-        );
-      }
-
-  stopped_at : (datagrams count : ℕ) (moment : Option ℕ) (before now after : Seat Held Batch (Unit {0}) g) (table : List Slot) (received received' received'' sent sent' sent'' : Option (List Datagram))
-      → count < datagrams → HasTurned count moment before now table received received' sent sent' → Loses now after received' received'' sent' sent''
-      → HasServed datagrams moment before after received received'' sent sent'' (Err OutOfMemory)
-  stopped_at datagrams count moment before now after table received received' received'' sent sent' sent'' fewer turned loses =
-      let same = stays count moment before now after table received received' sent sent' loses.unmoved turned in
-      record {
-        turns = same.turns;
-        moments = same.moments;
-        begins = same.begins;
-        placed = same.placed;
-        places = same.places;
-        are = same.are;
-        lost = loses.datagram ∷ [];
-        received_are = loses.received_is ∙ ap (λ o. more_told o (loses.datagram ∷ [])) same.received_are ∙ told_more received (map datagram_in same.turns) (loses.datagram ∷ []);
-        went = sent_of same.turns;
-        sent_are = loses.sent_is ∙ same.sent_are;
-        ends = (omega (arith, fewer, same.many), omega arith, refl);
-      }
-
-  pub stopped : (datagrams count : ℕ) (moment : Option ℕ) (before now after : Seat Held Batch (Unit {0}) g) (table table' : List Slot) (received received' received'' sent sent' sent'' : Option (List Datagram)) (fault : ServeFault)
-      → count < datagrams → HasTurned count moment before now table received received' sent sent' → Stops moment now after table table' received' received'' sent' sent'' fault
-      → HasServed datagrams moment before after received received'' sent sent'' (Err fault)
-  stopped datagrams count moment before now after table table' received received' received'' sent sent' sent'' Link fewer turned (inl none) =
-      stopped_before datagrams count moment before now after table received received' received'' sent sent' sent'' fewer turned none
-  stopped datagrams count moment before now after table table' received received' received'' sent sent' sent'' Link fewer turned (inr none) =
-      stopped_after datagrams count moment before now after table table' received received' received'' sent sent' sent'' fewer turned none
-  stopped datagrams count moment before now after table table' received received' received'' sent sent' sent'' OutOfMemory fewer turned loses =
-      stopped_at datagrams count moment before now after table received received' received'' sent sent' sent'' fewer turned loses
-
-  -- there was no memory for the table
+  -- there was no memory for the desk
   pub never_began : (datagrams : ℕ) (moment : Option ℕ) (seat : Seat Held Batch (Unit {0}) g) (received sent : Option (List Datagram)) → HasServed datagrams moment seat seat received received sent sent (Err OutOfMemory)
   never_began datagrams moment seat received sent = record {
     turns = [];
@@ -264,40 +232,7 @@ module _ {g : Ghosts Held Batch (Unit {0})} where
     ends = (omega arith, omega arith, refl);
   }
 
--- ---- the next datagram
-
 -- what an error says
 pub if_err : {T E : Type 0} (Q P : E → Type 0) (r : Result T E) → IsErrAnd r Q → ((e : E) → Q e → P e) → IfErr r P
 if_err Q P (Ok x) is f = absurd is
 if_err Q P (Err e) is f = f e is
-
-module _ {g : Ghosts Held Batch (Unit {0})} where
-  abbrev pub takes_of : (moment : Option ℕ) (before after : Seat Held Batch (Unit {0}) g) (table table' : List Slot) (received received' : Option (List Datagram)) (datagram : Datagram) (now : ℕ) (deed : Deed) (octets : List ℕ)
-      → IfSome moment (λ always. now ≡ always) → DoesServe now before after table datagram deed octets table' → received' ≡ more_told received (datagram ∷ [])
-      → Takes moment before after table table' received received'
-  takes_of moment before after table table' received received' datagram now deed octets moment_is does received_is = record {
-    datagram = datagram;
-    now = now;
-    done = done_as deed octets table' does.0;
-    moment_is = moment_is;
-    serves = does.1;
-    left = refl;
-    received_is = received_is;
-  }
-
-  pub next_sent : (moment : Option ℕ) (before after : Seat Held Batch (Unit {0}) g) (table table' : List Slot) (received received' sent sent' : Option (List Datagram)) (datagram : Datagram) (now : ℕ) (deed : Deed) (octets : List ℕ)
-      → IfSome moment (λ always. now ≡ always) → DoesServe now before after table datagram deed octets table' → received' ≡ more_told received (datagram ∷ []) → sent' ≡ more_told sent (sent_by deed octets)
-      → TakesAndSends moment before after table table' received received' sent sent'
-  next_sent moment before after table table' received received' sent sent' datagram now deed octets moment_is does received_is sent_is = record {
-    takes = takes_of moment before after table table' received received' datagram now deed octets moment_is does received_is;
-    sent_is = sent_is;
-  }
-
-  pub next_unsent : (moment : Option ℕ) (before after : Seat Held Batch (Unit {0}) g) (table table' : List Slot) (received received' sent sent' : Option (List Datagram)) (datagram : Datagram) (now : ℕ) (deed : Deed) (octets : List ℕ)
-      → IfSome moment (λ always. now ≡ always) → DoesServe now before after table datagram deed octets table' → received' ≡ more_told received (datagram ∷ []) → 1 ≤ length (sent_by deed octets) → sent' ≡ sent
-      → Stops moment before after table table' received received' sent sent' Link
-  next_unsent moment before after table table' received received' sent sent' datagram now deed octets moment_is does received_is some sent_is = inr (record {
-    takes = takes_of moment before after table table' received received' datagram now deed octets moment_is does received_is;
-    some = some;
-    sent_is = sent_is;
-  })

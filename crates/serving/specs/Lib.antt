@@ -2,5 +2,5 @@ pub mod Done
 pub mod Serves
 pub mod Turn
 pub mod Worker
-pub mod Next
+pub mod Round
 pub mod Links

@@ -46,6 +46,7 @@ pub fn serve_datagram<R: Wait>(
         DoesServe now seat.old seat.new core.old datagram.now deed out.new core.new) }
 
     // After want of memory.
+    ensures upstream { OnErr result (datagram.now.peer ≡ Upstream) }
     ensures empty { OnErr result (out.new ≡ []) }
     ensures unmoved { OnErr result (IsUnmoved seat.old seat.new) }
     ensures table { OnErr result (IsLeft core.old datagram.now.octets core.new) }

@@ -1,13 +1,16 @@
 //! One worker of a forwarder that denies from the cache: what one datagram does, and what a worker does over its link.
 //!
-//! Of this crate's specs read `specs/Done.antt`, `Serves`, `Turn`, `Worker` and `Links`, in this order; `Next` serves the inner
+//! Of this crate's specs read `specs/Done.antt`, `Serves`, `Turn`, `Worker` and `Links`, in this order; `Round` serves the inner
 //! steps.
 #![tactic(auto)]
 
 mod answer;
 mod datagram;
 mod deed;
+mod desk;
 mod laws;
+mod parts;
+mod round;
 mod serve_fault;
 mod storing;
 mod why;

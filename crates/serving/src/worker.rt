@@ -1,29 +1,24 @@
 //! One worker over its link.
-ghost use Rattle.std.specs.Prelude.{◌≡◌, ◌≤◌, length, IfErr, OnOk, OnErr};
+ghost use Rattle.std.specs.Prelude.{◌≡◌, ◌≤◌, length, IfOk, IfErr, Err};
 ghost use Rattle.cache_versions.specs.Seats.{number_by};
 ghost use Rattle.resolver.specs.Caches.{IsSeatOf};
-ghost use Rattle.outside_core.specs.Fault.{HasCause};
-ghost use Rattle.serving.specs.Turn.{sent_by};
-ghost use Rattle.serving.specs.Next.{TakesAndSends, Stops};
-ghost use Rattle.serving.specs.Worker.{HasServed, HasFaults, more_told};
+ghost use Rattle.serving.specs.declared.desk.TheConstants.{AT_ONCE};
+ghost use Rattle.serving.specs.Round.{Halts, WorksOn};
+ghost use Rattle.serving.specs.Worker.{HasServed, HasFaults};
 
-use crate::{Deed, ServeFault, serve_datagram};
-use outside_core::{Clock, Datagram, Failed, Link, Peer};
-use reply_core::ReplyBuffer;
-use resolver::{CacheSeat, SharedCache, WorkerCore};
+use crate::ServeFault;
+use crate::desk::Desk;
+use crate::parts::first;
+use crate::round::{do_all, receive_some, send_all};
+use outside_core::{Clock, Link};
+use resolver::{CacheSeat, SharedCache};
 use std::alloc::Global;
 use std::sync::Wait;
 
-// What a worker has at hand: the queries that wait, the datagram that came last, and what is sent for it.
-#[derive(Drop)]
-pub(crate) struct Desk {
-    pub(crate) core: WorkerCore,
-    pub(crate) datagram: Datagram,
-    pub(crate) out: ReplyBuffer,
-}
-
-/// Receives so many datagrams, does each at the moment that the clock tells, and sends what is to be sent before it receives
-/// the next. No query waits at first. It stops at the first fault; what was received, sent and stored before stays.
+/// Receives so many datagrams, does each at a moment that the clock tells, and sends what is to be sent. Datagrams of clients
+/// that have come together are all received before the first is done, and all done before anything is sent, sixteen at most; one of
+/// the upstream is done alone. No query waits at first. It stops at the first fault; what was received, sent and stored before
+/// stays.
 pub fn serve_worker<R: Wait, L: Link, C: Clock>(
     rt: &R,
     alloc: Global,
@@ -43,21 +38,15 @@ pub fn serve_worker<R: Wait, L: Link, C: Clock>(
         (L.Link.received link.old) (L.Link.received link.new)
         (L.Link.sent link.old) (L.Link.sent link.new) result }
 {
-    let core = WorkerCore::new(alloc)?;
-    let datagram = Datagram::of(Peer::Upstream, &[]);
-    let out = ReplyBuffer::new();
-    let mut desk = Desk {
-        core,
-        datagram,
-        out,
-    };
-    for _ in 0..datagrams {
-        serve_next(rt, alloc, cache, seat, link, clock, &mut desk)?;
+    let mut desk = Desk::new(alloc)?;
+    let mut left = datagrams as usize;
+    while left > 0 {
+        left -= serve_next(rt, alloc, cache, seat, link, clock, &mut desk, left)?;
     }
     Ok(())
 }
 
-// Receives the next datagram, does it and sends what it says.
+// Receives the next datagram, or some that came together, so many at most, does them and sends what they say. How many these were.
 fn serve_next<R: Wait, L: Link, C: Clock>(
     rt: &R,
     alloc: Global,
@@ -66,49 +55,43 @@ fn serve_next<R: Wait, L: Link, C: Clock>(
     link: &mut L,
     clock: &C,
     desk: &mut Desk,
-) -> Result<(), ServeFault>
-    requires { IsSeatOf cache.now seat.old }
+    most: usize,
+) -> Result<usize, ServeFault>
+    requires object { IsSeatOf cache.now seat.old }
+    requires some { 1 ≤ most }
+    requires datagrams { length desk.old.datagrams.items ≡ AT_ONCE }
+    requires answers { length desk.old.answers.items ≡ AT_ONCE }
     ensures object { IsSeatOf cache.now seat.new }
     ensures number { number_by seat.new ≡ number_by seat.old }
+    ensures datagrams { length desk.new.datagrams.items ≡ AT_ONCE }
+    ensures answers { length desk.new.answers.items ≡ AT_ONCE }
     ensures port { L.Link.port link.new ≡ L.Link.port link.old }
     ensures upstream { L.Link.upstream link.new ≡ L.Link.upstream link.old }
-    ensures faults { HasFaults (L.Link.faults link.old) (L.Link.faults link.new) result }
-    ensures takes { OnOk result (TakesAndSends (C.Clock.moment clock.now) seat.old seat.new
-        desk.old.core desk.new.core (L.Link.received link.old) (L.Link.received link.new)
+    ensures some { IfOk result (λ count. 1 ≤ count) }
+    ensures most { IfOk result (λ count. count ≤ most) }
+    ensures unfailing { IfOk result (λ _. L.Link.faults link.new ≡ L.Link.faults link.old) }
+    ensures faults { IfErr result (λ fault.
+        HasFaults (L.Link.faults link.old) (L.Link.faults link.new) (Err fault)) }
+    ensures works { IfOk result (λ count. WorksOn count (C.Clock.moment clock.now)
+        seat.old seat.new desk.old.core desk.new.core
+        (L.Link.received link.old) (L.Link.received link.new)
         (L.Link.sent link.old) (L.Link.sent link.new)) }
-    ensures stops { IfErr result (Stops (C.Clock.moment clock.now) seat.old seat.new
-        desk.old.core desk.new.core (L.Link.received link.old) (L.Link.received link.new)
+    ensures halts { IfErr result (Halts most (C.Clock.moment clock.now)
+        seat.old seat.new desk.old.core
+        (L.Link.received link.old) (L.Link.received link.new)
         (L.Link.sent link.old) (L.Link.sent link.new)) }
 {
-    link.receive(rt, &mut desk.datagram)?;
-    let deed = serve_datagram(
+    let count = receive_some(rt, link, &mut desk.datagrams, most)?;
+    do_all(
         rt,
         alloc,
         cache,
         seat,
+        clock,
         &mut desk.core,
-        &desk.datagram,
-        clock.now(),
-        &mut desk.out,
+        first(&desk.datagrams, count),
+        &mut desk.answers,
     )?;
-    send(link, deed, &desk.out)?;
-    Ok(())
-}
-
-// Sends the octets to whom the deed says.
-fn send<L: Link>(link: &mut L, deed: Deed, out: &ReplyBuffer) -> Result<(), Failed>
-    ensures sent { OnOk result (L.Link.sent link.new
-        ≡ more_told (L.Link.sent link.old) (sent_by deed out.now)) }
-    ensures failed_sent { OnErr result (L.Link.sent link.new ≡ L.Link.sent link.old) }
-    ensures some { OnErr result (1 ≤ length (sent_by deed out.now)) }
-    ensures received { L.Link.received link.new ≡ L.Link.received link.old }
-    ensures port { L.Link.port link.new ≡ L.Link.port link.old }
-    ensures upstream { L.Link.upstream link.new ≡ L.Link.upstream link.old }
-    ensures cause { HasCause (L.Link.faults link.old) (L.Link.faults link.new) result }
-{
-    match deed {
-        Deed::Quiet | Deed::Ignored => Ok(()),
-        Deed::ToUpstream => link.send(Peer::Upstream, out.as_slice()),
-        Deed::ToClient { client, why: _ } => link.send(Peer::Client(client), out.as_slice()),
-    }
+    send_all(link, first(&desk.answers, count))?;
+    Ok(count)
 }

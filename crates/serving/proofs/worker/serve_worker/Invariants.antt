@@ -1,16 +1,23 @@
-use Rattle.std.proofs.Common.{◌≡◌}
+use Rattle.std.proofs.Common.{◌≡◌, ◌-◌, ◌≤◌, [], length}
 use Rattle.cache_versions.specs.Seats.{number_by}
 use Rattle.resolver.specs.Caches.{IsSeatOf}
-use Rattle.serving.proofs.WorkerLemmas.{HasTurned}
+use Rattle.serving.specs.declared.desk.TheConstants.{AT_ONCE}
+use Rattle.serving.specs.Round.{IsAtWork}
 use Rattle.serving.proofs.worker.serve_worker.Given as goal
 
-abbrev pub invariant-loop : goal.invariant-loop
-invariant-loop g l = record {
+abbrev pub invariant-loop-left : goal.invariant-loop-left
+invariant-loop-left g l = record {
   object : IsSeatOf l.cache l.seat;
-  number : number_by l.seat ≡ number_by l.initial.seat;
-  port : g.L.Link.port l.link ≡ g.L.Link.port l.initial.link;
-  upstream : g.L.Link.upstream l.link ≡ g.L.Link.upstream l.initial.link;
-  faults : g.L.Link.faults l.link ≡ g.L.Link.faults l.initial.link;
-  turned : HasTurned l.counter (g.C.Clock.moment l.clock) l.initial.seat l.seat l.desk.core
-      (g.L.Link.received l.initial.link) (g.L.Link.received l.link) (g.L.Link.sent l.initial.link) (g.L.Link.sent l.link);
+  number : number_by l.seat ≡ number_by l.fn.seat;
+  datagrams : length l.desk.datagrams.items ≡ AT_ONCE;
+  answers : length l.desk.answers.items ≡ AT_ONCE;
+  port : g.L.Link.port l.link ≡ g.L.Link.port l.fn.link;
+  upstream : g.L.Link.upstream l.link ≡ g.L.Link.upstream l.fn.link;
+  faults : g.L.Link.faults l.link ≡ g.L.Link.faults l.fn.link;
+  few : l.left ≤ l.datagrams;
+  at : IsAtWork (l.datagrams - l.left) (g.C.Clock.moment l.clock) l.fn.seat l.seat l.desk.core
+      (g.L.Link.received l.fn.link) (g.L.Link.received l.link) (g.L.Link.sent l.fn.link) (g.L.Link.sent l.link) [] [];
 }
+
+abbrev pub decreases-loop-left : goal.decreases-loop-left
+decreases-loop-left g l = l.left
