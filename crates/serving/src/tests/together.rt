@@ -1,5 +1,5 @@
 //! A worker whose datagrams have come together: all of clients are received, then done, then answered, in their order.
-ghost use Rattle.std.specs.Prelude.{None};
+ghost use Rattle.std.specs.Prelude.{◌≡◌, None};
 ghost use Rattle.outside_core.specs.Fault.{Rose};
 ghost use Rattle.resolver.specs.Caches.{IsSeatOf};
 
@@ -107,7 +107,7 @@ fn served<R: Wait>(
     incoming: Vec<Datagram>,
     failing: usize,
 ) -> Result<(Result<(), ServeFault>, Crowded), Fail> {
-    let count = incoming.len() as u32;
+    let count = u32::try_from(incoming.len()).unwrap_or(0);
     let mut link = Crowded::of(alloc, incoming, failing);
     let (cache, mut seats) = SharedCache::with_seats(rt, alloc, 1)?;
     let ended = match seats.pop() {
