@@ -159,7 +159,10 @@ fn as_many_as_have_room_are_done_at_once(rt: HostRuntime) -> Result<(), Fail> {
     let (ended, link) = served(&rt, rt.alloc(), incoming, 0)?;
     assert_eq!(rt; ended, Ok(()));
     assert_eq!(rt; link.sent.len(), 17);
-    assert_eq!(rt; link.calls.as_slice(), b"rwwwwwwwwwwwwwwwssssssssssssssssrs".as_slice());
+    assert_eq!(rt;
+        link.calls.as_slice(),
+        b"rwwwwwwwwwwwwwwwssssssssssssssssrs".as_slice()
+    );
     Ok(())
 }
 
