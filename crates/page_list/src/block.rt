@@ -22,7 +22,8 @@ pub(crate) trait Block<T: Drop>: Drop {
     fn len(&self) -> usize
         ensures { result ≡ length (entries self.now) };
 
-    /// Whether it has fewer than half of the parts that it may have.
+    /// Whether it has so few of the parts that it may have that it is joined with a neighbour: a page fewer than half, a block of
+    /// blocks fewer than a quarter.
     fn is_small(&self) -> bool;
 
     fn first(&self) -> &Entry<T>

@@ -3,7 +3,7 @@ ghost use Rattle.std.specs.Prelude.{◌≡◌, ◌≤◌, ◌++◌, length, take
 ghost use Rattle.std.specs.List.{flat_map};
 ghost use Rattle.std.specs.Arc.{arc_value};
 
-use crate::cut::cut;
+use crate::cut::{Growth, cut};
 use crate::row::Row;
 use crate::short::{MOST, Short};
 #[cfg(test)]
@@ -48,16 +48,17 @@ impl<T: Drop, B: Block<T>> Blocks<T, B> {
     }
 }
 
-// The blocks in even blocks of blocks.
+// The blocks in blocks of blocks.
 fn blocks_of<T: Drop, B: Block<T>>(
     alloc: Global,
     shares: Vec<Arc<B>>,
+    growth: Growth,
 ) -> Result<Vec<Arc<Blocks<T, B>>>, OutOfMemory>
     ensures { IfOk result (λ made. flat_map (λ block. block) (map arc_value made.items)
         ≡ flat_map B.entries (map arc_value shares.items)) }
 {
     let mut made = Vec::new(alloc);
-    for part in cut(alloc, shares)? {
+    for part in cut(alloc, shares, growth)? {
         made.push(Arc::new(alloc, Blocks::of(alloc, part)?)?)?;
     }
     Ok(made)
@@ -70,7 +71,7 @@ impl<T: Drop, B: Block<T>> Block<T> for Blocks<T, B> {
         ensures { IfOk result (λ made. flat_map (λ block. block) (map arc_value made.items)
             ≡ items.items) }
     {
-        blocks_of(alloc, B::made(alloc, items)?)
+        blocks_of(alloc, B::made(alloc, items)?, Growth::Anywhere)
     }
 
     fn len(&self) -> usize {
@@ -78,7 +79,7 @@ impl<T: Drop, B: Block<T>> Block<T> for Blocks<T, B> {
     }
 
     fn is_small(&self) -> bool {
-        self.row.count() < MOST / 2
+        self.row.count() < MOST / 4
     }
 
     fn first(&self) -> &Entry<T> {
@@ -132,9 +133,7 @@ impl<T: Drop, B: Block<T>> Block<T> for Blocks<T, B> {
         ensures { IfOk result (λ made. flat_map (λ block. block) (map arc_value made.items)
             ≡ take from left.now ++ items.items ++ drop to right.now) }
     {
-        blocks_of(
-            alloc,
-            spliced_row(alloc, &left.row, from, items, &right.row, to)?,
-        )
+        let blocks = spliced_row(alloc, &left.row, from, items, &right.row, to)?;
+        blocks_of(alloc, blocks, Growth::after(to == right.len()))
     }
 }

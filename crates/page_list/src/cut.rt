@@ -1,21 +1,49 @@
-//! Even parts of a long list.
-ghost use Rattle.std.specs.Prelude.{◌≡◌, IfOk, length, ◌≤◌};
+//! Parts of a long list.
+ghost use Rattle.std.specs.Prelude.{◌≡◌, IfOk, length, ◌<◌, ◌≤◌};
 ghost use Rattle.std.specs.List.{flat_map};
+ghost use Rattle.page_list.specs.declared.short.TheConstants.{MOST};
 
 use crate::OutOfMemory;
 use crate::short::{MOST, Short};
 use std::alloc::Global;
 
-/// The values in even parts: of half of `MOST` to `MOST`, or in one part where there are fewer.
-pub(crate) fn cut<X: Drop>(alloc: Global, values: Vec<X>) -> Result<Vec<Short<X>>, OutOfMemory>
+/// The least that a part of a cut list has.
+const LEAST: usize = MOST / 4;
+
+/// What a part has in a list that grows at its end: it is as good as done, with some room for what still comes between.
+const NEARLY_ALL: usize = MOST / 4 * 3;
+
+/// Where a list is thought to grow further.
+#[derive(Clone, Copy)]
+pub(crate) enum Growth {
+    Anywhere,
+    AtEnd,
+}
+
+impl Growth {
+    /// Of a list that has just got something, at its end or elsewhere.
+    pub(crate) fn after(at_end: bool) -> Growth {
+        if at_end {
+            Growth::AtEnd
+        } else {
+            Growth::Anywhere
+        }
+    }
+}
+
+/// The values in parts of a quarter of `MOST` to `MOST`, or in one part where there are fewer: even ones, of half of it at
+/// least, or in a list that grows at its end three quarters of it in each part but the last.
+pub(crate) fn cut<X: Drop>(
+    alloc: Global,
+    values: Vec<X>,
+    growth: Growth,
+) -> Result<Vec<Short<X>>, OutOfMemory>
     ensures { IfOk result (λ parts. flat_map (λ part. part) parts.items ≡ values.items) }
 {
     let mut rest = values;
     let mut parts = Vec::new(alloc);
     while rest.len() > MOST {
-        let count = (rest.len() - 1) / MOST + 1;
-        let size = rest.len() / count;
-        let at = rest.len() - size;
+        let at = rest.len() - last_size(rest.len(), growth);
         let part = rest.split_off(at)?;
         parts.push(Short::of(part))?;
     }
@@ -25,4 +53,16 @@ pub(crate) fn cut<X: Drop>(alloc: Global, values: Vec<X>) -> Result<Vec<Short<X>
     }
     parts.reverse();
     Ok(parts)
+}
+
+// How many of so many values, too many for one part, the last part has.
+fn last_size(count: usize, growth: Growth) -> usize
+    requires { MOST < count }
+    ensures some { 0 < result }
+    ensures few { result ≤ MOST }
+{
+    match growth {
+        Growth::Anywhere => count / ((count - 1) / MOST + 1),
+        Growth::AtEnd => (count - LEAST) % NEARLY_ALL + LEAST,
+    }
 }

@@ -192,7 +192,8 @@ impl<T: Drop, M: Marking<T>> MarkedList<T, M> {
     ) -> Result<MarkedList<T, M>, OutOfMemory>
         requires order { from ≤ to }
         requires in_range { to ≤ length self }
-        ensures { IfOk result (λ made. made ≡ take from self ++ arc_value item ∷ drop to self) }
+        ensures { IfOk result
+            (λ made. made ≡ take from self ++ arc_value item ∷ drop to self) }
     {
         let MarkedList { entries, by } = self;
         let mark = M::mark(&item);

@@ -6,7 +6,7 @@ ghost use Rattle.page_list.specs.declared.short.TheConstants.{MOST};
 ghost use Rattle.page_list.specs.Marks.{Marked, mark_of};
 ghost use Rattle.page_list.specs.Search.{IsBehindLesser, IsTestAt};
 
-use crate::cut::cut;
+use crate::cut::{Growth, cut};
 use crate::entries::entries_round;
 use crate::parts::{items_before, items_from, last_of};
 use crate::short::{MOST, Short};
@@ -14,6 +14,9 @@ use crate::{Block, Entry, Found, OutOfMemory};
 use std::alloc::Global;
 use std::marker::Model;
 use std::sync::Arc;
+
+/// Of so many entries one mark is read at first.
+const STRIDE: usize = 2;
 
 // Whether a page of `before` entries may be exchanged for one of `count`: neither too long, nor made smaller than a quarter of what
 // it may have.
@@ -35,6 +38,22 @@ impl<T> Model for Page<T> {
     ghost Value = { List (Marked T) };
 
     ghost view = { λ p. p.entries };
+}
+
+// The entries in new pages.
+fn pages_of<T: Drop>(
+    alloc: Global,
+    entries: Vec<Entry<T>>,
+    growth: Growth,
+) -> Result<Vec<Arc<Page<T>>>, OutOfMemory>
+    ensures { IfOk result (λ made. flat_map (λ page. page) (map arc_value made.items)
+        ≡ entries.items) }
+{
+    let mut pages = Vec::new(alloc);
+    for part in cut(alloc, entries, growth)? {
+        pages.push(Arc::new(alloc, Page { entries: part })?)?;
+    }
+    Ok(pages)
 }
 
 impl<T: Drop> Page<T> {
@@ -64,19 +83,19 @@ impl<T: Drop> Page<T> {
         Ok(Arc::new(alloc, page)?)
     }
 
-    // A place behind an entry of a lesser mark, or the first place. Every fourth entry is read first: a page has few, and
-    // none of these reads waits for another, as those of a search by halves would.
+    // A place behind an entry of a lesser mark, or the first place. Every other entry is read first: a page has few, none of
+    // these reads waits for another, as those of a search by halves would, and they fetch each line of the page's memory.
     fn start_of_run(&self, mark: u64) -> usize
         ensures { IsBehindLesser mark self.now result }
     {
         let entries = self.entries.as_slice();
         let mut start = 0;
-        let mut at = 3;
+        let mut at = STRIDE - 1;
         while at < entries.len() {
             if entries[at].mark() < mark {
                 start = at + 1;
             }
-            at += 4;
+            at += STRIDE;
         }
         while start < entries.len() && entries[start].mark() < mark {
             start += 1;
@@ -127,11 +146,7 @@ impl<T: Drop> Block<T> for Page<T> {
         ensures { IfOk result (λ made. flat_map (λ page. page) (map arc_value made.items)
             ≡ items.items) }
     {
-        let mut pages = Vec::new(alloc);
-        for part in cut(alloc, items)? {
-            pages.push(Arc::new(alloc, Page { entries: part })?)?;
-        }
-        Ok(pages)
+        pages_of(alloc, items, Growth::Anywhere)
     }
 
     fn len(&self) -> usize {
@@ -227,9 +242,7 @@ impl<T: Drop> Block<T> for Page<T> {
     {
         let before = items_before(left.entries.as_slice(), from);
         let after = items_from(right.entries.as_slice(), to);
-        Self::made(
-            alloc,
-            entries_round(alloc, before, items.as_slice(), after)?,
-        )
+        let entries = entries_round(alloc, before, items.as_slice(), after)?;
+        pages_of(alloc, entries, Growth::after(after.is_empty()))
     }
 }

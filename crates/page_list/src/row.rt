@@ -16,7 +16,7 @@ use std::marker::{Model, PhantomData};
 use std::sync::Arc;
 
 /// Of so many blocks the first entry's mark is read at first.
-const STRIDE: usize = 4;
+const STRIDE: usize = 2;
 
 /// Shared blocks, seen as the list of them.
 #[derive(Drop)]
@@ -398,7 +398,7 @@ impl<T: Drop, B: Block<T>> Row<T, B> {
         low
     }
 
-    // A block whose first entry has a lesser mark, or the first block; where marks never fall, the last such. Every fourth is
+    // A block whose first entry has a lesser mark, or the first block; where marks never fall, the last such. Every other is
     // read first: none of these reads waits for another, as those of a search by halves would.
     fn last_lesser(&self, mark: u64) -> usize
         requires { 0 < length self.now }

@@ -96,7 +96,7 @@ fn own_owners(list: &PageList<u64>) -> usize {
     count
 }
 
-// Each page of several has at least a quarter of what it may have, each shelf and each bookcase half.
+// Each page of several, each shelf and each bookcase has at least a quarter of what it may have.
 fn is_filled(list: &PageList<u64>) -> bool {
     let mut pages = 0usize;
     let mut shelves = 0usize;
@@ -114,10 +114,10 @@ fn is_filled(list: &PageList<u64>) -> bool {
             }
         }
     }
-    let half = MOST / 2;
-    (pages <= 1 || few >= MOST / 4)
-        && (shelves <= 1 || few_pages >= half)
-        && (list.entries.bookcases.count() <= 1 || few_shelves >= half)
+    let quarter = MOST / 4;
+    (pages <= 1 || few >= quarter)
+        && (shelves <= 1 || few_pages >= quarter)
+        && (list.entries.bookcases.count() <= 1 || few_shelves >= quarter)
 }
 
 const TURNS: u64 = 10_000;
@@ -171,6 +171,33 @@ fn says_the_same_as_a_plain_list(rt: HostRuntime) -> Result<(), Fail> {
         assert!(rt; turn % 10 != 0 || is_filled(&list), "at turn {turn}");
     }
     assert!(rt; same(&list, plain.as_slice()));
+    Ok(())
+}
+
+// How many pages a list has.
+fn pages_in(list: &PageList<u64>) -> usize {
+    let mut count = 0usize;
+    for bookcase in list.entries.bookcases.slots() {
+        for shelf in bookcase.share().slots() {
+            count = count.saturating_add(shelf.share().slots().len());
+        }
+    }
+    count
+}
+
+#[test]
+fn fills_its_pages_where_it_grows_at_its_end(rt: HostRuntime) -> Result<(), Fail> {
+    let alloc = rt.alloc();
+    let mut list: PageList<u64> = PageList::empty(alloc);
+    let mut plain: Vec<u64> = Vec::new(alloc);
+    for n in 0..24_000u64 {
+        let at = list.len();
+        list = list.into_with_one(alloc, at, at, Arc::new(alloc, n)?)?;
+        plain.push(n)?;
+    }
+    // three quarters of a page each
+    assert!(rt; pages_in(&list) == 1000, "{} pages", pages_in(&list));
+    assert!(rt; same(&list, plain.as_slice()) && is_filled(&list));
     Ok(())
 }
 

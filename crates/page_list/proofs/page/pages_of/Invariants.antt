@@ -1,9 +1,9 @@
 use Rattle.std.proofs.Common.{◌≡◌, ◌++◌, map}
 use Rattle.std.specs.Arc.{arc_value}
 use Rattle.std.specs.List.{flat_map}
-use Rattle.page_list.proofs.page.PageBlock.made.Given as goal
+use Rattle.page_list.proofs.page.pages_of.Given as goal
 
 abbrev pub invariant-loop-part : goal.invariant-loop-part
 invariant-loop-part g l =
     flat_map (λ page. page) (map arc_value l.pages.items) ++ flat_map (λ part. part) l.part-iterator.rest.items
-    ≡ l.fn.items.items
+    ≡ l.fn.entries.items
