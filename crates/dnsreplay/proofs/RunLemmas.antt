@@ -1,13 +1,14 @@
 -- What a source that was read whole had left; what was written of a replay; and how a run of `selfrun` ends.
-use Rattle.std.proofs.Common.{◌≡◌, ◌<◌, ◌⊎◌, List, [], ◌++◌, ℕ, Option, None, Some, inl, inr, length, get_or, sym, ◌∙◌, ap, subst}
+use Rattle.std.proofs.Common.{◌≡◌, ◌<◌, ◌⊎◌, List, [], ◌∷◌, ◌++◌, ℕ, Option, None, Some, inl, inr, length, get_or, refl, sym, ◌∙◌, ap, subst, arith}
 use Rattle.std.specs.Prelude.{IfOk, IfSome, Result, Ok, Err}
 use Rattle.std.specs.List.{All}
 use Rattle.std.proofs.lemmas.List.{append-nil}
 use Rattle.outside_core.specs.Told.{prepend_told}
 use Rattle.replay_meaning.specs.Frame.{Input}
 use Rattle.replay_meaning.specs.Replay.{IsReplay, SpellsFrames}
+use Rattle.worker_seats.specs.Cuts.{Part, parts_of}
 use Rattle.worker_seats.specs.Merge.{AreMerged, AreWritten, AreWrittenInPart, CanBeMerged}
-use Rattle.worker_seats.proofs.MergeLemmas.{merged_by_one}
+use Rattle.worker_seats.proofs.MergeLemmas.{one_can}
 use Rattle.dnsreplay.specs.Run.{IsCutShort, IsOfSelfrun, IsReplayed}
 use Rattle.dnsreplay.specs.Status.{status_number}
 use Rattle.dnsreplay.specs.declared.status.Status.{Status}
@@ -54,9 +55,11 @@ cut_by workers frames outputs octets input left rest before after is goes are w 
     (cut_of workers frames outputs goes input before after (subst (λ o. SpellsFrames workers o frames) is are) w)
 
 -- one worker's octets are the output
-pub made_by_one : {E : Type 0} (r : Result (List (List ℕ)) E) (frames : List Input) (octets : List ℕ) → IfOk r (λ outputs. length outputs ≡ 1) → IfOk r (λ outputs. CanBeMerged outputs frames)
-    → IfOk r (λ outputs. (octets output : List ℕ) → SpellsFrames 1 octets frames → AreMerged outputs frames output → IsReplay 1 octets output)
-    → SpellsFrames 1 octets frames → IfOk r (λ outputs. (d : List ℕ) → IsReplay 1 octets (get_or outputs 0 d))
-made_by_one (Ok outputs) frames octets one (whole, m) goes are = λ d.
-    subst (IsReplay 1 octets) (merged_by_one outputs frames d whole one (subst (λ n. All (λ (input : Input). input.worker < n) frames) (sym one) are.below) m) (goes octets whole are m)
+pub made_by_one : {E : Type 0} (r : Result (List Part) E) (frames : List Input) (octets : List ℕ) → IfOk r (λ outputs. length outputs ≡ 1) → IfOk r (λ outputs. CanBeMerged (parts_of outputs) frames)
+    → IfOk r (λ outputs. (octets output : List ℕ) → SpellsFrames 1 octets frames → AreMerged (parts_of outputs) frames output → IsReplay 1 octets output)
+    → SpellsFrames 1 octets frames → IfOk r (λ outputs. (d : Part) → IsReplay 1 octets (get_or outputs 0 d).octets)
+made_by_one (Ok []) frames octets one merge goes are = λ d. absurd (omega (arith, one))
+made_by_one (Ok (part ∷ parts)) frames octets one merge goes are = λ d.
+    let below = subst (λ n. All (λ (input : Input). input.worker < n) frames) (sym one) are.below in
+    goes octets part.octets are (one_can (part ∷ parts) frames one below part.octets (λ e. refl) merge)
 made_by_one (Err e) frames octets one merge goes are = tt

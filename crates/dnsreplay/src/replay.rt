@@ -1,5 +1,6 @@
 ghost use Rattle.std.specs.Prelude.{ℕ, List, ◌<◌, ◌≤◌, ◌≡◌, ◌^◌, length, All, IfOk};
 ghost use Rattle.replay_meaning.specs.Replay.{IsReplay, SpellsFrames};
+ghost use Rattle.worker_seats.specs.Cuts.{AreCut, parts_of};
 ghost use Rattle.worker_seats.specs.Merge.{AreMerged, CanBeMerged};
 
 use dname::OutOfMemory;
@@ -22,10 +23,11 @@ pub fn replay<R: Threads + Wait + Sync, G: Gate>(
     requires below { All (λ frame. frame.worker < workers) frames.now }
     requires few { length frames.now < 2 ^ 32 }
     ensures all { IfOk result (λ outputs. length outputs ≡ workers) }
-    ensures merge { IfOk result (λ outputs. CanBeMerged outputs frames.now) }
+    ensures merge { IfOk result (λ outputs. CanBeMerged (parts_of outputs) frames.now) }
+    ensures cuts { IfOk result (λ outputs. AreCut outputs frames.now) }
     ensures replay { IfOk result (λ outputs. (octets output : List ℕ)
         → SpellsFrames workers octets frames.now
-        → AreMerged outputs frames.now output → IsReplay workers octets output) }
+        → AreMerged (parts_of outputs) frames.now output → IsReplay workers octets output) }
 {
     let (cache, seats) = SharedCache::with_seats(rt, alloc, workers)?;
     match run_workers(rt, alloc, &cache, seats, frames, gate) {

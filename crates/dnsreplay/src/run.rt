@@ -287,7 +287,7 @@ fn run_replay<R: Threads + Wait + Sync, S: Source, K: Sink, G: Gate>(
     let Ok(outputs) = replay(rt, alloc, workers, &frames, gate) else {
         return Status::OutOfMemory;
     };
-    match write_outputs(alloc, sink, &frames, &outputs) {
+    match write_outputs(rt, alloc, sink, &frames, &outputs) {
         Ok(()) => Status::Good,
         Err(_) => Status::WriteFault,
     }

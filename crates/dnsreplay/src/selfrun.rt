@@ -2,6 +2,7 @@ ghost use Rattle.std.specs.Prelude.{◌≡◌, ℕ, ◌<◌, ◌≤◌, ◌^◌,
 ghost use Rattle.std.specs.String.{string_bytes};
 ghost use Rattle.replay_meaning.specs.Frame.{input_spelling, inputs_spelling, kind_number};
 ghost use Rattle.replay_meaning.specs.Replay.{IsReplay};
+ghost use Rattle.worker_seats.specs.Cuts.{Part};
 ghost use Rattle.dnsreplay.specs.Made.{made_input, made_inputs, queries_of};
 ghost use Rattle.dnsreplay.specs.Summary.{IsMadeSummary};
 
@@ -52,8 +53,8 @@ fn made_outputs<R: Threads + Wait + Sync, G: Gate>(
     requires names { (1 ≤ names) × (names ≤ 10000) }
     requires queries { queries ≤ 100000 }
     ensures one { IfOk result (λ outputs. length outputs ≡ 1) }
-    ensures replay { IfOk result (λ outputs. (d : List ℕ) → IsReplay 1
-        (inputs_spelling (made_inputs seed names queries)) (slice_index_or outputs 0 d)) }
+    ensures replay { IfOk result (λ outputs. (d : Part) → IsReplay 1
+        (inputs_spelling (made_inputs seed names queries)) (slice_index_or outputs 0 d).octets) }
 {
     let made = make(alloc, seed, names)?;
     let asked = questions(alloc, seed, names, queries)?;

@@ -1,257 +1,285 @@
--- The outputs of all workers, written in the order of the inputs.
-use Rattle.std.proofs.Common.{◌≡◌, ℕ, zero, suc, ◌+◌, ◌<◌, ◌≤◌, Bool, true, false, ◌&&◌, ◌==◌, List, [], ◌∷◌, ◌++◌, length, drop, get_or, set, Option, refl, sym, ◌∙◌, ap, subst, arith, append_assoc, length-append}
-use Rattle.std.specs.List.{All, AllZip, list_all}
+-- The outputs of all workers, merged in the order of the inputs.
+use Rattle.std.proofs.Common.{◌≡◌, ℕ, suc, zero, ◌+◌, ◌<◌, ◌≤◌, Bool, true, false, ◌==◌, List, [], ◌∷◌, ◌++◌, length, take, drop, get_or, set, Option, refl, sym, ◌∙◌, ap, subst, arith, append_assoc, length-append, length-set}
+use Rattle.std.specs.List.{All, AllZip}
 use Rattle.std.proofs.lemmas.Bool.{false≢true}
 use Rattle.std.proofs.lemmas.Bool.Decides.{Decides-eqb}
-use Rattle.std.proofs.lemmas.List.{append-nil, drop_at, get_or-set_same, get_or-set_other}
+use Rattle.std.proofs.lemmas.List.{append-nil, drop_at, drop_more, get_or-set_same, get_or-set_other, length-drop, length-map, take-append-drop, take_all, take_more}
 use Rattle.std.proofs.lemmas.List.Concat.{flat_map-append}
 use Rattle.std.proofs.lemmas.List.Elements.{All-head, All-tail, filter-append}
+use Rattle.std.proofs.lemmas.Slice.Zip.{AllZip-long}
 use Rattle.outside_core.specs.Told.{append_told}
 use Rattle.outside_core.proofs.ToldLemmas.{append_told-append_told}
-use Rattle.replay_meaning.specs.Frame.{Input, IsInput, input_spelling}
+use Rattle.replay_meaning.specs.Frame.{Input, IsInput, input_spelling, inputs_spelling}
 use Rattle.replay_meaning.specs.OutFrame.{Output, IsOutput, output_spelling, outputs_spelling}
 use Rattle.replay_meaning.proofs.FrameLemmas.{spelling-push}
+use Rattle.worker_seats.specs.Cuts.{Part, parts_of}
 use Rattle.worker_seats.specs.Frames.{AreSpelled}
 use Rattle.worker_seats.specs.Gather.{Gathers, IsPartWritten}
-use Rattle.worker_seats.specs.Merge.{AreMerged, AreWritten, AreWrittenInPart, BeginsWithFrame, CanBeMerged}
+use Rattle.worker_seats.specs.Merge.{AreMerged, BeginsWithFrame, CanBeMerged}
+use Rattle.worker_seats.specs.Ranges.{ArePlacesAt}
 use Rattle.worker_seats.specs.Workers.{HasSameWorker, outputs_of}
-use Rattle.worker_seats.proofs.FramesLemmas.{next_left, no_left}
-use Rattle.worker_seats.proofs.GatherLemmas.{part_within, told_none}
+use Rattle.worker_seats.proofs.FramesLemmas.{no_left}
+use Rattle.worker_seats.proofs.GatherLemmas.{part_within}
+use Rattle.worker_seats.proofs.LawLemmas.{map_at, some_of}
 use Rattle.worker_seats.proofs.OwnLemmas.{own_here, own_push, own_push_other}
 
 abbrev worker_of : Output → ℕ
 worker_of output = output.worker
 
--- Some of the outputs are done, and the others are those of the inputs that are left. Each worker's next one lies at its place.
-pub record Merging (parts : List (List ℕ)) (all left : List Input) (places gathered : List ℕ) (before now : Option (List ℕ)) : Type 0 where
-  pub octets : List ℕ
-  pub merged : AreMerged parts all octets
-  pub done : List Output
-  pub rest : List Output
-  pub split : merged.outputs ≡ done ++ rest
-  pub same : AllZip HasSameWorker left rest
-  pub from : (worker : ℕ) → worker < length parts → get_or places worker 0 ≡ length (outputs_spelling (outputs_of worker done))
-  pub gone : List ℕ
-  pub so_far : gone ++ gathered ≡ outputs_spelling done
-  pub told : now ≡ append_told before gone
-
--- ---- places at first
-
-both_true : (a b : Bool) → (a && b) ≡ true → (a ≡ true) × (b ≡ true)
-both_true true b is = (refl, is)
-both_true false b is = absurd (false≢true is)
-
--- what a list of zeros has at any place
-pub zeros_at : (xs : List ℕ) → list_all (λ x. x == 0) xs ≡ true → (place : ℕ) → get_or xs place 0 ≡ 0
-zeros_at [] zeros place = refl
-zeros_at (x ∷ xs) zeros zero = (Decides-eqb x 0).0 (both_true (x == 0) (list_all (λ y. y == 0) xs) zeros).0
-zeros_at (x ∷ xs) zeros (suc place) = zeros_at xs (both_true (x == 0) (list_all (λ y. y == 0) xs) zeros).1 place
-
 -- ---- lists
 
-pub next_of : (input : Input) (left : List Input) (rest : List Output) → AllZip HasSameWorker (input ∷ left) rest → (output : Output) × (after : List Output) × (rest ≡ output ∷ after) × (output.worker ≡ input.worker) × AllZip HasSameWorker left after
+next_of : (input : Input) (left : List Input) (rest : List Output) → AllZip HasSameWorker (input ∷ left) rest → (output : Output) × (after : List Output) × (rest ≡ output ∷ after) × (output.worker ≡ input.worker)
 next_of input left [] same = absurd same
-next_of input left (output ∷ after) same = (output, after, refl, same.0, same.1)
+next_of input left (output ∷ after) same = (output, after, refl, same.0)
 
-none_left : (rest : List Output) → AllZip HasSameWorker [] rest → rest ≡ []
-none_left [] same = refl
-none_left (output ∷ rest) same = absurd same
+drop_same : (n : ℕ) (inputs : List Input) (outputs : List Output) → AllZip HasSameWorker inputs outputs → AllZip HasSameWorker (drop n inputs) (drop n outputs)
+drop_same zero inputs outputs same = same
+drop_same (suc n) [] [] same = tt
+drop_same (suc n) [] (output ∷ outputs) same = absurd same
+drop_same (suc n) (input ∷ inputs) [] same = absurd same
+drop_same (suc n) (input ∷ inputs) (output ∷ outputs) same = drop_same n inputs outputs same.1
 
 first_after : {X : Type 0} (P : X → Type 0) (front : List X) (x : X) (back : List X) → All P (front ++ x ∷ back) → P x
 first_after P [] x back all = All-head P x back all
 first_after P (y ∷ front) x back all = first_after P front x back (All-tail P y (front ++ x ∷ back) all)
 
--- ---- the next output
+module _ {X : Type 0} (n : ℕ) (xs : List X) (x : X) (more : List X) (next : drop n xs ≡ x ∷ more) where
+  within : n < length xs
+  within = omega (arith, ap length next, length-drop n xs)
 
-module _ (parts : List (List ℕ)) (all left : List Input) (input : Input) (places gathered : List ℕ) (before now : Option (List ℕ)) (m : Merging parts all (input ∷ left) places gathered before now) (below : input.worker < length parts) where
-  abbrev pub output : Output
-  output = (next_of input left m.rest m.same).0
+  pub split_at : xs ≡ take n xs ++ x ∷ more
+  split_at = sym (take-append-drop n xs) ∙ ap (λ l. take n xs ++ l) next
 
-  abbrev after : List Output
-  after = (next_of input left m.rest m.same).1
+  pub take_next : take (n + 1) xs ≡ take n xs ++ x ∷ []
+  take_next = take_more xs n x within ∙ ap (λ l. take n xs ++ get_or l 0 x ∷ []) (sym (drop_more xs n x within) ∙ next)
 
-  same : output.worker ≡ input.worker
-  same = (next_of input left m.rest m.same).3
+  pub drop_next : drop (n + 1) xs ≡ more
+  drop_next = ap (drop 1) (sym (drop_more xs n x within) ∙ next)
 
-  whole : m.merged.outputs ≡ m.done ++ output ∷ after
-  whole = m.split ∙ ap (λ l. m.done ++ l) (next_of input left m.rest m.same).2
+-- where there are no more inputs, all outputs are done
+pub all_done : (parts : List (List ℕ)) (inputs : List Input) (octets : List ℕ) (merged : AreMerged parts inputs octets) (n : ℕ) → length inputs ≤ n → outputs_spelling (take n merged.outputs) ≡ octets
+all_done parts inputs octets merged n few =
+    ap outputs_spelling (take_all n merged.outputs (omega (arith, few, AllZip-long HasSameWorker inputs merged.outputs merged.same))) ∙ sym merged.written
 
-  pub valid : IsOutput output
-  valid = first_after IsOutput m.done output after (subst (All IsOutput) whole m.merged.valid)
+pub all_beyond : (parts : List (List ℕ)) (inputs : List Input) (octets : List ℕ) (merged : AreMerged parts inputs octets) (n m : ℕ) → length inputs ≤ n → n ≤ m → outputs_spelling (take m merged.outputs) ≡ outputs_spelling (take n merged.outputs)
+all_beyond parts inputs octets merged n m few more = all_done parts inputs octets merged m (omega (arith, few, more)) ∙ sym (all_done parts inputs octets merged n few)
 
-  abbrev pub later : List ℕ
-  later = outputs_spelling (outputs_of input.worker (next_of input left m.rest m.same).1)
+-- ---- the next output of the merged ones
 
-  part_is : (d : List ℕ) → get_or parts input.worker d ≡ outputs_spelling (outputs_of input.worker m.done) ++ (output_spelling output ++ later)
+module _ (parts : List (List ℕ)) (inputs : List Input) (octets : List ℕ) (merged : AreMerged parts inputs octets) (n : ℕ) (input : Input) (left : List Input) (next : drop n inputs ≡ input ∷ left) (owner : ℕ) (is : owner ≡ input.worker) (below : owner < length parts) (place : ℕ) (from : place ≡ length (outputs_spelling (outputs_of owner (take n merged.outputs)))) where
+  abbrev earlier : List Output
+  earlier = take n merged.outputs
+
+  its : (output : Output) × (behind : List Output) × (drop n merged.outputs ≡ output ∷ behind) × (output.worker ≡ input.worker)
+  its = next_of input left (drop n merged.outputs) (subst (λ l. AllZip HasSameWorker l (drop n merged.outputs)) next (drop_same n inputs merged.outputs merged.same))
+
+  abbrev output : Output
+  output = its.0
+
+  abbrev behind : List Output
+  behind = its.1
+
+  own : output.worker ≡ owner
+  own = its.3 ∙ sym is
+
+  whole : merged.outputs ≡ earlier ++ output ∷ behind
+  whole = split_at n merged.outputs output behind its.2
+
+  one_more : take (n + 1) merged.outputs ≡ earlier ++ output ∷ []
+  one_more = take_next n merged.outputs output behind its.2
+
+  valid : IsOutput output
+  valid = first_after IsOutput earlier output behind (subst (All IsOutput) whole merged.valid)
+
+  later : List ℕ
+  later = outputs_spelling (outputs_of owner behind)
+
+  part_is : (d : List ℕ) → get_or parts owner d ≡ outputs_spelling (outputs_of owner earlier) ++ (output_spelling output ++ later)
+  unfolding later
   part_is d =
-      m.merged.each input.worker d below
-      ∙ ap (λ l. outputs_spelling (outputs_of input.worker l)) whole
-      ∙ ap outputs_spelling (filter-append (λ o. o.worker == input.worker) m.done (output ∷ after) ∙ ap (λ l. outputs_of input.worker m.done ++ l) (own_here worker_of input.worker output after same))
-      ∙ flat_map-append output_spelling (outputs_of input.worker m.done) (output ∷ outputs_of input.worker after)
+      merged.each owner d below
+      ∙ ap (λ l. outputs_spelling (outputs_of owner l)) whole
+      ∙ ap outputs_spelling (filter-append (λ o. o.worker == owner) earlier (output ∷ behind) ∙ ap (λ l. outputs_of owner earlier ++ l) (own_here worker_of owner output behind own))
+      ∙ flat_map-append output_spelling (outputs_of owner earlier) (output ∷ outputs_of owner behind)
 
-  pub within : (d : List ℕ) → get_or places input.worker 0 ≤ length (get_or parts input.worker d)
-  within d =
-      omega (arith, m.from input.worker below, ap length (part_is d), length-append (outputs_spelling (outputs_of input.worker m.done)) (output_spelling output ++ later))
+  place_within : (d : List ℕ) → place ≤ length (get_or parts owner d)
+  place_within d =
+      omega (arith, from, ap length (part_is d), length-append (outputs_spelling (outputs_of owner earlier)) (output_spelling output ++ later))
 
-  pub front : (d : List ℕ) → drop (get_or places input.worker 0) (get_or parts input.worker d) ≡ output_spelling output ++ later
+  front : (d : List ℕ) → drop place (get_or parts owner d) ≡ output_spelling output ++ later
   front d =
-      ap (drop (get_or places input.worker 0)) (part_is d)
-      ∙ drop_at (outputs_spelling (outputs_of input.worker m.done)) (output_spelling output ++ later) (get_or places input.worker 0) (sym (m.from input.worker below))
+      ap (drop place) (part_is d)
+      ∙ drop_at (outputs_spelling (outputs_of owner earlier)) (output_spelling output ++ later) place (sym from)
 
-  pub begins : (d : List ℕ) → BeginsWithFrame (drop (get_or places input.worker 0) (get_or parts input.worker d))
-  begins d = record { output = output; rest = later; valid = valid; is = front d }
+  place_more : place + length (output_spelling output) ≡ length (outputs_spelling (outputs_of owner (take (n + 1) merged.outputs)))
+  place_more =
+      let mine = ap (λ l. outputs_spelling (outputs_of owner l)) one_more ∙ ap outputs_spelling (own_push worker_of owner earlier output own) ∙ spelling-push output_spelling (outputs_of owner earlier) output in
+      omega (arith, from, ap length mine, length-append (outputs_spelling (outputs_of owner earlier)) (output_spelling output))
 
-  -- the places after it
-  place_here : (next' : ℕ) → input.worker < length places → next' ≡ get_or places input.worker 0 + length (output_spelling output)
-      → get_or (set places input.worker next') input.worker 0 ≡ length (outputs_spelling (outputs_of input.worker (m.done ++ output ∷ [])))
-  place_here next' room is =
-      let mine = ap outputs_spelling (own_push worker_of input.worker m.done output same) ∙ spelling-push output_spelling (outputs_of input.worker m.done) output in
-      omega (arith, get_or-set_same places input.worker next' 0 room, is, m.from input.worker below, ap length mine, length-append (outputs_spelling (outputs_of input.worker m.done)) (output_spelling output))
+  place_other : (w : ℕ) → (owner ≡ w → ⊥) → length (outputs_spelling (outputs_of w earlier)) ≡ length (outputs_spelling (outputs_of w (take (n + 1) merged.outputs)))
+  place_other w other =
+      ap (λ l. length (outputs_spelling l)) (sym (ap (outputs_of w) one_more ∙ own_push_other worker_of w earlier output (λ o. other (sym own ∙ o))))
 
-  place_at : (next' : ℕ) → input.worker < length places → next' ≡ get_or places input.worker 0 + length (output_spelling output)
-      → (w : ℕ) → w < length parts → (b : Bool) → (input.worker == w) ≡ b → get_or (set places input.worker next') w 0 ≡ length (outputs_spelling (outputs_of w (m.done ++ output ∷ [])))
-  place_at next' room is w lt true mine =
-      subst (λ v. get_or (set places input.worker next') v 0 ≡ length (outputs_spelling (outputs_of v (m.done ++ output ∷ [])))) ((Decides-eqb input.worker w).0 mine) (place_here next' room is)
-  place_at next' room is w lt false mine =
-      let other : input.worker ≡ w → ⊥ = λ own. false≢true (sym mine ∙ (Decides-eqb input.worker w).1 own) in
-      get_or-set_other places input.worker w next' 0 (λ own. other (sym own)) ∙ m.from w lt
-      ∙ ap (λ l. length (outputs_spelling l)) (sym (own_push_other worker_of w m.done output (λ own. other (sym same ∙ own))))
+  spelled_more : outputs_spelling (take (n + 1) merged.outputs) ≡ outputs_spelling earlier ++ output_spelling output
+  spelled_more = ap outputs_spelling one_more ∙ spelling-push output_spelling earlier output
 
-  pub merging_more : (next' : ℕ) (gathered' : List ℕ) (now' : Option (List ℕ)) → input.worker < length places → next' ≡ get_or places input.worker 0 + length (output_spelling output)
-      → Gathers gathered (output_spelling output) gathered' now now' → Merging parts all left (set places input.worker next') gathered' before now'
-  merging_more next' gathered' now' room is g = record {
-    octets = m.octets;
-    merged = m.merged;
-    done = m.done ++ output ∷ [];
-    rest = after;
-    split = whole ∙ sym (append_assoc m.done (output ∷ []) after);
-    same = (next_of input left m.rest m.same).4;
-    from = λ w lt. place_at next' room is w lt (input.worker == w) refl;
-    gone = m.gone ++ g.gone;
-    so_far = append_assoc m.gone g.gone gathered' ∙ ap (λ l. m.gone ++ l) g.all ∙ sym (append_assoc m.gone gathered (output_spelling output))
-        ∙ ap (λ l. l ++ output_spelling output) m.so_far ∙ sym (spelling-push output_spelling m.done output);
-    told = g.written ∙ ap (λ o. append_told o g.gone) m.told ∙ append_told-append_told before m.gone g.gone;
-  }
-
-  octets_are : m.octets ≡ m.gone ++ ((gathered ++ output_spelling output) ++ outputs_spelling after)
-  octets_are =
-      m.merged.written ∙ ap outputs_spelling whole ∙ flat_map-append output_spelling m.done (output ∷ after)
-      ∙ ap (λ l. l ++ (output_spelling output ++ outputs_spelling after)) (sym m.so_far)
-      ∙ append_assoc m.gone gathered (output_spelling output ++ outputs_spelling after)
-      ∙ ap (λ l. m.gone ++ l) (sym (append_assoc gathered (output_spelling output) (outputs_spelling after)))
-
-  pub merging_cut : (now' : Option (List ℕ)) → IsPartWritten (gathered ++ output_spelling output) now now' → AreWrittenInPart parts all before now'
-  merging_cut now' part =
-      record { octets = m.octets; merged = m.merged; part = part_within m.octets m.gone (gathered ++ output_spelling output) (outputs_spelling after) before now now' octets_are m.told part }
-
--- ---- all of them
-
-pub merging_none : (parts : List (List ℕ)) (inputs : List Input) (places gathered : List ℕ) (told : Option (List ℕ)) → CanBeMerged parts inputs → ((worker : ℕ) → get_or places worker 0 ≡ 0) → gathered ≡ [] → Merging parts inputs inputs places gathered told told
-merging_none parts inputs places gathered told (octets, merged) zeros none = record {
-  octets = octets;
-  merged = merged;
-  done = [];
-  rest = merged.outputs;
-  split = refl;
-  same = merged.same;
-  from = λ worker lt. zeros worker;
-  gone = [];
-  so_far = none;
-  told = told_none told;
-}
-
-module _ (parts : List (List ℕ)) (all : List Input) (places gathered : List ℕ) (before now : Option (List ℕ)) (m : Merging parts all [] places gathered before now) where
-  done_all : m.gone ++ gathered ≡ m.octets
-  done_all =
-      m.so_far ∙ ap outputs_spelling (sym (m.split ∙ ap (λ l. m.done ++ l) (none_left m.rest m.same) ∙ append-nil m.done)) ∙ sym m.merged.written
-
-  pub merging_all : (now' : Option (List ℕ)) → now' ≡ append_told now gathered → AreWritten parts all before now'
-  merging_all now' is = record {
-    octets = m.octets;
-    merged = m.merged;
-    written = is ∙ ap (λ o. append_told o gathered) m.told ∙ append_told-append_told before m.gone gathered ∙ ap (append_told before) done_all;
-  }
-
-  pub merging_end_cut : (now' : Option (List ℕ)) → IsPartWritten gathered now now' → AreWrittenInPart parts all before now'
-  merging_end_cut now' part = record {
-    octets = m.octets;
-    merged = m.merged;
-    part = part_within m.octets m.gone gathered [] before now now' (sym done_all ∙ ap (λ l. m.gone ++ l) (sym (append-nil gathered))) m.told part;
-  }
+  octets_are : octets ≡ outputs_spelling earlier ++ (output_spelling output ++ outputs_spelling behind)
+  octets_are = merged.written ∙ ap outputs_spelling whole ∙ flat_map-append output_spelling earlier (output ∷ behind)
 
 -- ---- over frames
 
--- the rest spells the frames that are left
-pub record MergingAt (parts : List (List ℕ)) (inputs : List Input) (rest places gathered : List ℕ) (before now : Option (List ℕ)) : Type 0 where
+-- so many frames are done, and the rest spells the others
+pub record StandsAt (parts : List (List ℕ)) (inputs : List Input) (done : ℕ) (rest places : List ℕ) : Type 0 where
+  pub spelled : AreSpelled rest (drop done inputs)
+  pub lie : ArePlacesAt parts inputs done places
+  pub room : length places ≡ 256
+
+-- the frame at the front of the rest was passed over
+abbrev pub Passes : List ℕ → ℕ → List ℕ → Type 0
+Passes rest owner after =
+    (length after < length rest) × ((input : Input) (back : List ℕ) → IsInput input → rest ≡ input_spelling input ++ back → (owner ≡ input.worker) × (after ≡ back))
+
+passed : (left : List Input) (rest after : List ℕ) (owner : ℕ) → AreSpelled rest left → Passes rest owner after
+    → (input : Input) × (more : List Input) × (left ≡ input ∷ more) × (owner ≡ input.worker) × IsInput input × AreSpelled after more
+passed [] rest after owner (here, valid) (shorter, every) = absurd (omega (arith, shorter, ap length here))
+passed (input ∷ more) rest after owner (here, valid) (shorter, every) =
+    let fits = All-head IsInput input more valid in
+    let one = every input (inputs_spelling more) fits here in
+    (input, more, refl, one.0, fits, (one.1, All-tail IsInput input more valid))
+
+-- the next frame is this worker's
+pub record IsNext (outputs : List Part) (inputs : List Input) (n : ℕ) (rest places : List ℕ) (owner : ℕ) (after : List ℕ) : Type 0 where
+  pub stands : StandsAt (parts_of outputs) inputs n rest places
+  pub input : Input
   pub left : List Input
-  pub spelled : AreSpelled rest left
-  pub below : All (λ input. input.worker < length parts) left
-  pub merging : Merging parts inputs left places gathered before now
+  pub next : drop n inputs ≡ input ∷ left
+  pub is : owner ≡ input.worker
+  pub fits : IsInput input
+  pub spelled : AreSpelled after left
+  pub below : owner < length outputs
+  pub can : CanBeMerged (parts_of outputs) inputs
 
-pub merging_first : (parts : List (List ℕ)) (inputs : List Input) (rest places gathered : List ℕ) (told : Option (List ℕ)) → AreSpelled rest inputs → All (λ input. input.worker < length parts) inputs → CanBeMerged parts inputs → ((worker : ℕ) → get_or places worker 0 ≡ 0) → gathered ≡ [] → MergingAt parts inputs rest places gathered told told
-merging_first parts inputs rest places gathered told spelled below can zeros none =
-    record { left = inputs; spelled = spelled; below = below; merging = merging_none parts inputs places gathered told can zeros none }
+pub is_next : (outputs : List Part) (inputs : List Input) (n : ℕ) (rest places : List ℕ) (worker owner : ℕ) (after : List ℕ) → StandsAt (parts_of outputs) inputs n rest places → All (λ input. input.worker < length outputs) inputs → CanBeMerged (parts_of outputs) inputs
+    → worker ≡ owner → Passes rest owner after → IsNext outputs inputs n rest places worker after
+is_next outputs inputs n rest places worker owner after stands below can same passes =
+    let (input, left, next, is, fits, spelled) = passed (drop n inputs) rest after owner stands.spelled passes in
+    let mine = first_after (λ (i : Input). i.worker < length outputs) (take n inputs) input left (subst (All (λ (i : Input). i.worker < length outputs)) (split_at n inputs input left next) below) in
+    record { stands = stands; input = input; left = left; next = next; is = same ∙ is; fits = fits; spelled = spelled; below = omega (arith, mine, same, is); can = can }
 
--- none are left
-pub at_end : (parts : List (List ℕ)) (inputs : List Input) (rest places gathered : List ℕ) (before now : Option (List ℕ)) → MergingAt parts inputs rest places gathered before now
-    → ((input : Input) (after : List ℕ) → IsInput input → rest ≡ input_spelling input ++ after → ⊥) → Merging parts inputs [] places gathered before now
-at_end parts inputs rest places gathered before now m none = subst (λ l. Merging parts inputs l places gathered before now) (no_left m.left rest m.spelled none) m.merging
+-- the next output stands at the front of the octets, and comes behind those that are done
+pub record IsPiece (done done' all octets : List ℕ) : Type 0 where
+  pub output : Output
+  pub later : List ℕ
+  pub others : List ℕ
+  pub valid : IsOutput output
+  pub front : octets ≡ output_spelling output ++ later
+  pub more : done' ≡ done ++ output_spelling output
+  pub whole : all ≡ done ++ (output_spelling output ++ others)
 
-module _ (parts : List (List ℕ)) (inputs : List Input) (rest after places gathered : List ℕ) (before now : Option (List ℕ)) (input : Input) (at : MergingAt parts inputs rest places gathered before now) (fits : IsInput input) (read : rest ≡ input_spelling input ++ after) where
-  abbrev next : (more : List Input) × (at.left ≡ input ∷ more) × AreSpelled after more
-  next = next_left at.left rest after input at.spelled fits read
+module _ (outputs : List Part) (inputs : List Input) (n : ℕ) (rest places : List ℕ) (owner : ℕ) (after : List ℕ) (at : IsNext outputs inputs n rest places owner after) where
+  pub has_place : owner < length places
+  has_place = omega (arith, at.stands.room, at.is, at.fits.worker_fits)
 
-  all_below : All (λ i. i.worker < length parts) (input ∷ next.0)
-  all_below = subst (All (λ (i : Input). i.worker < length parts)) next.1 at.below
+  below : owner < length (parts_of outputs)
+  below = omega (arith, at.below, length-map outputs (λ (p : Part). p.octets))
 
-  pub mine : input.worker < length parts
-  mine = All-head (λ (i : Input). i.worker < length parts) input next.0 all_below
+  abbrev place : ℕ
+  place = get_or places owner 0
 
-  m : Merging parts inputs (input ∷ next.0) places gathered before now
-  m = subst (λ l. Merging parts inputs l places gathered before now) next.1 at.merging
+  module _ (octets : List ℕ) (part : (d : Part) → octets ≡ (get_or outputs owner d).octets) where
+    octets_is : octets ≡ get_or (parts_of outputs) owner []
+    octets_is = let d = some_of outputs owner at.below in part d ∙ sym (map_at (λ (p : Part). p.octets) outputs owner [] d at.below)
 
-  module _ (w : ℕ) (is : w ≡ input.worker) (octets : List ℕ) (part : (e : List ℕ) → octets ≡ get_or parts w e) where
-    place_is : get_or places w 0 ≡ get_or places input.worker 0
-    place_is = ap (λ v. get_or places v 0) is
+    module _ (all : List ℕ) (merged : AreMerged (parts_of outputs) inputs all) where
+      from : place ≡ length (outputs_spelling (outputs_of owner (take n merged.outputs)))
+      from = at.stands.lie all merged owner has_place below
 
-    octets_is : (e : List ℕ) → octets ≡ get_or parts input.worker e
-    octets_is e = part e ∙ ap (λ v. get_or parts v e) is
+      abbrev its_output : Output
+      its_output = (its (parts_of outputs) inputs all merged n at.input at.left at.next owner at.is below place from).0
 
-    abbrev its_output : Output
-    its_output = output parts inputs next.0 input places gathered before now m mine
+      abbrev its_later : List ℕ
+      its_later = later (parts_of outputs) inputs all merged n at.input at.left at.next owner at.is below place from
 
-    abbrev its_later : List ℕ
-    its_later = later parts inputs next.0 input places gathered before now m mine
+      its_valid : IsOutput its_output
+      its_valid = valid (parts_of outputs) inputs all merged n at.input at.left at.next owner at.is below place from
 
-    its_valid : IsOutput its_output
-    its_valid = valid parts inputs next.0 input places gathered before now m mine
+      its_front : drop place octets ≡ output_spelling its_output ++ its_later
+      its_front = ap (drop place) octets_is ∙ front (parts_of outputs) inputs all merged n at.input at.left at.next owner at.is below place from []
 
-    its_front : drop (get_or places w 0) octets ≡ output_spelling its_output ++ its_later
-    its_front =
-        ap (λ p. drop p octets) place_is ∙ ap (drop (get_or places input.worker 0)) (octets_is [])
-        ∙ front parts inputs next.0 input places gathered before now m mine []
+    pub frame_within : place ≤ length octets
+    frame_within = omega (arith, ap length octets_is, place_within (parts_of outputs) inputs at.can.0 at.can.1 n at.input at.left at.next owner at.is below place (from at.can.0 at.can.1) [])
 
-    pub frame_within : get_or places w 0 ≤ length octets
-    frame_within = omega (arith, place_is, ap length (octets_is []), within parts inputs next.0 input places gathered before now m mine [])
+    pub frame_begins : BeginsWithFrame (drop place octets)
+    frame_begins = record { output = its_output at.can.0 at.can.1; rest = its_later at.can.0 at.can.1; valid = its_valid at.can.0 at.can.1; is = its_front at.can.0 at.can.1 }
 
-    pub frame_begins : BeginsWithFrame (drop (get_or places w 0) octets)
-    frame_begins = record { output = its_output; rest = its_later; valid = its_valid; is = its_front }
+    place_at : (next : ℕ) (all : List ℕ) (merged : AreMerged (parts_of outputs) inputs all) → next ≡ place + length (output_spelling (its_output all merged))
+        → (w : ℕ) → w < length places → w < length (parts_of outputs) → (b : Bool) → (owner == w) ≡ b → get_or (set places owner next) w 0 ≡ length (outputs_spelling (outputs_of w (take (n + 1) merged.outputs)))
+    place_at next all merged is w lt lt' true mine =
+        subst (λ v. get_or (set places owner next) v 0 ≡ length (outputs_spelling (outputs_of v (take (n + 1) merged.outputs)))) ((Decides-eqb owner w).0 mine)
+        (get_or-set_same places owner next 0 has_place ∙ is ∙ place_more (parts_of outputs) inputs all merged n at.input at.left at.next owner at.is below place (from all merged))
+    place_at next all merged is w lt lt' false mine =
+        let other : owner ≡ w → ⊥ = λ own. false≢true (sym mine ∙ (Decides-eqb owner w).1 own) in
+        get_or-set_other places owner w next 0 (λ own. other (sym own)) ∙ at.stands.lie all merged w lt lt'
+        ∙ place_other (parts_of outputs) inputs all merged n at.input at.left at.next owner at.is below place (from all merged) w other
 
-    pub frame_more : (place : ℕ) (gathered' : List ℕ) (now' : Option (List ℕ)) → w < length places
-        → ((o : Output) (rest : List ℕ) → IsOutput o → drop (get_or places w 0) octets ≡ output_spelling o ++ rest → (place ≡ get_or places w 0 + length (output_spelling o)) × Gathers gathered (output_spelling o) gathered' now now')
-        → MergingAt parts inputs after (set places w place) gathered' before now'
-    frame_more place gathered' now' room put =
-        let took = put its_output its_later its_valid its_front in
-        record {
-          left = next.0;
-          spelled = next.2;
-          below = All-tail (λ (i : Input). i.worker < length parts) input next.0 all_below;
-          merging = subst (λ v. Merging parts inputs next.0 (set places v place) gathered' before now') (sym is)
-              (merging_more parts inputs next.0 input places gathered before now m mine place gathered' now' (omega (arith, is, room)) (omega (arith, took.0, place_is)) took.1);
-        }
+    pub stands_more : (next : ℕ) → ((output : Output) (back : List ℕ) → IsOutput output → drop place octets ≡ output_spelling output ++ back → next ≡ place + length (output_spelling output)) → StandsAt (parts_of outputs) inputs (n + 1) after (set places owner next)
+    stands_more next put = record {
+      spelled = subst (AreSpelled after) (sym (drop_next n inputs at.input at.left at.next)) at.spelled;
+      lie = λ all merged w lt lt'.
+          place_at next all merged (put (its_output all merged) (its_later all merged) (its_valid all merged) (its_front all merged)) w (omega (arith, lt, length-set places owner next)) lt' (owner == w) refl;
+      room = length-set places owner next ∙ at.stands.room;
+    }
 
-    pub frame_cut : (now' : Option (List ℕ)) → ((o : Output) (rest : List ℕ) → IsOutput o → drop (get_or places w 0) octets ≡ output_spelling o ++ rest → IsPartWritten (gathered ++ output_spelling o) now now') → AreWrittenInPart parts inputs before now'
-    frame_cut now' cut = merging_cut parts inputs next.0 input places gathered before now m mine now' (cut its_output its_later its_valid its_front)
+    pub piece_next : (all : List ℕ) (merged : AreMerged (parts_of outputs) inputs all) → IsPiece (outputs_spelling (take n merged.outputs)) (outputs_spelling (take (n + 1) merged.outputs)) all (drop place octets)
+    piece_next all merged = record {
+      output = its_output all merged;
+      later = its_later all merged;
+      others = outputs_spelling (its (parts_of outputs) inputs all merged n at.input at.left at.next owner at.is below place (from all merged)).1;
+      valid = its_valid all merged;
+      front = its_front all merged;
+      more = spelled_more (parts_of outputs) inputs all merged n at.input at.left at.next owner at.is below place (from all merged);
+      whole = octets_are (parts_of outputs) inputs all merged n at.input at.left at.next owner at.is below place (from all merged);
+    }
+
+-- where no frame is passed over, all are done
+pub none_next : (parts : List (List ℕ)) (inputs : List Input) (n : ℕ) (rest places : List ℕ) → StandsAt parts inputs n rest places → ((input : Input) (back : List ℕ) → IsInput input → rest ≡ input_spelling input ++ back → ⊥)
+    → length inputs ≤ n
+none_next parts inputs n rest places stands none = omega (arith, ap length (no_left (drop n inputs) rest stands.spelled none), length-drop n inputs)
+
+-- ---- pieces that are gathered before they are written
+
+pub piece_pushed : (before done done' piece buffer buffer' : List ℕ) → done' ≡ done ++ piece → done ≡ before ++ buffer → buffer' ≡ buffer ++ piece → done' ≡ before ++ buffer'
+piece_pushed before done done' piece buffer buffer' more is pushed = more ∙ ap (λ l. l ++ piece) is ∙ append_assoc before buffer piece ∙ ap (λ l. before ++ l) (sym pushed)
+
+-- of the octets that are done a part is gathered, and the others were written
+pub record HasTold (done gathered : List ℕ) (before now : Option (List ℕ)) : Type 0 where
+  pub gone : List ℕ
+  pub so_far : gone ++ gathered ≡ done
+  pub told : now ≡ append_told before gone
+
+pub told_first : (done gathered : List ℕ) (before now : Option (List ℕ)) → gathered ≡ [] → now ≡ append_told before done → HasTold done gathered before now
+told_first done gathered before now none is = record { gone = done; so_far = ap (λ l. done ++ l) none ∙ append-nil done; told = is }
+
+pub told_more : (done done' piece gathered gathered' : List ℕ) (before now now' : Option (List ℕ)) → HasTold done gathered before now → done' ≡ done ++ piece → Gathers gathered piece gathered' now now' → HasTold done' gathered' before now'
+told_more done done' piece gathered gathered' before now now' has is g = record {
+  gone = has.gone ++ g.gone;
+  so_far = append_assoc has.gone g.gone gathered' ∙ ap (λ l. has.gone ++ l) g.all ∙ sym (append_assoc has.gone gathered piece) ∙ ap (λ l. l ++ piece) has.so_far ∙ sym is;
+  told = g.written ∙ ap (λ o. append_told o g.gone) has.told ∙ append_told-append_told before has.gone g.gone;
+}
+
+pub told_cut : (all done piece back gathered : List ℕ) (before now now' : Option (List ℕ)) → HasTold done gathered before now → all ≡ done ++ (piece ++ back) → IsPartWritten (gathered ++ piece) now now' → IsPartWritten all before now'
+told_cut all done piece back gathered before now now' has is part =
+    part_within all has.gone (gathered ++ piece) back before now now'
+    (is ∙ ap (λ l. l ++ (piece ++ back)) (sym has.so_far) ∙ append_assoc has.gone gathered (piece ++ back) ∙ ap (λ l. has.gone ++ l) (sym (append_assoc gathered piece back)))
+    has.told part
+
+pub told_all : (done all gathered : List ℕ) (before now now' : Option (List ℕ)) → done ≡ all → HasTold done gathered before now → now' ≡ append_told now gathered → now' ≡ append_told before all
+told_all done all gathered before now now' same has is =
+    is ∙ ap (λ o. append_told o gathered) has.told ∙ append_told-append_told before has.gone gathered ∙ ap (append_told before) (has.so_far ∙ same)
+
+pub told_end_cut : (done all gathered : List ℕ) (before now now' : Option (List ℕ)) → done ≡ all → HasTold done gathered before now → IsPartWritten gathered now now' → IsPartWritten all before now'
+told_end_cut done all gathered before now now' same has part =
+    part_within all has.gone gathered [] before now now' (sym (has.so_far ∙ same) ∙ ap (λ l. has.gone ++ l) (sym (append-nil gathered))) has.told part
 
 -- ---- one worker
 
@@ -263,9 +291,14 @@ all_own (input ∷ inputs) (output ∷ outputs) same below =
     let own : output.worker ≡ 0 = omega (arith, same.0, All-head (λ (i : Input). i.worker < 1) input inputs below) in
     own_here worker_of 0 output outputs own ∙ ap (λ l. output ∷ l) (all_own inputs outputs same.1 (All-tail (λ (i : Input). i.worker < 1) input inputs below))
 
-pub merged_by_one : (parts : List (List ℕ)) (inputs : List Input) (d octets : List ℕ) → length parts ≡ 1 → All (λ input. input.worker < length parts) inputs → AreMerged parts inputs octets → octets ≡ get_or parts 0 d
-merged_by_one parts inputs d octets one below m =
-    m.written ∙ ap outputs_spelling (sym (all_own inputs m.outputs m.same (subst (λ (n : ℕ). All (λ (i : Input). i.worker < n) inputs) one below))) ∙ sym (m.each 0 d (omega (arith, one)))
+module _ (outputs : List Part) (inputs : List Input) (one : length outputs ≡ 1) (below : All (λ input. input.worker < length outputs) inputs) (octets : List ℕ) (is : (d : Part) → octets ≡ (get_or outputs 0 d).octets) where
+  first : octets ≡ get_or (parts_of outputs) 0 []
+  first = let lt : 0 < length outputs = omega (arith, one) in let d = some_of outputs 0 lt in is d ∙ sym (map_at (λ (p : Part). p.octets) outputs 0 [] d lt)
 
-pub one_can : (parts : List (List ℕ)) (inputs : List Input) (octets : List ℕ) → length parts ≡ 1 → All (λ input. input.worker < length parts) inputs → CanBeMerged parts inputs → ((d : List ℕ) → octets ≡ get_or parts 0 d) → AreMerged parts inputs octets
-one_can parts inputs octets one below (whole, m) is = subst (AreMerged parts inputs) (merged_by_one parts inputs [] whole one below m ∙ sym (is [])) m
+  merged_by_one : (whole : List ℕ) → AreMerged (parts_of outputs) inputs whole → whole ≡ octets
+  merged_by_one whole m =
+      m.written ∙ ap outputs_spelling (sym (all_own inputs m.outputs m.same (subst (λ (n : ℕ). All (λ (i : Input). i.worker < n) inputs) one below)))
+      ∙ sym (m.each 0 [] (omega (arith, one, length-map outputs (λ (p : Part). p.octets)))) ∙ sym first
+
+  pub one_can : CanBeMerged (parts_of outputs) inputs → AreMerged (parts_of outputs) inputs octets
+  one_can (whole, m) = subst (AreMerged (parts_of outputs) inputs) (merged_by_one whole m) m

@@ -1,10 +1,11 @@
 -- One worker's shift, frame by frame.
-use Rattle.std.proofs.Common.{◌≡◌, ℕ, zero, suc, ◌+◌, ◌^◌, ◌<◌, ◌≤◌, ◌⊎◌, inl, inr, Bool, true, false, cond, ◌==◌, List, [], ◌∷◌, ◌++◌, length, take, get_or, Option, None, Some, slice_get, refl, sym, ◌∙◌, ap, subst, arith, append_assoc, length-append}
+use Rattle.std.proofs.Common.{◌≡◌, ℕ, zero, suc, ◌+◌, ◌-◌, ◌^◌, ◌<◌, ◌≤◌, ◌⊎◌, inl, inr, Bool, true, false, cond, ◌==◌, List, [], ◌∷◌, ◌++◌, length, take, get_or, Option, None, Some, slice_get, refl, sym, ◌∙◌, ap, subst, arith, append_assoc, length-append}
 use Rattle.std.specs.List.{AllZip}
 use Rattle.std.proofs.lemmas.Bool.{false≢true}
 use Rattle.std.proofs.lemmas.List.{append-nil}
 use Rattle.std.proofs.lemmas.List.Elements.{All-nil, All-push, filter-append}
 use Rattle.std.proofs.lemmas.List.Quantifiers.{all_pairs_push}
+use Rattle.std.proofs.lemmas.Slice.Zip.{AllZip-long}
 use mathlib.Core.List.{IsPrefix}
 use Rattle.denial_records.specs.declared.batch.Batch.{Batch}
 use Rattle.cache_meaning.specs.Held.{Held, held_of}
@@ -23,14 +24,17 @@ use Rattle.replay_meaning.specs.declared.out_frame.OutKind.TheVariants.{Reply, F
 use Rattle.replay_meaning.proofs.FrameLemmas.{spelling-push}
 use Rattle.replay_meaning.proofs.StepLemmas.{TellsNoCall, tells_no_call}
 use Rattle.worker_seats.specs.Answer.{IsSpent, IsAnswered}
+use Rattle.worker_seats.specs.Cuts.{AreCuts}
 use Rattle.worker_seats.specs.Frames.{AreSpelled}
 use Rattle.worker_seats.specs.OneFrame.{IsCall, IsDone, DoesOneFrame, places_of}
 use Rattle.worker_seats.specs.Shift.{TellsCall, IsInTurn, IsShift}
-use Rattle.worker_seats.specs.Work.{IsWork}
+use Rattle.worker_seats.specs.Work.{HasPassed, IsWork}
 use Rattle.worker_seats.specs.Workers.{HasWorked, inputs_of}
+use Rattle.worker_seats.specs.declared.cut.Cut.{Cut}
 use Rattle.worker_seats.proofs.AnswerLemmas.{answered_more}
 use Rattle.worker_seats.proofs.FramesLemmas.{Walks, next_left, split_next, walk_all}
 use Rattle.worker_seats.proofs.LawLemmas.{zip_weaker}
+use Rattle.worker_seats.proofs.NotedLemmas.{AreNoted, noted_all, noted_here, noted_input, noted_none, noted_output}
 use Rattle.worker_seats.proofs.OwnLemmas.{equal_test, unequal_test}
 use Rattle.worker_seats.proofs.TurnLemmas.{answered_sound}
 
@@ -198,35 +202,57 @@ module _ {g : Ghosts Held Batch (Unit {0})} where
       }
 
   -- some of the frames are done, the worker's own by so many calls, and the rest spells the others
-  pub record IsUnderWay (worker : ℕ) (before now : Seat Held Batch (Unit {0}) g) (inputs : List Input) (rest : List ℕ) (calls : ℕ) (octets : List ℕ) : Type 0 where
+  pub record IsUnderWay (worker : ℕ) (before now : Seat Held Batch (Unit {0}) g) (inputs : List Input) (rest : List ℕ) (calls : ℕ) (octets : List ℕ) (cuts : List Cut) (passed : ℕ) : Type 0 where
     pub walk : Walks inputs rest
     pub few : calls ≤ length walk.done
     pub work : IsWork worker before now walk.done octets
+    pub noted : AreNoted worker walk.done work.outputs cuts passed
 
-  pub under_way_none : (worker : ℕ) (seat : Seat Held Batch (Unit {0}) g) (inputs : List Input) (rest octets : List ℕ) → AreSpelled rest inputs → octets ≡ [] → IsUnderWay worker seat seat inputs rest 0 octets
-  under_way_none worker seat inputs rest octets spelled none = record { walk = record { done = []; left = inputs; split = refl; spelled = spelled }; few = omega arith; work = work_none worker seat octets none }
+  pub under_way_none : (worker : ℕ) (seat : Seat Held Batch (Unit {0}) g) (inputs : List Input) (rest octets : List ℕ) (cuts : List Cut) → AreSpelled rest inputs → octets ≡ [] → cuts ≡ [] → IsUnderWay worker seat seat inputs rest 0 octets cuts 0
+  unfolding work_none
+  under_way_none worker seat inputs rest octets cuts spelled none no_cuts = record {
+    walk = record { done = []; left = inputs; split = refl; spelled = spelled };
+    few = omega arith;
+    work = work_none worker seat octets none;
+    noted = subst (λ l. AreNoted worker [] [] l 0) (sym no_cuts) (noted_none worker []);
+  }
 
-  module _ (worker : ℕ) (before now : Seat Held Batch (Unit {0}) g) (inputs : List Input) (rest after : List ℕ) (input : Input) (calls : ℕ) (octets : List ℕ) (way : IsUnderWay worker before now inputs rest calls octets) (fits : IsInput input) (is : rest ≡ input_spelling input ++ after) where
+  module _ (worker : ℕ) (before now : Seat Held Batch (Unit {0}) g) (inputs : List Input) (rest after : List ℕ) (input : Input) (calls : ℕ) (octets : List ℕ) (cuts : List Cut) (passed : ℕ)
+      (way : IsUnderWay worker before now inputs rest calls octets cuts passed) (fits : IsInput input) (is : rest ≡ input_spelling input ++ after) where
     abbrev next : (more : List Input) × (way.walk.left ≡ input ∷ more) × AreSpelled after more
     next = next_left way.walk.left rest after input way.walk.spelled fits is
 
     pub calls_few : length inputs < 2 ^ 32 → calls + 1 < 2 ^ 32
     calls_few few = omega (arith, few, way.few, ap length (split_next inputs rest way.walk input next.0 next.1), length-append (way.walk.done ++ input ∷ []) next.0, length-append way.walk.done (input ∷ []))
 
-    pub frame_other : (input.worker ≡ worker → ⊥) → IsUnderWay worker before now inputs after calls octets
-    frame_other other = record {
-      walk = record { done = way.walk.done ++ input ∷ []; left = next.0; split = split_next inputs rest way.walk input next.0 next.1; spelled = next.2 };
-      few = omega (arith, way.few, length-append way.walk.done (input ∷ []));
-      work = work_other worker before now way.walk.done input octets other way.work;
-    }
+    module _ (whole : List ℕ) (here : Cut) (cuts' : List Cut) (passed' : ℕ) (spelled : AreSpelled whole inputs) (from : here.from ≡ length whole - length rest) (place : here.place ≡ length octets) (passes : HasPassed passed here cuts cuts' passed') where
+      noted_next : AreNoted worker (way.walk.done ++ input ∷ []) way.work.outputs cuts' passed'
+      noted_next = noted_input worker way.walk.done way.work.outputs cuts passed way.noted input here cuts' passed'
+          (noted_here worker way.walk.done way.walk.left inputs way.work.outputs whole rest octets here way.walk.split spelled.0 way.walk.spelled.0 way.work.written
+          (sym (AllZip-long (IsAnswered (seen_by now)) (inputs_of worker way.walk.done) way.work.outputs way.work.worked.shift.each)) from place) passes
 
-    pub frame_own : (seat : Seat Held Batch (Unit {0}) g) (octets' : List ℕ) → input.worker ≡ worker → IsPrefix (seen_by now) (seen_by seat) → DoesOneFrame now seat input octets octets' → IsUnderWay worker before seat inputs after (calls + 1) octets'
-    frame_own seat octets' same begins does = record {
-      walk = record { done = way.walk.done ++ input ∷ []; left = next.0; split = split_next inputs rest way.walk input next.0 next.1; spelled = next.2 };
-      few = omega (arith, way.few, length-append way.walk.done (input ∷ []));
-      work = work_own worker before now seat way.walk.done input octets octets' same begins does way.work;
-    }
+      pub frame_other : (input.worker ≡ worker → ⊥) → IsUnderWay worker before now inputs after calls octets cuts' passed'
+      unfolding work_other
+      frame_other other = record {
+        walk = record { done = way.walk.done ++ input ∷ []; left = next.0; split = split_next inputs rest way.walk input next.0 next.1; spelled = next.2 };
+        few = omega (arith, way.few, length-append way.walk.done (input ∷ []));
+        work = work_other worker before now way.walk.done input octets other way.work;
+        noted = noted_next;
+      }
 
-  pub shift_done : (worker : ℕ) (before now : Seat Held Batch (Unit {0}) g) (inputs : List Input) (rest : List ℕ) (calls : ℕ) (octets : List ℕ) → IsUnderWay worker before now inputs rest calls octets
-      → ((input : Input) (after : List ℕ) → IsInput input → rest ≡ input_spelling input ++ after → ⊥) → IsWork worker before now inputs octets
-  shift_done worker before now inputs rest calls octets way none = subst (λ l. IsWork worker before now l octets) (walk_all inputs rest way.walk none) way.work
+      pub frame_own : (seat : Seat Held Batch (Unit {0}) g) (octets' : List ℕ) → input.worker ≡ worker → IsPrefix (seen_by now) (seen_by seat) → DoesOneFrame now seat input octets octets' → IsUnderWay worker before seat inputs after (calls + 1) octets' cuts' passed'
+      unfolding work_own
+      frame_own seat octets' same begins does = record {
+        walk = record { done = way.walk.done ++ input ∷ []; left = next.0; split = split_next inputs rest way.walk input next.0 next.1; spelled = next.2 };
+        few = omega (arith, way.few, length-append way.walk.done (input ∷ []));
+        work = work_own worker before now seat way.walk.done input octets octets' same begins does way.work;
+        noted = noted_output worker (way.walk.done ++ input ∷ []) way.work.outputs cuts' passed' noted_next does.output;
+      }
+
+  module _ (worker : ℕ) (before now : Seat Held Batch (Unit {0}) g) (inputs : List Input) (rest : List ℕ) (calls : ℕ) (octets : List ℕ) (cuts : List Cut) (passed : ℕ) (way : IsUnderWay worker before now inputs rest calls octets cuts passed)
+      (none : (input : Input) (after : List ℕ) → IsInput input → rest ≡ input_spelling input ++ after → ⊥) where
+    pub shift_done : IsWork worker before now inputs octets
+    shift_done = subst (λ l. IsWork worker before now l octets) (walk_all inputs rest way.walk none) way.work
+
+    pub cuts_done : AreCuts worker inputs octets cuts
+    cuts_done = subst (λ l. AreCuts worker l octets cuts) (walk_all inputs rest way.walk none) (noted_all worker way.walk.done way.work.outputs cuts passed way.noted octets way.work.valid way.work.written)

@@ -1,9 +1,11 @@
 pub mod Answer
+pub mod Cuts
 pub mod Frames
 pub mod Gather
 pub mod Laws
 pub mod Merge
 pub mod OneFrame
+pub mod Ranges
 pub mod Shift
 pub mod Work
 pub mod Workers

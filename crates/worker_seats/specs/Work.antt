@@ -1,5 +1,5 @@
 -- No public clause cites this module. What one worker leaves: its seat, and the octets of its outputs.
-use Rattle.std.specs.Prelude.{◌≡◌, ℕ, ◌<◌, List, length, slice_index_or}
+use Rattle.std.specs.Prelude.{◌≡◌, ℕ, ◌+◌, ◌<◌, ◌≤◌, ◌⊎◌, List, [], ◌∷◌, ◌++◌, length, slice_index_or}
 use Rattle.std.specs.List.{All}
 use Rattle.denial_records.specs.declared.batch.Batch.{Batch}
 use Rattle.cache_meaning.specs.Held.{Held}
@@ -10,8 +10,11 @@ use Rattle.replay_meaning.specs.OutFrame.{Output, IsOutput, outputs_spelling}
 use Rattle.cache_versions.specs.Seats.{number_by}
 use Rattle.resolver.specs.Caches.{IsSeatOf}
 use Rattle.resolver.specs.declared.shared_cache.SharedCache.{SharedCache}
+use Rattle.worker_seats.specs.declared.cut.Cut.{Cut}
+use Rattle.worker_seats.specs.declared.cut.TheConstants.{RANGE}
 use Rattle.worker_seats.specs.declared.shift.Job.{Job}
 use Rattle.worker_seats.specs.declared.shift.Shift.{Shift}
+use Rattle.worker_seats.specs.Cuts.{AreCuts, Part}
 use Rattle.worker_seats.specs.Workers.{HasWorked, inputs_of}
 
 module _ {g : Ghosts Held Batch (Unit {0})} where
@@ -28,7 +31,17 @@ pub record IsShiftOf (cache : SharedCache) (job : Job) (inputs : List Input) (sh
   pub object : IsSeatOf cache shift.seat
   pub number : number_by shift.seat ≡ number_by job.seat
   pub work : IsWork job.worker job.seat shift.seat inputs shift.octets.items
+  pub cuts : AreCuts job.worker inputs shift.octets.items shift.cuts.items
+
+-- what it has written
+abbrev pub part_of : Shift → Part
+part_of shift = record { octets = shift.octets.items; cuts = shift.cuts.items }
 
 -- each job is that of the worker at its place
 abbrev pub ArePlaced : List Job → Type 0
 ArePlaced jobs = (place : ℕ) (d : Job) → place < length jobs → (slice_index_or jobs place d).worker ≡ place
+
+-- One more frame is passed, of a range of which so many were. It begins the next range where that one is full, behind a cut.
+abbrev pub HasPassed : ℕ → Cut → List Cut → List Cut → ℕ → Type 0
+HasPassed passed here before after now =
+    ((passed < RANGE) × (after ≡ before) × (now ≡ passed + 1)) ⊎ ((RANGE ≤ passed) × (after ≡ before ++ here ∷ []) × (now ≡ 1))

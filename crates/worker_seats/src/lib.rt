@@ -1,17 +1,21 @@
 //! Workers on threads: each answers its own frames over its own seat of one cache, and the outputs stand in the order of the
 //! inputs.
 //!
-//! Of this crate's specs read `specs/Answer.antt`, `OneFrame`, `Shift`, `Workers`, `Merge` and `Laws`, in this order, and
-//! `Frames`.
+//! Of this crate's specs read `specs/Answer.antt`, `OneFrame`, `Shift`, `Workers`, `Merge`, `Cuts` and `Laws`, in this order,
+//! and `Frames`.
 #![tactic(auto)]
 
 mod answering;
+mod cut;
 mod frames;
 mod gather;
 mod laws;
 mod merge;
 mod outputs;
+mod ranges;
+mod rounds;
 mod shift;
+mod starts;
 mod workers;
 mod writing;
 

@@ -2,67 +2,78 @@ ghost use Rattle.std.specs.Prelude.{◌≡◌, ℕ, ◌+◌, ◌<◌, ◌≤◌,
 ghost use Rattle.outside_core.specs.Fault.{Rose};
 ghost use Rattle.replay_meaning.specs.OutFrame.{Output, IsOutput, output_spelling};
 ghost use Rattle.worker_seats.specs.Gather.{Gathers, IsPartWritten};
+ghost use Rattle.worker_seats.specs.Cuts.{AreCut, cuts_in, parts_of};
 ghost use Rattle.worker_seats.specs.Merge.{AreWritten, AreWrittenInPart, BeginsWithFrame, CanBeMerged};
+ghost use Rattle.worker_seats.specs.Ranges.{WritesInPart, WritesRest};
 
-use crate::frames::Frames;
+use crate::frames::{Frames, skip_frame};
 use crate::gather::{flush, put};
 use crate::outputs::Outputs;
+use crate::rounds::write_rounds;
+use crate::starts::{places_at, ranges_of, rest_at};
 use crate::writing::write_whole;
 use dname::{octets_from, u16_at};
 use outside_core::{Failed, Sink};
-use replay_meaning::read_frame;
 use std::alloc::Global;
+use std::sync::Wait;
+use std::thread::Threads;
 
 /// The octets of an output frame before its body.
 const HEAD: usize = 8;
 
-/// As many workers as a frame can name.
-const WORKERS: usize = 256;
-
 /// Writes the output frames of all workers, in the order of the frames that they are for. After a failure a strict prefix of
 /// them was written.
-pub fn write_outputs<K: Sink>(
+pub fn write_outputs<R: Threads + Wait + Sync, K: Sink>(
+    rt: &R,
     alloc: Global,
     sink: &mut K,
     frames: &Frames<'_>,
     outputs: &Outputs,
 ) -> Result<(), Failed>
     requires workers { All (λ frame. frame.worker < length outputs.now) frames.now }
-    requires merge { CanBeMerged outputs.now frames.now }
-    ensures written { OnOk result (AreWritten outputs.now frames.now
+    requires merge { CanBeMerged (parts_of outputs.now) frames.now }
+    requires cuts { AreCut outputs.now frames.now }
+    ensures written { OnOk result (AreWritten (parts_of outputs.now) frames.now
         (K.written sink.old) (K.written sink.new)) }
     ensures faults { OnOk result (K.faults sink.new ≡ K.faults sink.old) }
-    ensures part { OnErr result (AreWrittenInPart outputs.now frames.now
+    ensures part { OnErr result (AreWrittenInPart (parts_of outputs.now) frames.now
         (K.written sink.old) (K.written sink.new)) }
     ensures failed { OnErr result (Rose (K.faults sink.old) (K.faults sink.new)) }
 {
     if outputs.workers() == 1 {
         return write_whole(sink, outputs.of_worker(0));
     }
-    write_in_turn(alloc, sink, frames, outputs)
+    let ranges = ranges_of(frames, outputs);
+    if ranges == 1 {
+        return write_from(alloc, sink, frames, outputs, 0);
+    }
+    write_rounds(rt, alloc, sink, frames, outputs, ranges)
 }
 
-// Frame by frame, each from where it lies.
-fn write_in_turn<K: Sink>(
+// Frame by frame from a range on, each from where it lies.
+pub(crate) fn write_from<K: Sink>(
     alloc: Global,
     sink: &mut K,
     frames: &Frames<'_>,
     outputs: &Outputs,
+    range: usize,
 ) -> Result<(), Failed>
     requires workers { All (λ frame. frame.worker < length outputs.now) frames.now }
-    requires merge { CanBeMerged outputs.now frames.now }
-    ensures written { OnOk result (AreWritten outputs.now frames.now
+    requires merge { CanBeMerged (parts_of outputs.now) frames.now }
+    requires cuts { AreCut outputs.now frames.now }
+    requires range { range ≤ cuts_in (length frames.now) }
+    ensures written { OnOk result (WritesRest (parts_of outputs.now) frames.now range
         (K.written sink.old) (K.written sink.new)) }
     ensures faults { OnOk result (K.faults sink.new ≡ K.faults sink.old) }
-    ensures part { OnErr result (AreWrittenInPart outputs.now frames.now
+    ensures part { OnErr result (WritesInPart (parts_of outputs.now) frames.now range
         (K.written sink.old) (K.written sink.new)) }
     ensures failed { OnErr result (Rose (K.faults sink.old) (K.faults sink.new)) }
 {
     let mut gathered = Vec::new(alloc);
-    let mut places = [0usize; WORKERS];
-    let mut rest = frames.octets();
-    while let Some((frame, after)) = read_frame(rest) {
-        let worker = usize::from(frame.worker);
+    let mut places = places_at(frames, outputs, range);
+    let mut rest = rest_at(frames, outputs, range);
+    while let Some((owner, after)) = skip_frame(rest) {
+        let worker = usize::from(owner);
         let octets = outputs.of_worker(worker);
         match put_frame(sink, &mut gathered, octets, places[worker]) {
             Ok(next) => places[worker] = next,
@@ -102,7 +113,7 @@ fn put_frame<K: Sink>(
 }
 
 // The output frame at the front.
-fn front_frame(octets: &[u8]) -> &[u8]
+pub(crate) fn front_frame(octets: &[u8]) -> &[u8]
     requires { BeginsWithFrame octets.now }
     ensures within { length result.now ≤ length octets.now }
     ensures front { (output : Output) (rest : List ℕ) → IsOutput output

@@ -1,24 +1,42 @@
 ghost use Rattle.std.specs.Prelude.{◌≡◌, ℕ, ◌<◌, List, [], ◌∷◌, length, map, slice_index_or};
+ghost use Rattle.worker_seats.specs.Cuts.{Part, parts_of};
 
+use crate::cut::Cut;
 use std::marker::Model;
 
-/// What workers have written: the octets of the output frames of each, at its number, in the order of its own frames.
+/// What one worker has written: the octets of its output frames, in the order of its own frames, and where it stood at each cut.
+#[derive(Drop)]
+pub(crate) struct OnePart {
+    pub(crate) octets: Vec<u8>,
+    pub(crate) cuts: Vec<Cut>,
+}
+
+impl Model for OnePart {
+    ghost use Rattle.worker_seats.specs.Cuts.{Part};
+
+    ghost Value = { Part };
+
+    ghost view = { λ p. record { octets = p.octets.items; cuts = p.cuts.items } };
+}
+
+/// What workers have written, of each at its number.
 #[derive(Drop)]
 pub struct Outputs {
-    parts: Vec<Vec<u8>>,
+    parts: Vec<OnePart>,
 }
 
 impl Model for Outputs {
-    ghost use Rattle.std.specs.Prelude.{List, ℕ, map};
+    ghost use Rattle.std.specs.Prelude.{List};
+    ghost use Rattle.worker_seats.specs.Cuts.{Part};
 
-    ghost Value = { List (List ℕ) };
+    ghost Value = { List Part };
 
-    ghost view = { λ o. map (λ part. part.items) o.parts.items };
+    ghost view = { λ o. o.parts.items };
 }
 
 impl Outputs {
-    pub(crate) fn of(parts: Vec<Vec<u8>>) -> Outputs
-        ensures { result ≡ map (λ part. part.items) parts.items }
+    pub(crate) fn of(parts: Vec<OnePart>) -> Outputs
+        ensures { result ≡ parts.items }
     {
         Outputs { parts }
     }
@@ -33,8 +51,16 @@ impl Outputs {
     /// What the worker has written.
     pub fn of_worker(&self, worker: usize) -> &[u8]
         requires { worker < length self.now }
-        ensures { (d : List ℕ) → result.now ≡ slice_index_or self.now worker d }
+        ensures { (d : Part) → result.now ≡ (slice_index_or self.now worker d).octets }
     {
-        self.parts[worker].as_slice()
+        self.parts[worker].octets.as_slice()
+    }
+
+    /// Where it stood at each cut.
+    pub(crate) fn cuts_of(&self, worker: usize) -> &[Cut]
+        requires { worker < length self.now }
+        ensures { (d : Part) → result.now ≡ (slice_index_or self.now worker d).cuts }
+    {
+        self.parts[worker].cuts.as_slice()
     }
 }

@@ -1,9 +1,11 @@
 ghost use Rattle.std.specs.Prelude.{◌≡◌, ◌<◌, ◌^◌, IfOk, length};
 ghost use Rattle.cache_versions.specs.Seats.{number_by};
 ghost use Rattle.resolver.specs.Caches.{IsSeatOf};
-ghost use Rattle.worker_seats.specs.Work.{IsWork};
+ghost use Rattle.worker_seats.specs.Cuts.{AreCuts};
+ghost use Rattle.worker_seats.specs.Work.{HasPassed, IsWork};
 
-use crate::frames::{Frames, frame_for, skip_frame};
+use crate::cut::{Cut, RANGE};
+use crate::frames::{Frames, frame_for};
 use crate::one_frame;
 use dname::OutOfMemory;
 use outside_core::{Gate, Side};
@@ -12,9 +14,6 @@ use resolver::{CacheSeat, SharedCache};
 use std::alloc::Global;
 use std::sync::Wait;
 
-/// Room for one output frame: most replies are no longer.
-const ROOM: usize = 512;
-
 /// A worker's number, and the seat that it works over.
 #[derive(Drop)]
 pub(crate) struct Job {
@@ -22,11 +21,12 @@ pub(crate) struct Job {
     pub(crate) seat: CacheSeat,
 }
 
-/// What a worker leaves: its seat, and the octets of its output frames.
+/// What a worker leaves: its seat, the octets of its output frames, and where it stood at each cut.
 #[derive(Drop)]
 pub(crate) struct Shift {
     pub(crate) seat: CacheSeat,
     pub(crate) octets: Vec<u8>,
+    pub(crate) cuts: Vec<Cut>,
 }
 
 /// Does the worker's own frames, in their order, each between two passes of the gate.
@@ -42,18 +42,29 @@ pub(crate) fn work_shift<R: Wait, G: Gate>(
     requires few { length frames.now < 2 ^ 32 }
     ensures object { IfOk result (λ shift. IsSeatOf cache.now shift.seat) }
     ensures number { IfOk result (λ shift. number_by shift.seat ≡ number_by job.seat) }
+    ensures cuts { IfOk result (λ shift.
+        AreCuts job.worker frames.now shift.octets.items shift.cuts.items) }
     ensures work { IfOk result (λ shift.
         IsWork job.worker job.seat shift.seat frames.now shift.octets.items) }
 {
     let Job { worker, seat } = job;
     let mut seat = seat;
+    let whole = frames.octets().len();
     let mut octets = Vec::new(alloc);
     // So that it is seldom moved; without that room it grows.
-    let _ = octets.reserve_exact(room_for(frames.octets(), worker));
+    let _ = octets.reserve_exact(whole);
+    let mut cuts = Vec::new(alloc);
     let mut reply = ReplyBuffer::new();
     let mut call: u32 = 0;
+    // how many frames of the range have been passed
+    let mut passed: usize = 0;
     let mut rest = frames.octets();
     while let Some((own, after)) = frame_for(rest, worker) {
+        let here = Cut {
+            from: whole - rest.len(),
+            place: octets.len(),
+        };
+        passed = count_frame(&mut cuts, passed, here)?;
         if let Some(frame) = own {
             gate.pass(rt, frame.worker, call, Side::Before);
             one_frame(rt, alloc, cache, &mut seat, &frame, &mut reply, &mut octets)?;
@@ -62,18 +73,17 @@ pub(crate) fn work_shift<R: Wait, G: Gate>(
         }
         rest = after;
     }
-    Ok(Shift { seat, octets })
+    Ok(Shift { seat, octets, cuts })
 }
 
-// Room for the outputs of the worker's frames.
-fn room_for(octets: &[u8], worker: usize) -> usize {
-    let mut room: usize = 0;
-    let mut rest = octets;
-    while let Some((owner, after)) = skip_frame(rest) {
-        if worker == usize::from(owner) {
-            room = room.saturating_add(ROOM);
-        }
-        rest = after;
+// One more frame of the range is passed, or, behind a full range and a cut, the first one of the
+// next.
+fn count_frame(cuts: &mut Vec<Cut>, passed: usize, here: Cut) -> Result<usize, OutOfMemory>
+    ensures { IfOk result (HasPassed passed here cuts.old.items cuts.new.items) }
+{
+    if passed < RANGE {
+        return Ok(passed + 1);
     }
-    room
+    cuts.push(here)?;
+    Ok(1)
 }

@@ -1,4 +1,5 @@
 mod meeting;
 mod messages;
 mod pairs;
+mod ranges;
 mod running;

@@ -2,12 +2,13 @@ ghost use Rattle.std.specs.Prelude.{◌≡◌, ℕ, List, ◌<◌, ◌^◌, All,
 ghost use Rattle.cache_versions.specs.Rows.{AreNumbered};
 ghost use Rattle.resolver.specs.Caches.{IsSeatOf};
 ghost use Rattle.worker_seats.specs.declared.shift.Job.{Job};
+ghost use Rattle.worker_seats.specs.Cuts.{AreCut, parts_of};
 ghost use Rattle.worker_seats.specs.Merge.{AreMerged, CanBeMerged};
-ghost use Rattle.worker_seats.specs.Work.{ArePlaced, IsShiftOf};
+ghost use Rattle.worker_seats.specs.Work.{ArePlaced, IsShiftOf, part_of};
 ghost use Rattle.worker_seats.specs.Workers.{HaveWorked};
 
 use crate::frames::Frames;
-use crate::outputs::Outputs;
+use crate::outputs::{OnePart, Outputs};
 use crate::shift::{Job, Shift, work_shift};
 use dname::OutOfMemory;
 use outside_core::Gate;
@@ -36,9 +37,10 @@ pub fn run_workers<R: Threads + Wait + Sync, G: Gate>(
     ensures object { IfOk result (λ done. All (IsSeatOf cache.now) done.0.items) }
     ensures numbers { IfOk result (λ done. AreNumbered done.0.items) }
     ensures each { IfOk result (λ done. length done.1 ≡ length seats.items) }
-    ensures merge { IfOk result (λ done. CanBeMerged done.1 frames.now) }
+    ensures merge { IfOk result (λ done. CanBeMerged (parts_of done.1) frames.now) }
+    ensures cuts { IfOk result (λ done. AreCut done.1 frames.now) }
     ensures worked { IfOk result (λ done. (octets : List ℕ)
-        → AreMerged done.1 frames.now octets
+        → AreMerged (parts_of done.1) frames.now octets
         → HaveWorked seats.items done.0.items frames.now octets) }
 {
     let results = work_all(rt, alloc, cache, seats, frames, gate)?;
@@ -125,14 +127,14 @@ fn split(alloc: Global, shifts: Vec<Shift>) -> Result<(Vec<CacheSeat>, Outputs),
     ensures seats { IfOk result
         (λ done. done.0.items ≡ map (λ shift. shift.seat) shifts.items) }
     ensures parts { IfOk result
-        (λ done. done.1 ≡ map (λ shift. shift.octets.items) shifts.items) }
+        (λ done. done.1 ≡ map part_of shifts.items) }
 {
     let mut seats = Vec::new(alloc);
     let mut parts = Vec::new(alloc);
     for shift in shifts {
-        let Shift { seat, octets } = shift;
+        let Shift { seat, octets, cuts } = shift;
         seats.push(seat)?;
-        parts.push(octets)?;
+        parts.push(OnePart { octets, cuts })?;
     }
     Ok((seats, Outputs::of(parts)))
 }

@@ -50,11 +50,13 @@ pub fn written<R: Threads + Wait + Sync, G: Gate>(
             let closed = cache.close(rt, seats);
             let mut octets = Vec::new(alloc);
             if write_outputs(
+                rt,
                 alloc,
                 &mut StreamSink::over(&mut octets),
                 &frames,
                 &outputs,
-            ).is_err()
+            )
+            .is_err()
             {
                 return Err("a failed write")?;
             }

@@ -2,10 +2,12 @@ use Rattle.std.proofs.Common.{[], sym, subst}
 use Rattle.std.specs.String.{string_bytes}
 use Rattle.replay_meaning.specs.Frame.{inputs_spelling}
 use Rattle.replay_meaning.specs.Replay.{IsReplay}
+use Rattle.worker_seats.specs.Cuts.{Part}
 use Rattle.dnsreplay.specs.Made.{made_inputs}
 use Rattle.dnsreplay.proofs.MadeLemmas.{made_summary, then_ok}
 use Rattle.dnsreplay.proofs.selfrun.selfrun.Goals as goal
 
 pub returns : goal.returns
 returns g c =
-    then_ok _ _ c.summary.result c.summary.ensures (λ text lines. made_summary c.args.seed c.args.names c.args.queries c.of_worker.result.now (string_bytes text) (subst (IsReplay 1 (inputs_spelling (made_inputs c.args.seed c.args.names c.args.queries))) (sym (c.of_worker.ensures [])) (c.in_ok-outputs.ensures.replay [])) lines)
+    let none : Part = record { octets = []; cuts = [] } in
+    then_ok _ _ c.summary.result c.summary.ensures (λ text lines. made_summary c.args.seed c.args.names c.args.queries c.of_worker.result.now (string_bytes text) (subst (IsReplay 1 (inputs_spelling (made_inputs c.args.seed c.args.names c.args.queries))) (sym (c.of_worker.ensures none)) (c.in_ok-outputs.ensures.replay none)) lines)

@@ -8,7 +8,7 @@ abbrev pub invariant-loop-own : goal.invariant-loop-own
 invariant-loop-own g l = record {
   object : IsSeatOf l.cache l.seat;
   number : number_by l.seat ≡ number_by l.fn.job.seat;
-  way : IsUnderWay l.fn.job.worker l.fn.job.seat l.seat l.frames l.rest l.call l.octets.items;
+  way : IsUnderWay l.fn.job.worker l.fn.job.seat l.seat l.frames l.rest l.call l.octets.items l.cuts.items l.passed;
 }
 
 abbrev pub decreases-loop-own : goal.decreases-loop-own

@@ -1,12 +1,14 @@
 use Rattle.std.proofs.Common.{◌≡◌, ◌<◌, Ok, length, map, sym, ap, subst, ◌∙◌, arith, get_or}
 use Rattle.std.specs.List.{All}
 use Rattle.std.proofs.lemmas.List.{length-map}
+use Rattle.std.proofs.lemmas.Simd.{map-map}
 use Rattle.replay_meaning.specs.Frame.{Input}
 use Rattle.resolver.specs.Caches.{IsSeatOf}
 use Rattle.cache_versions.specs.Rows.{AreNumbered}
 use Rattle.cache_versions.specs.Seats.{number_by}
+use Rattle.worker_seats.specs.Cuts.{AreCut, AreCuts, Part, parts_of}
 use Rattle.worker_seats.specs.Merge.{AreOutputsOf, AreMerged, CanBeMerged}
-use Rattle.worker_seats.specs.Work.{IsShiftOf, IsWork}
+use Rattle.worker_seats.specs.Work.{IsShiftOf, IsWork, part_of}
 use Rattle.worker_seats.specs.Workers.{HaveWorked}
 use Rattle.worker_seats.proofs.LawLemmas.{map_at, some_of}
 use Rattle.worker_seats.proofs.MergeableLemmas.{can_merge}
@@ -24,8 +26,8 @@ pub returns-clause-each : goal.returns-clause-each
 returns-clause-each g c =
     let shifts = c.in_ok-shifts.shifts.items in
     let same : length shifts ≡ length c.args.seats.items = results_length c.in_ok-results.results.items shifts c.in_ok-shifts.ensures ∙ c.in_ok-results.ensures.all in
-    if_ok_from c.split.result (λ done. done.1 ≡ map (λ shift. shift.octets.items) shifts) (λ done. length done.1 ≡ length c.args.seats.items) c.split.ensures.parts
-    (λ done is. ap length is ∙ length-map shifts (λ shift. shift.octets.items) ∙ same)
+    if_ok_from c.split.result (λ done. done.1 ≡ map part_of shifts) (λ done. length done.1 ≡ length c.args.seats.items) c.split.ensures.parts
+    (λ done is. ap length is ∙ length-map shifts part_of ∙ same)
 
 pub returns-clause-object : goal.returns-clause-object
 returns-clause-object g c =
@@ -59,8 +61,8 @@ returns-clause-merge g c =
     let same : length shifts ≡ length seats = results_length c.in_ok-results.results.items shifts c.in_ok-shifts.ensures ∙ c.in_ok-results.ensures.all in
     let many : length parts ≡ length shifts = length-map shifts (λ shift. shift.octets.items) in
     let below = subst (λ n. All (λ (input : Input). input.worker < n) inputs) (sym same ∙ sym many) c.requires.workers in
-    if_ok_from c.split.result (λ done. done.1 ≡ map (λ shift. shift.octets.items) shifts) (λ done. CanBeMerged done.1 inputs) c.split.ensures.parts
-    (λ done is. subst (λ l. CanBeMerged l inputs) (sym is)
+    if_ok_from c.split.result (λ done. done.1 ≡ map part_of shifts) (λ done. CanBeMerged (parts_of done.1) inputs) c.split.ensures.parts
+    (λ done is. subst (λ l. CanBeMerged l inputs) (sym (ap parts_of is ∙ map-map (λ part. part.octets) part_of shifts))
     (can_merge parts inputs below
     (λ worker o lt.
     let inside : worker < length shifts = omega (arith, lt, many) in
@@ -71,16 +73,32 @@ returns-clause-merge g c =
     (λ shift is. outputs_at (λ s. s.seat) (λ s. s.octets.items) worker (get_or seats worker e) shift inputs is.work)) in
     subst (AreOutputsOf worker inputs) (sym (map_at (λ shift. shift.octets.items) shifts worker o d inside)) one)))
 
+pub returns-clause-cuts : goal.returns-clause-cuts
+returns-clause-cuts g c =
+    let shifts = c.in_ok-shifts.shifts.items in
+    let seats = c.args.seats.items in
+    let inputs = c.args.frames.now in
+    let same : length shifts ≡ length seats = results_length c.in_ok-results.results.items shifts c.in_ok-shifts.ensures ∙ c.in_ok-results.ensures.all in
+    if_ok_from c.split.result (λ done. done.1 ≡ map part_of shifts) (λ done. AreCut done.1 inputs) c.split.ensures.parts
+    (λ done is. subst (λ l. AreCut l inputs) (sym is)
+    (λ worker o lt.
+    let inside : worker < length shifts = omega (arith, lt, length-map shifts part_of) in
+    let d = some_of shifts worker inside in
+    let e = some_of seats worker (omega (arith, inside, same)) in
+    subst (λ (part : Part). AreCuts worker inputs part.octets part.cuts) (sym (map_at part_of shifts worker o d inside))
+    (shift_at (λ shift. AreCuts worker inputs shift.octets.items shift.cuts.items) c.in_ok-results.results.items shifts worker d c.in_ok-shifts.ensures inside
+    (if_ok_weaker (IsShiftOf c.args.cache.now (record { worker = worker; seat = get_or seats worker e }) inputs) (λ shift. AreCuts worker inputs shift.octets.items shift.cuts.items) _ (c.in_ok-results.ensures.each worker (Ok d) e (omega (arith, inside, same))) (λ shift is. is.cuts)))))
+
 pub returns-clause-worked : goal.returns-clause-worked
 returns-clause-worked g c =
     let shifts = c.in_ok-shifts.shifts.items in
     let seats = c.args.seats.items in
     let inputs = c.args.frames.now in
     let same : length shifts ≡ length seats = results_length c.in_ok-results.results.items shifts c.in_ok-shifts.ensures ∙ c.in_ok-results.ensures.all in
-    if_ok_both c.split.result (λ done. done.0.items ≡ map (λ shift. shift.seat) shifts) (λ done. done.1 ≡ map (λ shift. shift.octets.items) shifts)
-    (λ done. (octets : _) → AreMerged done.1 inputs octets → HaveWorked seats done.0.items inputs octets) c.split.ensures.seats c.split.ensures.parts
+    if_ok_both c.split.result (λ done. done.0.items ≡ map (λ shift. shift.seat) shifts) (λ done. done.1 ≡ map part_of shifts)
+    (λ done. (octets : _) → AreMerged (parts_of done.1) inputs octets → HaveWorked seats done.0.items inputs octets) c.split.ensures.seats c.split.ensures.parts
     (λ done is parts octets merged. subst (λ l. HaveWorked seats l inputs octets) (sym is)
     (worked_all (λ shift. shift.seat) (λ shift. shift.octets.items) seats shifts inputs octets same
     (λ worker e d lt. shift_at (λ shift. IsWork worker (get_or seats worker e) shift.seat inputs shift.octets.items) c.in_ok-results.results.items shifts worker d c.in_ok-shifts.ensures lt
     (if_ok_weaker (IsShiftOf c.args.cache.now (record { worker = worker; seat = get_or seats worker e }) inputs) (λ shift. IsWork worker (get_or seats worker e) shift.seat inputs shift.octets.items) _ (c.in_ok-results.ensures.each worker (Ok d) e (omega (arith, lt, same))) (λ shift is. is.work)))
-    (subst (λ l. AreMerged l inputs octets) parts merged)))
+    (subst (λ l. AreMerged l inputs octets) (ap parts_of parts ∙ map-map (λ part. part.octets) part_of shifts) merged)))
