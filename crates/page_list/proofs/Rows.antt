@@ -132,12 +132,12 @@ first_at f xs p b a h is some e =
     (omega (arith, length_more f xs p b h (sym is), length_along f xs (p + 1) (length xs) (omega arith), length_all f xs (length xs) (omega arith)), e ∙ (sym (entry_at f xs p _ 0 b a h is refl some) ∙ ap (λ n. get_or (flat_map f xs) n a) (add-zero (length (flat_map f (take p xs))))))
 
 -- one more part cut off the end
-pub cut_more : {X : Type 0} (rest rest' : List X) (parts parts' : List (List X)) (part : List X) (at : ℕ) (goal : List X) → rest' ≡ take at rest → part ≡ drop at rest → parts' ≡ parts ++ part ∷ [] → rest ++ flat_map (λ p. p) (reverse parts) ≡ goal → rest' ++ flat_map (λ p. p) (reverse parts') ≡ goal
-cut_more rest rest' parts parts' part at goal h k new inv =
-    let e : rest' ++ part ≡ rest = rw (h, k) (take-append-drop at rest) in
-    ap (λ z. rest' ++ flat_map (λ p. p) (reverse z)) new
-    ∙ (ap (λ z. rest' ++ flat_map (λ p. p) z) (reverse-append parts (part ∷ []))
-    ∙ (sym (append_assoc rest' part (flat_map (λ p. p) (reverse parts))) ∙ (ap (λ z. z ++ flat_map (λ p. p) (reverse parts)) e ∙ inv)))
+pub cut_more : {X P : Type 0} (values : P → List X) (rest rest' : List X) (parts parts' : List P) (new : P) (part : List X) (at : ℕ) (goal : List X) → rest' ≡ take at rest → part ≡ drop at rest → values new ≡ part → parts' ≡ parts ++ new ∷ [] → rest ++ flat_map values (reverse parts) ≡ goal → rest' ++ flat_map values (reverse parts') ≡ goal
+cut_more values rest rest' parts parts' new part at goal h k is more inv =
+    let e : rest' ++ values new ≡ rest = rw (h, is, k) (take-append-drop at rest) in
+    ap (λ z. rest' ++ flat_map values (reverse z)) more
+    ∙ (ap (λ z. rest' ++ flat_map values z) (reverse-append parts (new ∷ []))
+    ∙ (sym (append_assoc rest' (values new) (flat_map values (reverse parts))) ∙ (ap (λ z. z ++ flat_map values (reverse parts)) e ∙ inv)))
 
 -- the block before the place p is taken into what stands there
 pub joined_left : {X A : Type 0} (f : X → List A) (left : List X) (p : ℕ) (x : X) (made both rest : List A) → 0 < p → p < length left → x ≡ get_or left (p - 1) x → both ≡ f x ++ made → flat_map f (take (p - 1) left) ++ both ++ rest ≡ flat_map f (take p left) ++ made ++ rest

@@ -58,7 +58,7 @@ fn blocks_of<T: Drop, B: Block<T>>(
         ≡ flat_map B.entries (map arc_value shares.items)) }
 {
     let mut made = Vec::new(alloc);
-    for part in cut(alloc, shares, growth)? {
+    for part in cut::<Arc<B>, Short<Arc<B>>>(alloc, shares, growth)? {
         made.push(Arc::new(alloc, Blocks::of(alloc, part)?)?)?;
     }
     Ok(made)

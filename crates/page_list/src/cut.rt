@@ -1,17 +1,10 @@
 //! Parts of a long list.
 ghost use Rattle.std.specs.Prelude.{◌≡◌, IfOk, length, ◌<◌, ◌≤◌};
 ghost use Rattle.std.specs.List.{flat_map};
-ghost use Rattle.page_list.specs.declared.short.TheConstants.{MOST};
 
 use crate::OutOfMemory;
-use crate::short::{MOST, Short};
+use crate::part::Part;
 use std::alloc::Global;
-
-/// The least that a part of a cut list has.
-const LEAST: usize = MOST / 4;
-
-/// What a part has in a list that grows at its end: it is as good as done, with some room for what still comes between.
-const NEARLY_ALL: usize = MOST / 4 * 3;
 
 /// Where a list is thought to grow further.
 #[derive(Clone, Copy)]
@@ -31,38 +24,43 @@ impl Growth {
     }
 }
 
-/// The values in parts of a quarter of `MOST` to `MOST`, or in one part where there are fewer: even ones, of half of it at
-/// least, or in a list that grows at its end three quarters of it in each part but the last.
-pub(crate) fn cut<X: Drop>(
+/// The values in parts of a quarter of what a part may have to all of it, or in one part where there are fewer: even ones, of half
+/// of it at least, or in a list that grows at its end three quarters of it in each part but the last.
+pub(crate) fn cut<X: Drop, P: Part<X>>(
     alloc: Global,
     values: Vec<X>,
     growth: Growth,
-) -> Result<Vec<Short<X>>, OutOfMemory>
-    ensures { IfOk result (λ parts. flat_map (λ part. part) parts.items ≡ values.items) }
+) -> Result<Vec<P>, OutOfMemory>
+    ensures { IfOk result (λ parts. flat_map P.values parts.items ≡ values.items) }
 {
+    let most = P::most();
     let mut rest = values;
     let mut parts = Vec::new(alloc);
-    while rest.len() > MOST {
-        let at = rest.len() - last_size(rest.len(), growth);
+    while rest.len() > most {
+        let at = rest.len() - last_size(rest.len(), growth, most);
         let part = rest.split_off(at)?;
-        parts.push(Short::of(part))?;
+        parts.push(P::of(part)?)?;
     }
     rest.shrink_to_fit();
     if !rest.is_empty() {
-        parts.push(Short::of(rest))?;
+        parts.push(P::of(rest)?)?;
     }
     parts.reverse();
     Ok(parts)
 }
 
 // How many of so many values, too many for one part, the last part has.
-fn last_size(count: usize, growth: Growth) -> usize
-    requires { MOST < count }
+fn last_size(count: usize, growth: Growth, most: usize) -> usize
+    requires some { 4 ≤ most }
+    requires many { most < count }
     ensures some { 0 < result }
-    ensures few { result ≤ MOST }
+    ensures few { result ≤ most }
 {
-    match growth {
-        Growth::Anywhere => count / ((count - 1) / MOST + 1),
-        Growth::AtEnd => (count - LEAST) % NEARLY_ALL + LEAST,
-    }
+    let least = most / 4;
+    let size = match growth {
+        Growth::Anywhere => count / ((count - 1) / most + 1),
+        // as good as done, with some room for what still comes between
+        Growth::AtEnd => (count - least) % (least * 3) + least,
+    };
+    size.clamp(1, most)
 }

@@ -1,15 +1,16 @@
 //! Entries that lie in a row.
-ghost use Rattle.std.specs.Prelude.{◌≡◌, ◌<◌, ◌≤◌, ◌+◌, ◌++◌, ◌∷◌, false, length, take, drop, IfOk, IfSome, IsTrue, OnOk, vec_capacity, vec_len};
+ghost use Rattle.std.specs.Prelude.{◌≡◌, ◌<◌, ◌≤◌, ◌+◌, ◌-◌, ◌++◌, ◌∷◌, false, length, take, drop, IfOk, IfSome, IsTrue, OnOk, vec_capacity, vec_len};
 
 use crate::parts::{items_before, items_from};
 use crate::short::MOST;
 use crate::{Entry, OutOfMemory};
 use std::alloc::{AllocError, Global};
 
-/// New owners of what stands in `before`, then in `between`, then in `after`, with room for a page's entries, so that a page
-/// that is changed where it lies takes no memory.
+/// New owners of what stands in `before`, then in `between`, then in `after`, with room for `room` entries, so that a page that is
+/// changed where it lies takes no memory.
 pub(crate) fn entries_round<T: Drop>(
     alloc: Global,
+    room: usize,
     before: &[Entry<T>],
     between: &[Entry<T>],
     after: &[Entry<T>],
@@ -19,7 +20,7 @@ pub(crate) fn entries_round<T: Drop>(
     let Some(count) = total(before.len(), between.len(), after.len()) else {
         return Err(AllocError);
     };
-    let mut all = Vec::with_capacity(alloc, count.max(MOST))?;
+    let mut all = Vec::with_capacity(alloc, count.max(room))?;
     put_onto(&mut all, before)?;
     put_onto(&mut all, between)?;
     put_onto(&mut all, after)?;
@@ -55,6 +56,58 @@ fn put_onto<T: Drop>(onto: &mut Vec<Entry<T>>, from: &[Entry<T>]) -> Result<(), 
         onto.push_reserved(entry.try_clone()?);
     }
     Ok(())
+}
+
+/// How many entries there are with so many in place of the entries `from..to`; none where that has no place in a word.
+pub(crate) fn count_after(before: usize, from: usize, to: usize, items: usize) -> Option<usize>
+    requires order { from ≤ to }
+    requires in_range { to ≤ before }
+    ensures { IfSome result (λ n. n ≡ from + items + (before - to)) }
+{
+    let kept = from + (before - to);
+    kept.checked_add(items)
+}
+
+/// Whether a page of `before` entries may be exchanged for one of `count`: neither more than `most`, nor made smaller than a quarter
+/// of it.
+pub(crate) fn may_have(before: usize, count: usize, most: usize) -> bool
+    ensures some { IsTrue result → 0 < count }
+    ensures few { IsTrue result → count ≤ most }
+{
+    0 < count && count <= most && (most / 4 <= count || before <= count)
+}
+
+/// New owners of the entries with `items` in place of those in `from..to`, in a page that may have `most`. None where it can't be
+/// exchanged for such a page, and for want of memory.
+pub(crate) fn replaced_entries<T: Drop>(
+    alloc: Global,
+    old: &[Entry<T>],
+    from: usize,
+    to: usize,
+    items: &[Entry<T>],
+    most: usize,
+) -> Option<Vec<Entry<T>>>
+    requires order { from ≤ to }
+    requires in_range { to ≤ length old.now }
+    ensures entries { IfSome result
+        (λ made. made.items ≡ take from old.now ++ items.now ++ drop to old.now) }
+    ensures some { IfSome result (λ made. 0 < length made.items) }
+    ensures few { IfSome result (λ made. length made.items ≤ most) }
+{
+    let count = count_after(old.len(), from, to, items.len())?;
+    if !may_have(old.len(), count, most) {
+        return None;
+    }
+    match entries_round(
+        alloc,
+        most,
+        items_before(old, from),
+        items,
+        items_from(old, to),
+    ) {
+        Ok(made) => Some(made),
+        Err(_) => None,
+    }
 }
 
 /// Puts `items` in place of the entries `from..to`: of one entry where it lies. Nothing is changed for want of memory.
@@ -129,7 +182,13 @@ fn replace_all<T: Drop>(
     ensures same { result ≡ false → all.new.items ≡ all.old.items }
 {
     let old = all.as_slice();
-    match entries_round(alloc, items_before(old, from), items, items_from(old, to)) {
+    match entries_round(
+        alloc,
+        MOST,
+        items_before(old, from),
+        items,
+        items_from(old, to),
+    ) {
         Ok(made) => {
             *all = made;
             true

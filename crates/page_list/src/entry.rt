@@ -8,7 +8,7 @@ use std::sync::Arc;
 
 /// A shared value, its mark and its note, which lie together.
 #[derive(Drop)]
-pub(crate) struct Entry<T> {
+pub struct Entry<T> {
     mark: u64,
     note: u64,
     share: Arc<T>,

@@ -10,21 +10,21 @@ use crate::entries::copies_of;
 use crate::page::Page;
 use crate::row::Row;
 use crate::splice::spliced_row;
-use crate::{Block, Entry, Found, OutOfMemory};
+use crate::{Block, Entry, Found, OutOfMemory, PageEntries};
 use std::alloc::Global;
 use std::marker::Model;
 
-type Shelf<T> = Blocks<T, Page<T>>;
+type Shelf<T, E> = Blocks<T, Page<T, E>>;
 
-type Bookcase<T> = Blocks<T, Shelf<T>>;
+type Bookcase<T, E> = Blocks<T, Shelf<T, E>>;
 
 /// Entries in shared pages, seen as the list of them.
 #[derive(Drop)]
-pub(crate) struct EntryList<T: Drop> {
-    pub(crate) bookcases: Row<T, Bookcase<T>>,
+pub(crate) struct EntryList<T: Drop, E: PageEntries<T>> {
+    pub(crate) bookcases: Row<T, Bookcase<T, E>>,
 }
 
-impl<T: Drop> Model for EntryList<T> {
+impl<T: Drop, E: PageEntries<T>> Model for EntryList<T, E> {
     ghost use Rattle.std.specs.Prelude.{List};
     ghost use Rattle.std.specs.List.{flat_map};
     ghost use Rattle.page_list.specs.Marks.{Marked};
@@ -34,8 +34,8 @@ impl<T: Drop> Model for EntryList<T> {
     ghost view = { λ l. flat_map (λ bookcase. bookcase) l.bookcases };
 }
 
-impl<T: Drop> EntryList<T> {
-    pub(crate) fn empty(alloc: Global) -> EntryList<T>
+impl<T: Drop, E: PageEntries<T>> EntryList<T, E> {
+    pub(crate) fn empty(alloc: Global) -> EntryList<T, E>
         ensures { result ≡ [] }
     {
         EntryList {
@@ -117,7 +117,7 @@ impl<T: Drop> EntryList<T> {
         from: usize,
         to: usize,
         items: Vec<Entry<T>>,
-    ) -> Result<EntryList<T>, OutOfMemory>
+    ) -> Result<EntryList<T, E>, OutOfMemory>
         requires order { from ≤ to }
         requires in_range { to ≤ length self.now }
         ensures { IfOk result
@@ -131,7 +131,7 @@ impl<T: Drop> EntryList<T> {
     }
 
     /// Another owner of its pages.
-    pub(crate) fn try_clone(&self, alloc: Global) -> Result<EntryList<T>, OutOfMemory>
+    pub(crate) fn try_clone(&self, alloc: Global) -> Result<EntryList<T, E>, OutOfMemory>
         ensures { IfOk result (λ clone. clone ≡ self.now) }
     {
         Ok(EntryList {
@@ -147,7 +147,7 @@ impl<T: Drop> EntryList<T> {
         from: usize,
         to: usize,
         items: &[Entry<T>],
-    ) -> Result<EntryList<T>, OutOfMemory>
+    ) -> Result<EntryList<T, E>, OutOfMemory>
         requires order { from ≤ to }
         requires in_range { to ≤ length self }
         ensures { IfOk result
@@ -162,13 +162,13 @@ impl<T: Drop> EntryList<T> {
 }
 
 // The list of `old` with `items` in place of the entries `from..to`, in new pages there.
-fn respliced<T: Drop>(
+fn respliced<T: Drop, E: PageEntries<T>>(
     alloc: Global,
-    old: &Row<T, Bookcase<T>>,
+    old: &Row<T, Bookcase<T, E>>,
     from: usize,
     to: usize,
     items: Vec<Entry<T>>,
-) -> Result<EntryList<T>, OutOfMemory>
+) -> Result<EntryList<T, E>, OutOfMemory>
     requires order { from ≤ to }
     requires in_range { to ≤ length (flat_map (λ bookcase. bookcase) old.now) }
     ensures { IfOk result (λ made. made

@@ -6,6 +6,7 @@
 //! a search has told so far).
 #![tactic(auto)]
 
+mod apart;
 mod block;
 mod blocks;
 mod cut;
@@ -18,13 +19,17 @@ mod iter;
 mod marked_list;
 mod marking;
 mod page;
+mod page_entries;
+mod part;
 mod parts;
 mod row;
 mod share;
 mod short;
 mod slot;
 mod splice;
+mod within;
 
+pub use apart::EntriesApart;
 pub(crate) use block::Block;
 pub(crate) use entry::Entry;
 pub(crate) use found::Found;
@@ -32,7 +37,9 @@ pub use found::Last;
 pub use iter::Iter;
 pub use marked_list::{MarkedList, PageList};
 pub use marking::{Marking, NoMarks};
+pub use page_entries::PageEntries;
 use std::alloc::AllocError;
+pub use within::EntriesWithin;
 
 /// Want of memory, or of a further owner of an entry.
 pub type OutOfMemory = AllocError;

@@ -7,7 +7,7 @@ ghost use Rattle.std.specs.Arc.{arc_value};
 ghost use Rattle.page_list.specs.Marks.{marked_by, PartsAtMark};
 
 use crate::entry_list::EntryList;
-use crate::{Entry, Iter, Last, Marking, NoMarks, OutOfMemory};
+use crate::{EntriesApart, Entry, Iter, Last, Marking, NoMarks, OutOfMemory, PageEntries};
 use std::alloc::Global;
 use std::marker::{Model, PhantomData};
 use std::slice::from_ref;
@@ -16,15 +16,15 @@ use std::sync::Arc;
 /// A list that stays, seen as the list of its entries: a change makes another list, which shares with it all that
 /// it does not touch. It keeps the mark of each entry beside it for its searches.
 #[derive(Drop)]
-pub struct MarkedList<T: Drop, M: Marking<T>> {
-    entries: EntryList<T>,
+pub struct MarkedList<T: Drop, M: Marking<T>, E: PageEntries<T> = EntriesApart<T>> {
+    entries: EntryList<T, E>,
     by: PhantomData<M>,
 }
 
 /// A list that stays, without marks.
 pub type PageList<T> = MarkedList<T, NoMarks>;
 
-impl<T: Drop, M: Marking<T>> Model for MarkedList<T, M> {
+impl<T: Drop, M: Marking<T>, E: PageEntries<T>> Model for MarkedList<T, M, E> {
     ghost use Rattle.std.specs.Prelude.{◌≡◌, List, map};
     ghost use Rattle.page_list.specs.Marks.{marked_by, value_of};
 
@@ -35,9 +35,9 @@ impl<T: Drop, M: Marking<T>> Model for MarkedList<T, M> {
     ghost invariant = { λ l. l.entries ≡ map (marked_by M.mark M.note) (map value_of l.entries) };
 }
 
-impl<T: Drop, M: Marking<T>> MarkedList<T, M> {
+impl<T: Drop, M: Marking<T>, E: PageEntries<T>> MarkedList<T, M, E> {
     /// A list with no entry, which takes no memory.
-    pub fn empty(alloc: Global) -> MarkedList<T, M>
+    pub fn empty(alloc: Global) -> MarkedList<T, M, E>
         ensures { result ≡ [] }
     {
         MarkedList {
@@ -66,7 +66,7 @@ impl<T: Drop, M: Marking<T>> MarkedList<T, M> {
     }
 
     /// The entries in order, one after another: the whole list at a cost linear in its length.
-    pub fn iter(&self) -> Iter<'_, T>
+    pub fn iter(&self) -> Iter<'_, T, E>
         ensures { result ≡ self.now }
     {
         Iter::over(&self.entries)
@@ -127,7 +127,7 @@ impl<T: Drop, M: Marking<T>> MarkedList<T, M> {
         from: usize,
         to: usize,
         items: Vec<Arc<T>>,
-    ) -> Result<MarkedList<T, M>, OutOfMemory>
+    ) -> Result<MarkedList<T, M, E>, OutOfMemory>
         requires order { from ≤ to }
         requires in_range { to ≤ length self.now }
         ensures { IfOk result (λ made.
@@ -142,7 +142,7 @@ impl<T: Drop, M: Marking<T>> MarkedList<T, M> {
     }
 
     /// Another owner of its entries: a list that may be changed where it lies, while this one stays.
-    pub fn try_clone(&self, alloc: Global) -> Result<MarkedList<T, M>, OutOfMemory>
+    pub fn try_clone(&self, alloc: Global) -> Result<MarkedList<T, M, E>, OutOfMemory>
         ensures { IfOk result (λ clone. clone ≡ self.now) }
     {
         let entries = self.entries.try_clone(alloc)?;
@@ -159,7 +159,7 @@ impl<T: Drop, M: Marking<T>> MarkedList<T, M> {
         from: usize,
         to: usize,
         item: Arc<T>,
-    ) -> Result<MarkedList<T, M>, OutOfMemory>
+    ) -> Result<MarkedList<T, M, E>, OutOfMemory>
         requires order { from ≤ to }
         requires in_range { to ≤ length self.now }
         ensures { IfOk result (λ made.
@@ -174,7 +174,7 @@ impl<T: Drop, M: Marking<T>> MarkedList<T, M> {
         alloc: Global,
         from: usize,
         to: usize,
-    ) -> Result<MarkedList<T, M>, OutOfMemory>
+    ) -> Result<MarkedList<T, M, E>, OutOfMemory>
         requires order { from ≤ to }
         requires in_range { to ≤ length self.now }
         ensures { IfOk result (λ made. made ≡ take from self.now ++ drop to self.now) }
@@ -189,7 +189,7 @@ impl<T: Drop, M: Marking<T>> MarkedList<T, M> {
         from: usize,
         to: usize,
         item: Arc<T>,
-    ) -> Result<MarkedList<T, M>, OutOfMemory>
+    ) -> Result<MarkedList<T, M, E>, OutOfMemory>
         requires order { from ≤ to }
         requires in_range { to ≤ length self }
         ensures { IfOk result
@@ -209,7 +209,7 @@ impl<T: Drop, M: Marking<T>> MarkedList<T, M> {
         alloc: Global,
         from: usize,
         to: usize,
-    ) -> Result<MarkedList<T, M>, OutOfMemory>
+    ) -> Result<MarkedList<T, M, E>, OutOfMemory>
         requires order { from ≤ to }
         requires in_range { to ≤ length self }
         ensures { IfOk result (λ made. made ≡ take from self ++ drop to self) }
@@ -238,14 +238,14 @@ fn marked_entries<T: Drop, M: Marking<T>>(
     Ok(made)
 }
 
-impl<'a, T: Drop, M: Marking<T>> IntoIterator for &'a MarkedList<T, M> {
+impl<'a, T: Drop, M: Marking<T>, E: PageEntries<T>> IntoIterator for &'a MarkedList<T, M, E> {
     type Item = &'a Arc<T>;
 
-    type IntoIter = Iter<'a, T>;
+    type IntoIter = Iter<'a, T, E>;
 
     ghost into_iter_gives = { λ list it. it ≡ list.now };
 
-    fn into_iter(self) -> Iter<'a, T> {
+    fn into_iter(self) -> Iter<'a, T, E> {
         self.iter()
     }
 }

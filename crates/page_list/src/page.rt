@@ -1,86 +1,60 @@
-//! A page: one to `MOST` entries.
+//! A page: some entries.
 ghost use Rattle.std.specs.Prelude.{◌≡◌, ◌<◌, ◌≤◌, ◌+◌, ◌-◌, ◌++◌, Bool, length, get_or, take, drop, map, IfOk, IsTrue};
 ghost use Rattle.std.specs.Arc.{arc_value};
 ghost use Rattle.std.specs.List.{flat_map};
-ghost use Rattle.page_list.specs.declared.short.TheConstants.{MOST};
 ghost use Rattle.page_list.specs.Marks.{Marked, mark_of};
 ghost use Rattle.page_list.specs.Search.{IsBehindLesser, IsTestAt};
 
 use crate::cut::{Growth, cut};
 use crate::entries::entries_round;
 use crate::parts::{items_before, items_from, last_of};
-use crate::short::{MOST, Short};
-use crate::{Block, Entry, Found, OutOfMemory};
+use crate::{Block, Entry, Found, OutOfMemory, PageEntries};
 use std::alloc::Global;
-use std::marker::Model;
+use std::marker::{Model, PhantomData};
 use std::sync::Arc;
 
 /// Of so many entries one mark is read at first.
 const STRIDE: usize = 2;
 
-// Whether a page of `before` entries may be exchanged for one of `count`: neither too long, nor made smaller than a quarter of what
-// it may have.
-fn may_have(before: usize, count: usize) -> bool
-    ensures { IsTrue result → (0 < count) × (count ≤ MOST) }
-{
-    0 < count && count <= MOST && (MOST / 4 <= count || before <= count)
-}
-
 #[derive(Drop)]
-pub(crate) struct Page<T> {
-    entries: Short<Entry<T>>,
+pub(crate) struct Page<T: Drop, E: PageEntries<T>> {
+    entries: E,
+    of: PhantomData<T>,
 }
 
-impl<T> Model for Page<T> {
+impl<T: Drop, E: PageEntries<T>> Model for Page<T, E> {
     ghost use Rattle.std.specs.Prelude.{List};
     ghost use Rattle.page_list.specs.Marks.{Marked};
 
     ghost Value = { List (Marked T) };
 
-    ghost view = { λ p. p.entries };
+    ghost view = { λ p. E.values p.entries };
 }
 
 // The entries in new pages.
-fn pages_of<T: Drop>(
+fn pages_of<T: Drop, E: PageEntries<T>>(
     alloc: Global,
     entries: Vec<Entry<T>>,
     growth: Growth,
-) -> Result<Vec<Arc<Page<T>>>, OutOfMemory>
+) -> Result<Vec<Arc<Page<T, E>>>, OutOfMemory>
     ensures { IfOk result (λ made. flat_map (λ page. page) (map arc_value made.items)
         ≡ entries.items) }
 {
     let mut pages = Vec::new(alloc);
-    for part in cut(alloc, entries, growth)? {
-        pages.push(Arc::new(alloc, Page { entries: part })?)?;
+    for part in cut::<Entry<T>, E>(alloc, entries, growth)? {
+        pages.push(Arc::new(alloc, Page::of(part))?)?;
     }
     Ok(pages)
 }
 
-impl<T: Drop> Page<T> {
-    // The page with `items` in place of the entries `from..to`.
-    fn with(
-        &self,
-        alloc: Global,
-        from: usize,
-        to: usize,
-        items: &[Entry<T>],
-        count: usize,
-    ) -> Result<Arc<Page<T>>, OutOfMemory>
-        requires order { from ≤ to }
-        requires in_range { to ≤ length self.now }
-        requires count { count ≡ from + length items.now + (length self.now - to) }
-        requires some { 0 < count }
-        requires few { count ≤ MOST }
-        ensures { IfOk result (λ page. arc_value page
-            ≡ take from self.now ++ items.now ++ drop to self.now) }
+impl<T: Drop, E: PageEntries<T>> Page<T, E> {
+    fn of(entries: E) -> Page<T, E>
+        ensures { result ≡ E.values entries }
     {
-        let entries = self.entries.as_slice();
-        let before = items_before(entries, from);
-        let entries = entries_round(alloc, before, items, items_from(entries, to))?;
-        let page = Page {
-            entries: Short::of(entries),
-        };
-        Ok(Arc::new(alloc, page)?)
+        Page {
+            entries,
+            of: PhantomData,
+        }
     }
 
     // A place behind an entry of a lesser mark, or the first place. Every other entry is read first: a page has few, none of
@@ -95,7 +69,7 @@ impl<T: Drop> Page<T> {
             if entries[at].mark() < mark {
                 start = at + 1;
             }
-            at += STRIDE;
+            at = at.saturating_add(STRIDE);
         }
         while start < entries.len() && entries[start].mark() < mark {
             start += 1;
@@ -139,10 +113,10 @@ impl<T: Drop> Page<T> {
     }
 }
 
-impl<T: Drop> Block<T> for Page<T> {
+impl<T: Drop, E: PageEntries<T>> Block<T> for Page<T, E> {
     ghost entries = { λ page. page };
 
-    fn made(alloc: Global, items: Vec<Entry<T>>) -> Result<Vec<Arc<Page<T>>>, OutOfMemory>
+    fn made(alloc: Global, items: Vec<Entry<T>>) -> Result<Vec<Arc<Page<T, E>>>, OutOfMemory>
         ensures { IfOk result (λ made. flat_map (λ page. page) (map arc_value made.items)
             ≡ items.items) }
     {
@@ -154,7 +128,7 @@ impl<T: Drop> Block<T> for Page<T> {
     }
 
     fn is_small(&self) -> bool {
-        self.entries.as_slice().len() < MOST / 2
+        self.entries.as_slice().len() < E::most() / 2
     }
 
     fn first(&self) -> &Entry<T> {
@@ -208,23 +182,15 @@ impl<T: Drop> Block<T> for Page<T> {
         to: usize,
         items: &[Entry<T>],
     ) -> Option<Arc<Self>> {
-        let kept = from + (self.len() - to);
-        let count = kept.checked_add(items.len())?;
-        if !may_have(self.len(), count) {
-            return None;
-        }
-        match self.with(alloc, from, to, items, count) {
+        let entries = self.entries.replaced(alloc, from, to, items)?;
+        match Arc::new(alloc, Page::of(entries)) {
             Ok(page) => Some(page),
             Err(_) => None,
         }
     }
 
     fn replace(&mut self, alloc: Global, from: usize, to: usize, items: &[Entry<T>]) -> bool {
-        let kept = from + (self.len() - to);
-        let Some(count) = kept.checked_add(items.len()) else {
-            return false;
-        };
-        may_have(self.len(), count) && self.entries.replace(alloc, from, to, items)
+        self.entries.replace(alloc, from, to, items)
     }
 
     fn spliced(
@@ -242,7 +208,7 @@ impl<T: Drop> Block<T> for Page<T> {
     {
         let before = items_before(left.entries.as_slice(), from);
         let after = items_from(right.entries.as_slice(), to);
-        let entries = entries_round(alloc, before, items.as_slice(), after)?;
+        let entries = entries_round(alloc, 0, before, items.as_slice(), after)?;
         pages_of(alloc, entries, Growth::after(after.is_empty()))
     }
 }

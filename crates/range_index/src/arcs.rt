@@ -8,10 +8,10 @@ ghost use Rattle.range_index.specs.Place.{place_of};
 
 use crate::cut::{list_with, met_in};
 use crate::kept::kept_shares;
-use crate::ring_span::ByStart;
+use crate::ring_span::SpanList;
 use crate::search::{OneSpan, candidate, place_in, span_has, starting_at};
 use crate::{Met, OutOfMemory, Place, RingSpan};
-use page_list::{Iter, MarkedList};
+use page_list::{EntriesWithin, Iter};
 use std::alloc::Global;
 use std::marker::Model;
 use std::sync::Arc;
@@ -20,7 +20,7 @@ use std::sync::Arc;
 /// what it doesn't touch.
 #[derive(Drop)]
 pub struct Arcs<T: Drop, R: RingSpan<T>> {
-    list: MarkedList<T, ByStart<R>>,
+    list: SpanList<T, R>,
 }
 
 impl<T: Drop, R: RingSpan<T>> Model for Arcs<T, R> {
@@ -40,7 +40,7 @@ impl<T: Drop, R: RingSpan<T>> Arcs<T, R> {
         ensures { result ≡ [] }
     {
         Arcs {
-            list: MarkedList::empty(alloc),
+            list: SpanList::<T, R>::empty(alloc),
         }
     }
 
@@ -61,7 +61,7 @@ impl<T: Drop, R: RingSpan<T>> Arcs<T, R> {
     }
 
     /// The spans one after another, at a cost linear in their number.
-    pub fn iter(&self) -> Iter<'_, T>
+    pub fn iter(&self) -> Iter<'_, T, EntriesWithin<T>>
         ensures { result ≡ self.now }
     {
         self.list.iter()
@@ -151,7 +151,7 @@ impl<T: Drop, R: RingSpan<T>> Arcs<T, R> {
             → made ≡ filter p self.now) }
     {
         let shares = kept_shares(alloc, &self.list, keep)?;
-        let list = MarkedList::empty(alloc).with_replaced(alloc, 0, 0, shares)?;
+        let list = SpanList::<T, R>::empty(alloc).with_replaced(alloc, 0, 0, shares)?;
         Ok(Arcs { list })
     }
 }

@@ -6,19 +6,18 @@ ghost use Rattle.dname.specs.Arc.{arc_has};
 ghost use Rattle.range_index.specs.Arcs.{span_has, is_apart, AreOfFrame, IsArcs, FailInRuns, arcs_with};
 ghost use Rattle.range_index.specs.Steps.{IsTrimmed, IsPlainMet, IsOverMet};
 
-use crate::ring_span::ByStart;
+use crate::ring_span::SpanList;
 use crate::search::{span_has, starts_before};
 use crate::span_marks::SILENT;
 use crate::{Met, OutOfMemory, RingSpan};
-use page_list::MarkedList;
 use std::alloc::Global;
 use std::sync::Arc;
 
 pub(crate) fn list_with<T: Drop, R: RingSpan<T>>(
     alloc: Global,
-    list: &MarkedList<T, ByStart<R>>,
+    list: &SpanList<T, R>,
     span: Arc<T>,
-) -> Result<(MarkedList<T, ByStart<R>>, Met), OutOfMemory>
+) -> Result<(SpanList<T, R>, Met), OutOfMemory>
     requires frame { AreOfFrame R.frame R.mark (R.frame (arc_value span)) list.now }
     requires arcs { IsArcs R.Key.Ord.cmp R.start R.end list.now }
     ensures list { IfOk result (λ made.
@@ -34,7 +33,7 @@ pub(crate) fn list_with<T: Drop, R: RingSpan<T>>(
     }
 }
 
-pub(crate) fn met_in<T: Drop, R: RingSpan<T>>(list: &MarkedList<T, ByStart<R>>, span: &T) -> Met
+pub(crate) fn met_in<T: Drop, R: RingSpan<T>>(list: &SpanList<T, R>, span: &T) -> Met
     requires frame { AreOfFrame R.frame R.mark (R.frame span.now) list.now }
     requires arcs { IsArcs R.Key.Ord.cmp R.start R.end list.now }
     ensures { FailInRuns (is_apart R.Key.Ord.cmp R.start R.end span.now) list.now
@@ -50,9 +49,9 @@ pub(crate) fn met_in<T: Drop, R: RingSpan<T>>(list: &MarkedList<T, ByStart<R>>, 
 // For a new span that ends after its start. It takes the place of the first run.
 fn with_plain<T: Drop, R: RingSpan<T>>(
     alloc: Global,
-    list: &MarkedList<T, ByStart<R>>,
+    list: &SpanList<T, R>,
     span: Arc<T>,
-) -> Result<(MarkedList<T, ByStart<R>>, Met), OutOfMemory>
+) -> Result<(SpanList<T, R>, Met), OutOfMemory>
     requires frame { AreOfFrame R.frame R.mark (R.frame (arc_value span)) list.now }
     requires arcs { IsArcs R.Key.Ord.cmp R.start R.end list.now }
     requires plain { is_lt (R.Key.Ord.cmp (R.start (arc_value span)) (R.end (arc_value span)))
@@ -73,7 +72,7 @@ fn with_plain<T: Drop, R: RingSpan<T>>(
     Ok((made, met))
 }
 
-fn plain_met<T: Drop, R: RingSpan<T>>(list: &MarkedList<T, ByStart<R>>, span: &T) -> Met
+fn plain_met<T: Drop, R: RingSpan<T>>(list: &SpanList<T, R>, span: &T) -> Met
     requires frame { AreOfFrame R.frame R.mark (R.frame span.now) list.now }
     requires arcs { IsArcs R.Key.Ord.cmp R.start R.end list.now }
     requires plain { is_lt (R.Key.Ord.cmp (R.start span.now) (R.end span.now)) ≡ true }
@@ -90,9 +89,9 @@ fn plain_met<T: Drop, R: RingSpan<T>>(list: &MarkedList<T, ByStart<R>>, span: &T
 // For a new span that goes over the end of the order. It comes last.
 fn with_over<T: Drop, R: RingSpan<T>>(
     alloc: Global,
-    list: &MarkedList<T, ByStart<R>>,
+    list: &SpanList<T, R>,
     span: Arc<T>,
-) -> Result<(MarkedList<T, ByStart<R>>, Met), OutOfMemory>
+) -> Result<(SpanList<T, R>, Met), OutOfMemory>
     requires frame { AreOfFrame R.frame R.mark (R.frame (arc_value span)) list.now }
     requires arcs { IsArcs R.Key.Ord.cmp R.start R.end list.now }
     requires over { is_lt (R.Key.Ord.cmp (R.start (arc_value span)) (R.end (arc_value span)))
@@ -113,7 +112,7 @@ fn with_over<T: Drop, R: RingSpan<T>>(
     Ok((made, met))
 }
 
-fn over_met<T: Drop, R: RingSpan<T>>(list: &MarkedList<T, ByStart<R>>, span: &T) -> Met
+fn over_met<T: Drop, R: RingSpan<T>>(list: &SpanList<T, R>, span: &T) -> Met
     requires frame { AreOfFrame R.frame R.mark (R.frame span.now) list.now }
     requires arcs { IsArcs R.Key.Ord.cmp R.start R.end list.now }
     requires over { is_lt (R.Key.Ord.cmp (R.start span.now) (R.end span.now)) ≡ false }
@@ -129,7 +128,7 @@ fn over_met<T: Drop, R: RingSpan<T>>(list: &MarkedList<T, ByStart<R>>, span: &T)
 
 // The places from `low` up to `high`, without the last where its span has the key.
 fn trimmed<T: Drop, R: RingSpan<T>>(
-    list: &MarkedList<T, ByStart<R>>,
+    list: &SpanList<T, R>,
     low: usize,
     high: usize,
     key: &R::Key,

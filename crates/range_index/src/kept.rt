@@ -4,16 +4,15 @@ ghost use Rattle.std.specs.Fn.{FnReturnsAt};
 ghost use Rattle.std.specs.Arc.{arc_value};
 ghost use Rattle.range_index.specs.Arcs.{IsArcs};
 
-use crate::ring_span::ByStart;
+use crate::ring_span::SpanList;
 use crate::{OutOfMemory, RingSpan};
-use page_list::MarkedList;
 use std::alloc::Global;
 use std::sync::Arc;
 
 // New owners of the spans that `keep` holds of.
 pub(crate) fn kept_shares<T: Drop, R: RingSpan<T>, F: Fn(&T) -> bool>(
     alloc: Global,
-    list: &MarkedList<T, ByStart<R>>,
+    list: &SpanList<T, R>,
     keep: F,
 ) -> Result<Vec<Arc<T>>, OutOfMemory>
     requires callable { F.IsAlwaysCallable keep }

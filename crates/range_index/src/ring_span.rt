@@ -2,7 +2,7 @@
 ghost use Rattle.std.specs.Prelude.{◌≡◌, ◌<◌, ℕ};
 ghost use Rattle.std.specs.declared.cmp.Ordering.TheVariants.{Less};
 
-use page_list::Marking;
+use page_list::{EntriesWithin, MarkedList, Marking};
 use std::cmp::Ordering;
 use std::marker::PhantomData;
 
@@ -50,6 +50,9 @@ pub trait RingSpan<T> {
     ghost marks_rise: { (frame one other : Self.Key)
         → mark frame one < mark frame other → Self.Key.Ord.cmp one other ≡ Less };
 }
+
+/// Spans in order of start, which lie within their pages: they are sought far oftener than they change.
+pub(crate) type SpanList<T, R> = MarkedList<T, ByStart<R>, EntriesWithin<T>>;
 
 /// The mark of a span: that of its start. Its note is the mark of its end.
 #[derive(Drop)]

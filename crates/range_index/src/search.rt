@@ -9,16 +9,16 @@ ghost use Rattle.range_index.specs.Arcs.{span_has, starts_elsewhere, AreOfFrame,
 ghost use Rattle.range_index.specs.Steps.{IsCandidate, IsCut, Tell};
 ghost use Rattle.range_index.specs.Place.{place_of};
 
-use crate::ring_span::ByStart;
+use crate::ring_span::SpanList;
 use crate::span_marks::{SILENT, SpanMarks, end_to_key, start_to_end, start_to_key};
 use crate::{Place, RingSpan};
-use page_list::{Last, MarkedList};
+use page_list::Last;
 use std::cmp::Ordering;
 use std::sync::Arc;
 
 // How many spans start at the key or before it.
 pub(crate) fn starts_upto<T: Drop, R: RingSpan<T>>(
-    list: &MarkedList<T, ByStart<R>>,
+    list: &SpanList<T, R>,
     frame: &R::Key,
     key: &R::Key,
 ) -> usize
@@ -37,7 +37,7 @@ pub(crate) fn starts_upto<T: Drop, R: RingSpan<T>>(
 
 // How many spans start before the key.
 pub(crate) fn starts_before<T: Drop, R: RingSpan<T>>(
-    list: &MarkedList<T, ByStart<R>>,
+    list: &SpanList<T, R>,
     frame: &R::Key,
     key: &R::Key,
 ) -> usize
@@ -56,7 +56,7 @@ pub(crate) fn starts_before<T: Drop, R: RingSpan<T>>(
 
 // The last span that starts at the key, whose mark it is, or before it.
 fn last_upto<'a, T: Drop, R: RingSpan<T>>(
-    list: &'a MarkedList<T, ByStart<R>>,
+    list: &'a SpanList<T, R>,
     frame: &R::Key,
     key: &R::Key,
     mark: u64,
@@ -92,7 +92,7 @@ pub(crate) struct OneSpan<'a, T> {
 }
 
 pub(crate) fn candidate<'a, T: Drop, R: RingSpan<T>>(
-    list: &'a MarkedList<T, ByStart<R>>,
+    list: &'a SpanList<T, R>,
     frame: &R::Key,
     key: &R::Key,
 ) -> OneSpan<'a, T>
@@ -133,7 +133,7 @@ pub(crate) fn candidate<'a, T: Drop, R: RingSpan<T>>(
 
 // The places from which on and before which spans start at the key.
 pub(crate) fn starting_at<T: Drop, R: RingSpan<T>>(
-    list: &MarkedList<T, ByStart<R>>,
+    list: &SpanList<T, R>,
     frame: &R::Key,
     key: &R::Key,
 ) -> (usize, usize)

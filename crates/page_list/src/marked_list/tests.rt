@@ -3,10 +3,13 @@ ghost use Rattle.std.specs.List.{prefix_len};
 ghost use Rattle.std.specs.List.Sorted.{IsPartitionedBy};
 
 use super::*;
-use crate::Block;
 use crate::short::MOST;
+use crate::{Block, EntriesWithin};
 use std::cell::Cell;
 use std::test::Fail;
+
+// Numbers without marks, whose pages keep them in one way or the other.
+type Numbers<E> = MarkedList<u64, NoMarks, E>;
 
 fn next(seed: &mut u64) -> u64 {
     *seed = seed
@@ -24,8 +27,8 @@ fn numbers(alloc: Global, from: u64, to: u64) -> Result<Vec<Arc<u64>>, OutOfMemo
     Ok(items)
 }
 
-fn list_of(alloc: Global, count: u64) -> Result<PageList<u64>, OutOfMemory> {
-    let empty: PageList<u64> = PageList::empty(alloc);
+fn list_of<E: PageEntries<u64>>(alloc: Global, count: u64) -> Result<Numbers<E>, OutOfMemory> {
+    let empty: Numbers<E> = MarkedList::empty(alloc);
     empty.with_replaced(alloc, 0, 0, numbers(alloc, 0, count)?)
 }
 
@@ -57,7 +60,7 @@ fn replace(
 }
 
 // By `get` and by the iterator.
-fn same(list: &PageList<u64>, plain: &[u64]) -> bool {
+fn same<E: PageEntries<u64>>(list: &Numbers<E>, plain: &[u64]) -> bool {
     if list.len() != plain.len() {
         return false;
     }
@@ -76,7 +79,7 @@ fn same(list: &PageList<u64>, plain: &[u64]) -> bool {
 }
 
 // How many owners a list has that no other list shares: those in its blocks that have one owner.
-fn own_owners(list: &PageList<u64>) -> usize {
+fn own_owners<E: PageEntries<u64>>(list: &Numbers<E>) -> usize {
     let mut count = list.entries.bookcases.count();
     for bookcase in list.entries.bookcases.slots() {
         if Arc::strong_count(bookcase.share()) == 1 {
@@ -97,10 +100,10 @@ fn own_owners(list: &PageList<u64>) -> usize {
 }
 
 // Each page of several, each shelf and each bookcase has at least a quarter of what it may have.
-fn is_filled(list: &PageList<u64>) -> bool {
+fn is_filled<E: PageEntries<u64>>(list: &Numbers<E>) -> bool {
     let mut pages = 0usize;
     let mut shelves = 0usize;
-    let mut few = MOST;
+    let mut few = E::most();
     let mut few_pages = MOST;
     let mut few_shelves = MOST;
     for bookcase in list.entries.bookcases.slots() {
@@ -115,7 +118,7 @@ fn is_filled(list: &PageList<u64>) -> bool {
         }
     }
     let quarter = MOST / 4;
-    (pages <= 1 || few >= quarter)
+    (pages <= 1 || few >= E::most() / 4)
         && (shelves <= 1 || few_pages >= quarter)
         && (list.entries.bookcases.count() <= 1 || few_shelves >= quarter)
 }
@@ -134,9 +137,9 @@ fn some_count(seed: &mut u64, most: u64) -> u64 {
 
 // Replaces a random part of both lists by random numbers; false where they then differ, or the old list
 // did not stay.
-fn replaced_alike(
+fn replaced_alike<E: PageEntries<u64>>(
     alloc: Global,
-    list: &mut PageList<u64>,
+    list: &mut Numbers<E>,
     plain: &mut Vec<u64>,
     seed: &mut u64,
     compares: bool,
@@ -159,23 +162,35 @@ fn replaced_alike(
     Ok(list.len() == plain.len() && (!compares || same(list, plain.as_slice())))
 }
 
+// The turn at which a random list and a plain one differ, or pages are small; none where there is no such turn.
+fn differs_at<E: PageEntries<u64>>(alloc: Global, turns: u64) -> Result<Option<u64>, OutOfMemory> {
+    let mut seed = 7;
+    let mut list: Numbers<E> = MarkedList::empty(alloc);
+    let mut plain: Vec<u64> = Vec::new(alloc);
+    for turn in 0..turns {
+        let same = replaced_alike(alloc, &mut list, &mut plain, &mut seed, turn % 250 == 0)?;
+        if !same || turn % 10 == 0 && !is_filled(&list) {
+            return Ok(Some(turn));
+        }
+    }
+    if same(&list, plain.as_slice()) {
+        Ok(None)
+    } else {
+        Ok(Some(turns))
+    }
+}
+
 #[test]
 fn says_the_same_as_a_plain_list(rt: HostRuntime) -> Result<(), Fail> {
-    let alloc = rt.alloc();
-    let mut seed = 7;
-    let mut list: PageList<u64> = PageList::empty(alloc);
-    let mut plain: Vec<u64> = Vec::new(alloc);
-    for turn in 0..TURNS {
-        let same = replaced_alike(alloc, &mut list, &mut plain, &mut seed, turn % 250 == 0)?;
-        assert!(rt; same, "at turn {turn}");
-        assert!(rt; turn % 10 != 0 || is_filled(&list), "at turn {turn}");
-    }
-    assert!(rt; same(&list, plain.as_slice()));
+    let apart = differs_at::<EntriesApart<u64>>(rt.alloc(), TURNS)?;
+    assert!(rt; apart.is_none(), "apart, at turn {apart:?}");
+    let within = differs_at::<EntriesWithin<u64>>(rt.alloc(), TURNS)?;
+    assert!(rt; within.is_none(), "within, at turn {within:?}");
     Ok(())
 }
 
 // How many pages a list has.
-fn pages_in(list: &PageList<u64>) -> usize {
+fn pages_in<E: PageEntries<u64>>(list: &Numbers<E>) -> usize {
     let mut count = 0usize;
     for bookcase in list.entries.bookcases.slots() {
         for shelf in bookcase.share().slots() {
@@ -185,29 +200,61 @@ fn pages_in(list: &PageList<u64>) -> usize {
     count
 }
 
-#[test]
-fn fills_its_pages_where_it_grows_at_its_end(rt: HostRuntime) -> Result<(), Fail> {
-    let alloc = rt.alloc();
-    let mut list: PageList<u64> = PageList::empty(alloc);
+// How many pages a list has that got so many numbers at its end, one after another; none where it isn't as it must be.
+fn pages_grown<E: PageEntries<u64>>(
+    alloc: Global,
+    count: u64,
+) -> Result<Option<usize>, OutOfMemory> {
+    let mut list: Numbers<E> = MarkedList::empty(alloc);
     let mut plain: Vec<u64> = Vec::new(alloc);
-    for n in 0..24_000u64 {
+    for n in 0..count {
         let at = list.len();
         list = list.into_with_one(alloc, at, at, Arc::new(alloc, n)?)?;
         plain.push(n)?;
     }
-    // three quarters of a page each
-    assert!(rt; pages_in(&list) == 1000, "{} pages", pages_in(&list));
-    assert!(rt; same(&list, plain.as_slice()) && is_filled(&list));
+    if same(&list, plain.as_slice()) && is_filled(&list) {
+        Ok(Some(pages_in(&list)))
+    } else {
+        Ok(None)
+    }
+}
+
+#[test]
+fn fills_its_pages_where_it_grows_at_its_end(rt: HostRuntime) -> Result<(), Fail> {
+    // three quarters of a page each: 24 of 32, and 12 of 16
+    let apart = pages_grown::<EntriesApart<u64>>(rt.alloc(), 24_000)?;
+    assert!(rt; apart == Some(1000), "apart, {apart:?} pages");
+    let within = pages_grown::<EntriesWithin<u64>>(rt.alloc(), 24_000)?;
+    assert!(rt; within == Some(2000), "within, {within:?} pages");
+    Ok(())
+}
+
+#[test]
+fn what_is_unused_within_a_page_keeps_nothing_else(rt: HostRuntime) -> Result<(), Fail> {
+    let alloc = rt.alloc();
+    let first = Arc::new(alloc, 0)?;
+    let empty: Numbers<EntriesWithin<u64>> = MarkedList::empty(alloc);
+    let one = empty.with_one(alloc, 0, 0, Arc::try_clone(&first)?)?;
+    let at = one.len();
+    let old = one.with_replaced(alloc, at, at, numbers(alloc, 1, 3)?)?;
+    drop(one);
+    assert!(rt; Arc::strong_count(&first) > 1);
+    if old.len() == 3 {
+        let new = old.without_run(alloc, 0, 1)?;
+        drop(old);
+        assert!(rt; same(&new, &[1, 2]));
+        assert!(rt; Arc::strong_count(&first) == 1);
+    }
     Ok(())
 }
 
 // In both lists a random entry comes in, takes the place of one or goes.
-fn changed_in_place(
+fn changed_in_place<E: PageEntries<u64>>(
     alloc: Global,
-    list: PageList<u64>,
+    list: Numbers<E>,
     plain: &mut Vec<u64>,
     seed: &mut u64,
-) -> Result<PageList<u64>, OutOfMemory> {
+) -> Result<Numbers<E>, OutOfMemory> {
     let from = (next(seed) as usize) % list.len().saturating_add(1);
     let to = from
         .saturating_add((next(seed) % 2) as usize)
@@ -226,10 +273,9 @@ fn changed_in_place(
     }
 }
 
-#[test]
-fn is_changed_in_place_while_another_stays(rt: HostRuntime) -> Result<(), Fail> {
-    let alloc = rt.alloc();
-    let old = list_of(alloc, 3000)?;
+// Whether a list of 3000 numbers is changed as a plain one is, while another owner of its pages stays as it was.
+fn is_changed_in_place<E: PageEntries<u64>>(alloc: Global) -> Result<bool, OutOfMemory> {
+    let old: Numbers<E> = list_of(alloc, 3000)?;
     let mut first = Vec::new(alloc);
     let mut plain = Vec::new(alloc);
     for n in 0..3000 {
@@ -240,13 +286,18 @@ fn is_changed_in_place_while_another_stays(rt: HostRuntime) -> Result<(), Fail> 
     let mut list = old.try_clone(alloc)?;
     for turn in 0..TURNS {
         list = changed_in_place(alloc, list, &mut plain, &mut seed)?;
-        assert!(rt;
-            turn % 500 != 0 || same(&list, plain.as_slice()),
-            "at turn {turn}"
-        );
+        if turn % 500 == 0 && !same(&list, plain.as_slice()) {
+            return Ok(false);
+        }
     }
-    assert!(rt; same(&list, plain.as_slice()) && is_filled(&list));
-    assert!(rt; same(&old, first.as_slice()));
+    Ok(same(&list, plain.as_slice()) && is_filled(&list) && same(&old, first.as_slice()))
+}
+
+#[test]
+fn is_changed_in_place_while_another_stays(rt: HostRuntime) -> Result<(), Fail> {
+    let apart = is_changed_in_place::<EntriesApart<u64>>(rt.alloc())?;
+    let within = is_changed_in_place::<EntriesWithin<u64>>(rt.alloc())?;
+    assert!(rt; apart && within, "apart {apart}, within {within}");
     Ok(())
 }
 
@@ -257,16 +308,21 @@ fn replaces_at_the_edges(rt: HostRuntime) -> Result<(), Fail> {
         // an empty list stays empty, or gets its first entry, or its second page
         [0, 0, 0, 0],
         [0, 0, 0, 1],
+        [0, 0, 0, 17],
         [0, 0, 0, 33],
         // the only entry goes, or is replaced
         [1, 0, 1, 0],
         [1, 0, 1, 1],
         // at the start and at the end of one full page
+        [16, 0, 0, 1],
+        [16, 16, 16, 1],
+        [16, 0, 16, 0],
         [32, 0, 0, 1],
         [32, 32, 32, 1],
         [32, 31, 32, 0],
         [32, 0, 32, 0],
         // at the border of two pages: before it, on it, over it
+        [32, 15, 17, 0],
         [64, 31, 32, 1],
         [64, 32, 32, 1],
         [64, 32, 33, 1],
@@ -285,21 +341,22 @@ fn replaces_at_the_edges(rt: HostRuntime) -> Result<(), Fail> {
         [100, 50, 50, 0],
     ];
     for [len, from, to, count] in rows {
-        let same = replaces_as_told(rt.alloc(), len, from, to, count)?;
-        assert!(rt; same, "{from}..{to} of {len} by {count}");
+        let apart = replaces_as_told::<EntriesApart<u64>>(rt.alloc(), len, from, to, count)?;
+        let within = replaces_as_told::<EntriesWithin<u64>>(rt.alloc(), len, from, to, count)?;
+        assert!(rt; apart && within, "{from}..{to} of {len} by {count}");
     }
     Ok(())
 }
 
 // In the list of the numbers up to len, from..to is replaced by count others, and the old list stays.
-fn replaces_as_told(
+fn replaces_as_told<E: PageEntries<u64>>(
     alloc: Global,
     len: u64,
     from: u64,
     to: u64,
     count: u64,
 ) -> Result<bool, OutOfMemory> {
-    let old = list_of(alloc, len)?;
+    let old: Numbers<E> = list_of(alloc, len)?;
     let mut plain = Vec::new(alloc);
     for n in 0..len {
         plain.push(n)?;
@@ -318,12 +375,12 @@ fn replaces_as_told(
 }
 
 // The list without the entry at a place, or with a new one before it.
-fn one_changed<M: Marking<u64>>(
+fn one_changed<M: Marking<u64>, E: PageEntries<u64>>(
     alloc: Global,
-    list: &MarkedList<u64, M>,
+    list: &MarkedList<u64, M, E>,
     at: usize,
     new: Option<u64>,
-) -> Result<MarkedList<u64, M>, OutOfMemory> {
+) -> Result<MarkedList<u64, M, E>, OutOfMemory> {
     let at = at.min(list.len());
     let mut to = at;
     let mut items = Vec::new(alloc);
@@ -339,7 +396,7 @@ fn one_changed<M: Marking<u64>>(
 fn shares_what_it_does_not_touch(rt: HostRuntime) -> Result<(), Fail> {
     let alloc = rt.alloc();
     let mut seed = 11;
-    let mut list = list_of(alloc, 131_072)?;
+    let mut list: PageList<u64> = list_of(alloc, 131_072)?;
     let mut most = 0;
     for turn in 0..5000u64 {
         // at each border of the full pages first
@@ -411,7 +468,7 @@ fn finds_with_few_calls(rt: HostRuntime) -> Result<(), Fail> {
         (131_072, 67, 18),
     ];
     for (count, step, enough) in rows {
-        let list = list_of(alloc, count)?;
+        let list: PageList<u64> = list_of(alloc, count)?;
         let most = most_calls(&list, count, step).ok_or("a wrong place")?;
         assert!(rt; most <= enough, "{most} calls at {count} entries");
     }
@@ -422,7 +479,7 @@ fn finds_with_few_calls(rt: HostRuntime) -> Result<(), Fail> {
 fn finds_with_few_calls_in_a_worn_list(rt: HostRuntime) -> Result<(), Fail> {
     let alloc = rt.alloc();
     let mut seed = 3;
-    let mut list = list_of(alloc, 131_072)?;
+    let mut list: PageList<u64> = list_of(alloc, 131_072)?;
     for _ in 0..20_000u64 {
         let at = next(&mut seed) % 131_072;
         let without = one_changed(alloc, &list, at as usize, None)?;
@@ -471,23 +528,27 @@ impl Marking<u64> for Tens {
 }
 
 // The numbers up to `count` in order, each as often as `repeat` says.
-fn marked<M: Marking<u64>>(
+fn marked<M: Marking<u64>, E: PageEntries<u64>>(
     alloc: Global,
     count: u64,
     repeat: u64,
-) -> Result<MarkedList<u64, M>, OutOfMemory> {
+) -> Result<MarkedList<u64, M, E>, OutOfMemory> {
     let mut items = Vec::new(alloc);
     for n in 0..count {
         for _ in 0..repeat {
             items.push(Arc::new(alloc, n)?)?;
         }
     }
-    let empty: MarkedList<u64, M> = MarkedList::empty(alloc);
+    let empty: MarkedList<u64, M, E> = MarkedList::empty(alloc);
     empty.with_replaced(alloc, 0, 0, items)
 }
 
 // Whether `find_at` finds each of up to 201 bounds where `find` does, and asks of entries with its mark alone.
-fn finds_by_marks<M: Marking<u64>>(list: &MarkedList<u64, M>, count: u64, repeat: u64) -> bool {
+fn finds_by_marks<M: Marking<u64>, E: PageEntries<u64>>(
+    list: &MarkedList<u64, M, E>,
+    count: u64,
+    repeat: u64,
+) -> bool {
     let step = count / 200 + 1;
     for k in 0..201u64 {
         let bound = k.saturating_mul(step).min(count);
@@ -510,12 +571,12 @@ fn finds_by_marks<M: Marking<u64>>(list: &MarkedList<u64, M>, count: u64, repeat
 }
 
 // In a full list, and in one worn by 100 changes.
-fn searches_agree<M: Marking<u64>>(
+fn searches_agree<M: Marking<u64>, E: PageEntries<u64>>(
     alloc: Global,
     count: u64,
     repeat: u64,
 ) -> Result<bool, OutOfMemory> {
-    let mut list: MarkedList<u64, M> = marked(alloc, count, repeat)?;
+    let mut list: MarkedList<u64, M, E> = marked(alloc, count, repeat)?;
     if !finds_by_marks(&list, count, repeat) {
         return Ok(false);
     }
@@ -545,12 +606,16 @@ fn finds_by_marks_what_it_finds_without(rt: HostRuntime) -> Result<(), Fail> {
         [20_000, 1],
     ];
     for [count, repeat] in rows {
-        let none = searches_agree::<NoMarks>(alloc, count, repeat)?;
+        let none = searches_agree::<NoMarks, EntriesApart<u64>>(alloc, count, repeat)?;
         assert!(rt; none, "all marks zero, {repeat} times {count}");
-        let some = searches_agree::<Tens>(alloc, count, repeat)?;
+        let some = searches_agree::<Tens, EntriesApart<u64>>(alloc, count, repeat)?;
         assert!(rt; some, "equal marks, {repeat} times {count}");
-        let all = searches_agree::<Itself>(alloc, count, repeat)?;
+        let all = searches_agree::<Itself, EntriesApart<u64>>(alloc, count, repeat)?;
         assert!(rt; all, "marks that decide all, {repeat} times {count}");
+        let some = searches_agree::<Tens, EntriesWithin<u64>>(alloc, count, repeat)?;
+        assert!(rt; some, "equal marks within, {repeat} times {count}");
+        let all = searches_agree::<Itself, EntriesWithin<u64>>(alloc, count, repeat)?;
+        assert!(rt; all, "marks that decide all within, {repeat} times {count}");
     }
     Ok(())
 }

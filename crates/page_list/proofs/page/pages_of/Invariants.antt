@@ -5,5 +5,5 @@ use Rattle.page_list.proofs.page.pages_of.Given as goal
 
 abbrev pub invariant-loop-part : goal.invariant-loop-part
 invariant-loop-part g l =
-    flat_map (λ page. page) (map arc_value l.pages.items) ++ flat_map (λ part. part) l.part-iterator.rest.items
+    flat_map (λ page. page) (map arc_value l.pages.items) ++ flat_map g.E.Part.values l.part-iterator.rest.items
     ≡ l.fn.entries.items
