@@ -34,8 +34,9 @@ pub fn read_whole<S: Source>(alloc: Global, source: &mut S) -> Result<Vec<u8>, R
     let mut input = Vec::new(alloc);
     // So that it is never moved; without that room it grows.
     let _ = input.reserve_exact(MAX_INPUT + 1);
+    let mut piece = [0; PIECE];
     while input.len() <= MAX_INPUT {
-        match read_piece(source, &mut input) {
+        match read_piece(source, &mut piece, &mut input) {
             Ok(0) => break,
             Ok(_) => {}
             Err(error) => return Err(error),
@@ -44,8 +45,12 @@ pub fn read_whole<S: Source>(alloc: Global, source: &mut S) -> Result<Vec<u8>, R
     Ok(input)
 }
 
-// Puts the source's next octets at the end of the input; how many, and 0 at the source's end.
-fn read_piece<S: Source>(source: &mut S, input: &mut Vec<u8>) -> Result<usize, ReadError>
+// Puts the source's next octets at the end of the input, by way of the piece; how many, and 0 at the source's end.
+fn read_piece<S: Source>(
+    source: &mut S,
+    piece: &mut [u8; PIECE],
+    input: &mut Vec<u8>,
+) -> Result<usize, ReadError>
     requires { length input.old.items ≤ MAX_INPUT }
     ensures piece { IfOk result (λ count. (piece : List ℕ) × (length piece ≡ count)
         × (input.new.items ≡ input.old.items ++ piece)
@@ -58,7 +63,6 @@ fn read_piece<S: Source>(source: &mut S, input: &mut Vec<u8>) -> Result<usize, R
         → Rose (S.faults source.old) (S.faults source.new) }
     ensures part { OnErr result (HasGiven (S.left source.old) (S.left source.new)) }
 {
-    let mut piece = [0; PIECE];
     let room = (MAX_INPUT + 1 - input.len()).min(PIECE);
     let Ok(count) = source.read(&mut piece[..room]) else {
         return Err(ReadError::Failed);

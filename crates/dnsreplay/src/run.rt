@@ -287,7 +287,9 @@ fn run_replay<R: Threads + Wait + Sync, S: Source, K: Sink, G: Gate>(
     let Ok(outputs) = replay(rt, alloc, workers, &frames, gate) else {
         return Status::OutOfMemory;
     };
-    match write_outputs(rt, alloc, sink, &frames, &outputs) {
+    let written = write_outputs(rt, alloc, sink, &frames, &outputs);
+    outputs.give_back(rt);
+    match written {
         Ok(()) => Status::Good,
         Err(_) => Status::WriteFault,
     }

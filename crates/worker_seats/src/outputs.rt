@@ -3,6 +3,8 @@ ghost use Rattle.worker_seats.specs.Cuts.{Part, parts_of};
 
 use crate::cut::Cut;
 use std::marker::Model;
+use std::thread;
+use std::thread::Threads;
 
 /// What one worker has written: the octets of its output frames, in the order of its own frames, and where it stood at each cut.
 #[derive(Drop)]
@@ -56,6 +58,12 @@ impl Outputs {
         self.parts[worker].octets.as_slice()
     }
 
+    /// Gives the memory back: that of each worker's output on a thread of its own, where one can be started.
+    pub fn give_back<R: Threads + Sync>(self, rt: &R) {
+        let Outputs { parts } = self;
+        let _ = thread::map_vec(rt, parts, &drop_part);
+    }
+
     /// Where it stood at each cut.
     pub(crate) fn cuts_of(&self, worker: usize) -> &[Cut]
         requires { worker < length self.now }
@@ -63,4 +71,8 @@ impl Outputs {
     {
         self.parts[worker].cuts.as_slice()
     }
+}
+
+fn drop_part(part: OnePart) {
+    drop(part);
 }

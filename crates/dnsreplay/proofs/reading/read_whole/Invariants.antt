@@ -3,12 +3,12 @@ use Rattle.outside_core.specs.Told.{prepend_told}
 use Rattle.dnsreplay.specs.declared.reading.TheConstants.{MAX_INPUT}
 use Rattle.dnsreplay.proofs.reading.read_whole.Given as goal
 
-abbrev pub invariant-loop-source : goal.invariant-loop-source
-invariant-loop-source g l = record {
+abbrev pub invariant-loop-piece : goal.invariant-loop-piece
+invariant-loop-piece g l = record {
   left : g.S.Source.left l.initial.source ≡ prepend_told l.input.items (g.S.Source.left l.source);
   most : length l.input.items ≤ MAX_INPUT + 1;
   faults : g.S.Source.faults l.source ≡ g.S.Source.faults l.initial.source;
 }
 
-abbrev pub decreases-loop-source : goal.decreases-loop-source
-decreases-loop-source g l = MAX_INPUT + 1 - length l.input.items
+abbrev pub decreases-loop-piece : goal.decreases-loop-piece
+decreases-loop-piece g l = MAX_INPUT + 1 - length l.input.items

@@ -11,8 +11,8 @@ replay-requires-clause-below g c = λ κs outlives. c.in-Some.ensures.frames.bel
 pub replay-requires-clause-few : goal.replay-requires-clause-few
 replay-requires-clause-few g c = omega (arith, c.in-Some.ensures.few, ap length c.deref.ensures.value)
 
-pub write_outputs-requires-clause-workers : goal.write_outputs-requires-clause-workers
-write_outputs-requires-clause-workers g c = λ κs outlives.
+pub write_outputs-written-requires-clause-workers : goal.write_outputs-written-requires-clause-workers
+write_outputs-written-requires-clause-workers g c = λ κs outlives.
     subst (λ (n : ℕ). All (λ (frame : Input). frame.worker < n) c.in-Some.frames) (sym c.in-Ok-replay.ensures.all) c.in-Some.ensures.frames.below
 
 pub returns-clause-cut : goal.returns-clause-cut
