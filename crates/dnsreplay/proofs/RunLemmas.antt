@@ -1,6 +1,6 @@
 -- What a source that was read whole had left; what was written of a replay; and how a run of `selfrun` ends.
 use Rattle.std.proofs.Common.{◌≡◌, ◌<◌, ◌⊎◌, List, [], ◌∷◌, ◌++◌, ℕ, Option, None, Some, inl, inr, length, get_or, refl, sym, ◌∙◌, ap, subst, arith}
-use Rattle.std.specs.Prelude.{IfOk, IfSome, Result, Ok, Err}
+use Rattle.std.specs.Prelude.{IfSome}
 use Rattle.std.specs.List.{All}
 use Rattle.std.proofs.lemmas.List.{append-nil}
 use Rattle.outside_core.specs.Told.{prepend_told}
@@ -55,11 +55,10 @@ cut_by workers frames outputs octets input left rest before after is goes are w 
     (cut_of workers frames outputs goes input before after (subst (λ o. SpellsFrames workers o frames) is are) w)
 
 -- one worker's octets are the output
-pub made_by_one : {E : Type 0} (r : Result (List Part) E) (frames : List Input) (octets : List ℕ) → IfOk r (λ outputs. length outputs ≡ 1) → IfOk r (λ outputs. CanBeMerged (parts_of outputs) frames)
-    → IfOk r (λ outputs. (octets output : List ℕ) → SpellsFrames 1 octets frames → AreMerged (parts_of outputs) frames output → IsReplay 1 octets output)
-    → SpellsFrames 1 octets frames → IfOk r (λ outputs. (d : Part) → IsReplay 1 octets (get_or outputs 0 d).octets)
-made_by_one (Ok []) frames octets one merge goes are = λ d. absurd (omega (arith, one))
-made_by_one (Ok (part ∷ parts)) frames octets one merge goes are = λ d.
+pub made_by_one : (outputs : List Part) (frames : List Input) (octets : List ℕ) → length outputs ≡ 1 → CanBeMerged (parts_of outputs) frames
+    → ((octets output : List ℕ) → SpellsFrames 1 octets frames → AreMerged (parts_of outputs) frames output → IsReplay 1 octets output)
+    → SpellsFrames 1 octets frames → (d : Part) → IsReplay 1 octets (get_or outputs 0 d).octets
+made_by_one [] frames octets one merge goes are = λ d. absurd (omega (arith, one))
+made_by_one (part ∷ parts) frames octets one merge goes are = λ d.
     let below = subst (λ n. All (λ (input : Input). input.worker < n) frames) (sym one) are.below in
     goes octets part.octets are (one_can (part ∷ parts) frames one below part.octets (λ e. refl) merge)
-made_by_one (Err e) frames octets one merge goes are = tt

@@ -3,6 +3,7 @@
 //! `replay_meaning` and `server`.
 #![tactic(auto)]
 
+mod ending;
 mod reading;
 mod replay;
 mod run;

@@ -5,7 +5,7 @@ ghost use Rattle.page_list.specs.declared.within.TheConstants.{MOST_WITHIN};
 use crate::entries::replaced_entries;
 use crate::part::Part;
 use crate::{Entry, OutOfMemory, PageEntries};
-use std::alloc::{AllocError, Global};
+use std::alloc::Global;
 use std::marker::Model;
 
 /// How many entries a page's own block may have.
@@ -34,7 +34,9 @@ impl<T> Model for EntriesWithin<T> {
 // As many entries as a page's own block has: these, and then more owners of the first one.
 fn filled<T: Drop>(entries: Vec<Entry<T>>) -> Result<Vec<Entry<T>>, OutOfMemory>
     requires some { 0 < length entries.items }
-    ensures { IfOk result (λ all. take (length entries.items) all.items ≡ entries.items) }
+    requires few { length entries.items ≤ MOST_WITHIN }
+    ensures entries { IfOk result (λ all. take (length entries.items) all.items ≡ entries.items) }
+    ensures full { IfOk result (λ all. length all.items ≡ MOST_WITHIN) }
 {
     let mut all = entries;
     while all.len() < MOST_WITHIN {
@@ -61,7 +63,7 @@ impl<T: Drop> Part<Entry<T>> for EntriesWithin<T> {
         let count = items.len();
         match <[Entry<T>; MOST_WITHIN]>::try_from(filled(items)?) {
             Ok(items) => Ok(EntriesWithin { count, items }),
-            Err(_) => Err(AllocError),
+            Err(_) => unreachable!(),
         }
     }
 }

@@ -3,7 +3,7 @@ use Rattle.std.proofs.Common.{◌≡◌, ℕ, zero, suc, ◌+◌, ◌<◌, ◌�
 use Rattle.std.specs.Prelude.{Option, Result, Ok, Err, IfOk}
 use denote.Param.Members.{Shared}
 use Rattle.std.specs.Fork.{GivesJobs}
-use Rattle.std.specs.List.{All, count_by, sum_by}
+use Rattle.std.specs.List.{All, count_by}
 use Rattle.std.proofs.lemmas.List.{length-map, map-append}
 use Rattle.std.proofs.lemmas.List.Sums.{sum_by-append, sum_by-cons}
 use Rattle.denial_records.specs.declared.batch.Batch.{Batch}

@@ -14,7 +14,6 @@ use Rattle.cache_versions.specs.Seats.{kept_by, places_by, seen_by}
 use Rattle.cache_versions.proofs.Fronts.{prefix_self, prefix_trans, prefix_length}
 use Rattle.resolver.specs.Pending.{Slot, empty_table}
 use Rattle.outside_core.specs.declared.datagram.Datagram.{Datagram}
-use Rattle.serving.specs.declared.serve_fault.ServeFault.{ServeFault}
 use Rattle.serving.specs.declared.serve_fault.ServeFault.TheVariants.{Link, OutOfMemory}
 use Rattle.serving.specs.declared.deed.Deed.{Deed}
 use Rattle.serving.specs.Done.{done_as}

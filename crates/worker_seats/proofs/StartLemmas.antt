@@ -1,6 +1,6 @@
 -- Where a range of the frames begins.
-use Rattle.std.proofs.Common.{◌≡◌, ℕ, zero, suc, ◌+◌, ◌*◌, ◌<◌, ◌≤◌, Bool, true, false, ◌==◌, cond, List, [], ◌∷◌, ◌++◌, length, take, drop, get_or, set, map, refl, sym, ◌∙◌, ap, subst, arith, length-append}
-use Rattle.std.specs.List.{All, AllZip, filter}
+use Rattle.std.proofs.Common.{◌≡◌, ℕ, zero, suc, ◌+◌, ◌*◌, ◌<◌, ◌≤◌, Bool, true, false, ◌==◌, cond, List, [], ◌∷◌, ◌++◌, length, take, drop, get_or, set, refl, sym, ◌∙◌, ap, subst, arith, length-append}
+use Rattle.std.specs.List.{All, AllZip}
 use Rattle.std.proofs.lemmas.Bool.{false≢true}
 use Rattle.std.proofs.lemmas.Bool.Decides.{Decides-eqb}
 use Rattle.std.proofs.lemmas.List.{drop_at, get_or-set_same, get_or-set_other, length-map, take_at, take-append-drop}
@@ -11,7 +11,7 @@ use Rattle.replay_meaning.specs.OutFrame.{Output, IsOutput, outputs_spelling}
 use Rattle.worker_seats.specs.Cuts.{AreCut, AreCuts, IsCut, Part, cuts_in, parts_of}
 use Rattle.worker_seats.specs.Frames.{AreSpelled}
 use Rattle.worker_seats.specs.Merge.{AreMerged}
-use Rattle.worker_seats.specs.Ranges.{ArePlacesAt, IsCutBefore}
+use Rattle.worker_seats.specs.Ranges.{IsCutBefore}
 use Rattle.worker_seats.specs.Workers.{HasSameWorker, inputs_of, outputs_of}
 use Rattle.worker_seats.specs.declared.cut.Cut.{Cut}
 use Rattle.worker_seats.specs.declared.cut.TheConstants.{RANGE}

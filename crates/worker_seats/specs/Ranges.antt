@@ -1,10 +1,9 @@
 -- No public clause cites this module. Ranges of the frames, and the outputs of each.
-use Rattle.std.specs.Prelude.{◌≡◌, ℕ, ◌+◌, ◌*◌, ◌<◌, List, ◌++◌, length, take, drop, get_or, Option}
+use Rattle.std.specs.Prelude.{◌≡◌, ℕ, ◌+◌, ◌*◌, ◌<◌, List, ◌++◌, length, take, get_or, Option}
 use Rattle.outside_core.specs.Told.{append_told}
 use Rattle.replay_meaning.specs.Frame.{Input}
 use Rattle.replay_meaning.specs.OutFrame.{outputs_spelling}
-use Rattle.worker_seats.specs.Cuts.{AreCuts, IsCut, cuts_in}
-use Rattle.worker_seats.specs.Frames.{AreSpelled}
+use Rattle.worker_seats.specs.Cuts.{AreCuts, IsCut}
 use Rattle.worker_seats.specs.Gather.{IsPartWritten}
 use Rattle.worker_seats.specs.Merge.{AreMerged}
 use Rattle.worker_seats.specs.Workers.{outputs_of}

@@ -5,6 +5,7 @@ use Rattle.page_list.proofs.within.filled.Given as goal
 abbrev pub invariant-loop-all : goal.invariant-loop-all
 invariant-loop-all g l = record {
   long : length l.fn.entries.items ≤ length l.all.items;
+  few : length l.all.items ≤ MOST_WITHIN;
   kept : take (length l.fn.entries.items) l.all.items ≡ l.fn.entries.items;
 }
 

@@ -1,5 +1,4 @@
-use Rattle.std.proofs.Common.{◌≡◌, ◌+◌, ◌∙◌, ap, sym, rules}
-use Rattle.std.specs.List.{prefix_len}
+use Rattle.std.proofs.Common.{◌≡◌, ◌+◌, ◌∙◌, sym, rules}
 use Rattle.std.specs.Ordering.{is_le}
 use Rattle.std.specs.Arc.{arc_value}
 use Rattle.denial_records.specs.declared.record.Record.{Record}
