@@ -58,6 +58,18 @@ impl Outputs {
         self.parts[worker].octets.as_slice()
     }
 
+    /// Room for what all workers wrote between two cuts: the mean, and a quarter more.
+    pub(crate) fn room_of_range(&self) -> usize {
+        let mut octets: usize = 0;
+        let mut ranges: usize = 1;
+        for part in &self.parts {
+            octets = octets.saturating_add(part.octets.len());
+            ranges = ranges.max(part.cuts.len());
+        }
+        let mean = octets / ranges.max(1);
+        mean.saturating_add(mean / 4)
+    }
+
     /// Gives the memory back: that of each worker's output on a thread of its own, where one can be started.
     pub fn give_back<R: Threads + Sync>(self, rt: &R) {
         let Outputs { parts } = self;

@@ -1,5 +1,5 @@
 //! Ranges of the frames, whose outputs are merged into a buffer each, by threads.
-ghost use Rattle.std.specs.Prelude.{◌≡◌, ℕ, ◌+◌, ◌<◌, ◌≤◌, List, ◌++◌, All, IfOk, length, drop, slice_index_or};
+ghost use Rattle.std.specs.Prelude.{◌≡◌, ℕ, ◌+◌, ◌<◌, ◌≤◌, List, [], ◌++◌, All, IfOk, length, drop, slice_index_or};
 ghost use Rattle.replay_meaning.specs.OutFrame.{Output, IsOutput, output_spelling};
 ghost use Rattle.worker_seats.specs.Cuts.{AreCut, cuts_in, parts_of};
 ghost use Rattle.worker_seats.specs.Merge.{BeginsWithFrame, CanBeMerged};
@@ -66,8 +66,7 @@ fn merge_range(
         job.range buffer.items) }
 {
     let RangeJob { range, buffer } = job;
-    let mut buffer = buffer;
-    buffer.clear();
+    let mut buffer = emptied(buffer, outputs.room_of_range());
     let mut places = places_at(frames, outputs, range);
     let mut rest = rest_at(frames, outputs, range);
     let mut passed: usize = 0;
@@ -82,6 +81,16 @@ fn merge_range(
         passed += 1;
     }
     Ok(buffer)
+}
+
+// The buffer with nothing in it, and with so much room that it is seldom moved; without that room it grows.
+fn emptied(buffer: Vec<u8>, room: usize) -> Vec<u8>
+    ensures { result.items ≡ [] }
+{
+    let mut buffer = buffer;
+    buffer.clear();
+    let _ = buffer.reserve_exact(room);
+    buffer
 }
 
 // Pushes the output frame at this place, and gives the place after it.

@@ -11,7 +11,7 @@ loop-passed-init c = record {
   done = RANGE * c.args.job.range;
   so_far = omega arith;
   stands = record { spelled = c.rest_at-rest.ensures; lie = c.places_at-places.ensures.lie; room = c.places_at-places.ensures.room };
-  merged = λ octets merged. sym (ap (λ l. outputs_spelling (take (RANGE * c.args.job.range) merged.outputs) ++ l) c.clear.ensures.items ∙ append-nil (outputs_spelling (take (RANGE * c.args.job.range) merged.outputs)));
+  merged = λ octets merged. sym (ap (λ l. outputs_spelling (take (RANGE * c.args.job.range) merged.outputs) ++ l) c.emptied-buffer.ensures ∙ append-nil (outputs_spelling (take (RANGE * c.args.job.range) merged.outputs)));
 }
 
 pub returns-in_default : goal.returns-in_default
