@@ -11,8 +11,8 @@ use std::sync::Wait;
 use std::thread::{Threads, join_mut};
 use worker_seats::{Frames, Outputs, write_outputs};
 
-/// Writes the output frames as `write_outputs` does, while a thread of its own, where one can be started, gives back the memory of
-/// the cache's records.
+/// Writes the output frames as `write_outputs` does. Where there are several workers, a thread of its own gives back the memory of
+/// the cache's records meanwhile, if one can be started.
 pub fn write_and_end<R: Threads + Wait + Sync, K: Sink>(
     rt: &R,
     alloc: Global,
@@ -31,6 +31,10 @@ pub fn write_and_end<R: Threads + Wait + Sync, K: Sink>(
         (K.written sink.old) (K.written sink.new)) }
     ensures failed { OnErr result (Rose (K.faults sink.old) (K.faults sink.new)) }
 {
+    if outputs.workers() == 1 {
+        drop(cache);
+        return write_outputs(rt, alloc, sink, frames, outputs);
+    }
     let mut cache = Some(cache);
     let ((), written) = join_mut(
         rt,
