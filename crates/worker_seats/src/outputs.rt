@@ -64,7 +64,7 @@ impl Outputs {
         let mut ranges: usize = 1;
         for part in &self.parts {
             octets = octets.saturating_add(part.octets.len());
-            ranges = ranges.max(part.cuts.len());
+            ranges = ranges.max(part.cuts.len().saturating_add(1));
         }
         let mean = octets / ranges.max(1);
         mean.saturating_add(mean / 4)
