@@ -46,6 +46,8 @@ impl<T: Drop> Part<Entry<T>> for EntriesApart<T> {
 }
 
 impl<T: Drop> PageEntries<T> for EntriesApart<T> {
+    const WITHIN: Option<usize> = None;
+
     fn as_slice(&self) -> &[Entry<T>] {
         self.entries.as_slice()
     }

@@ -11,11 +11,21 @@ use std::alloc::Global;
 use std::sync::Arc;
 
 pub(crate) trait Block<T: Drop>: Drop {
+    /// The memory that a list's pages are made in.
+    type Pool;
+
     // its entries, in order
     ghost entries: { Self → List (Marked T) };
 
+    /// Keeps a replaced page for its block of memory.
+    fn keep(pool: &Self::Pool, replaced: &Arc<Self>);
+
     /// The items in new blocks, as even as they go.
-    fn made(alloc: Global, items: Vec<Entry<T>>) -> Result<Vec<Arc<Self>>, OutOfMemory>
+    fn made(
+        alloc: Global,
+        pool: &Self::Pool,
+        items: Vec<Entry<T>>,
+    ) -> Result<Vec<Arc<Self>>, OutOfMemory>
         ensures { IfOk result (λ made. flat_map entries (map arc_value made.items)
             ≡ items.items) };
 
@@ -66,6 +76,7 @@ pub(crate) trait Block<T: Drop>: Drop {
     fn replaced(
         &self,
         alloc: Global,
+        pool: &Self::Pool,
         from: usize,
         to: usize,
         items: &[Entry<T>],
@@ -77,7 +88,14 @@ pub(crate) trait Block<T: Drop>: Drop {
             ++ drop to (entries self.now)) };
 
     /// The same where it lies. Nothing is changed where that can't be, and for want of memory.
-    fn replace(&mut self, alloc: Global, from: usize, to: usize, items: &[Entry<T>]) -> bool
+    fn replace(
+        &mut self,
+        alloc: Global,
+        pool: &Self::Pool,
+        from: usize,
+        to: usize,
+        items: &[Entry<T>],
+    ) -> bool
         requires order { from ≤ to }
         requires in_range { to ≤ length (entries self.old) }
         ensures done { IsTrue result → entries self.new
@@ -87,6 +105,7 @@ pub(crate) trait Block<T: Drop>: Drop {
     /// The entries of `left` before `from`, `items`, and the entries of `right` from `to` on, in new blocks.
     fn spliced(
         alloc: Global,
+        pool: &Self::Pool,
         left: &Self,
         from: usize,
         items: Vec<Entry<T>>,

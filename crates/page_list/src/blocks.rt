@@ -65,13 +65,21 @@ fn blocks_of<T: Drop, B: Block<T>>(
 }
 
 impl<T: Drop, B: Block<T>> Block<T> for Blocks<T, B> {
+    type Pool = B::Pool;
+
     ghost entries = { λ block. block };
 
-    fn made(alloc: Global, items: Vec<Entry<T>>) -> Result<Vec<Arc<Blocks<T, B>>>, OutOfMemory>
+    fn keep(_pool: &B::Pool, _replaced: &Arc<Blocks<T, B>>) {}
+
+    fn made(
+        alloc: Global,
+        pool: &B::Pool,
+        items: Vec<Entry<T>>,
+    ) -> Result<Vec<Arc<Blocks<T, B>>>, OutOfMemory>
         ensures { IfOk result (λ made. flat_map (λ block. block) (map arc_value made.items)
             ≡ items.items) }
     {
-        blocks_of(alloc, B::made(alloc, items)?, Growth::Anywhere)
+        blocks_of(alloc, B::made(alloc, pool, items)?, Growth::Anywhere)
     }
 
     fn len(&self) -> usize {
@@ -105,23 +113,32 @@ impl<T: Drop, B: Block<T>> Block<T> for Blocks<T, B> {
     fn replaced(
         &self,
         alloc: Global,
+        pool: &B::Pool,
         from: usize,
         to: usize,
         items: &[Entry<T>],
     ) -> Option<Arc<Self>> {
-        let row = self.row.replaced(alloc, from, to, items)?;
+        let row = self.row.replaced(alloc, pool, from, to, items)?;
         match Arc::new(alloc, Blocks { row }) {
             Ok(block) => Some(block),
             Err(_) => None,
         }
     }
 
-    fn replace(&mut self, alloc: Global, from: usize, to: usize, items: &[Entry<T>]) -> bool {
-        self.row.replace(alloc, from, to, items)
+    fn replace(
+        &mut self,
+        alloc: Global,
+        pool: &B::Pool,
+        from: usize,
+        to: usize,
+        items: &[Entry<T>],
+    ) -> bool {
+        self.row.replace(alloc, pool, from, to, items)
     }
 
     fn spliced(
         alloc: Global,
+        pool: &B::Pool,
         left: &Self,
         from: usize,
         items: Vec<Entry<T>>,
@@ -133,7 +150,7 @@ impl<T: Drop, B: Block<T>> Block<T> for Blocks<T, B> {
         ensures { IfOk result (λ made. flat_map (λ block. block) (map arc_value made.items)
             ≡ take from left.now ++ items.items ++ drop to right.now) }
     {
-        let blocks = spliced_row(alloc, &left.row, from, items, &right.row, to)?;
+        let blocks = spliced_row(alloc, pool, &left.row, from, items, &right.row, to)?;
         blocks_of(alloc, blocks, Growth::after(to == right.len()))
     }
 }

@@ -7,12 +7,15 @@ ghost use Rattle.page_list.specs.Search.{IsLastOf, IsTestOf};
 
 use crate::blocks::Blocks;
 use crate::entries::copies_of;
-use crate::page::Page;
+use crate::page::{Page, PagePool};
 use crate::row::Row;
 use crate::splice::spliced_row;
 use crate::{Block, Entry, Found, OutOfMemory, PageEntries};
 use std::alloc::Global;
 use std::marker::Model;
+
+/// From so many entries on a list has memory of its own for its pages.
+const LONG: usize = 1_024;
 
 type Shelf<T, E> = Blocks<T, Page<T, E>>;
 
@@ -22,6 +25,7 @@ type Bookcase<T, E> = Blocks<T, Shelf<T, E>>;
 #[derive(Drop)]
 pub(crate) struct EntryList<T: Drop, E: PageEntries<T>> {
     pub(crate) bookcases: Row<T, Bookcase<T, E>>,
+    pub(crate) pool: PagePool<T, E>,
 }
 
 impl<T: Drop, E: PageEntries<T>> Model for EntryList<T, E> {
@@ -40,7 +44,24 @@ impl<T: Drop, E: PageEntries<T>> EntryList<T, E> {
     {
         EntryList {
             bookcases: Row::empty(alloc),
+            pool: PagePool::empty(),
         }
+    }
+
+    // The list of these pages, by the version before it.
+    fn of(
+        alloc: Global,
+        bookcases: Row<T, Bookcase<T, E>>,
+        pool: &PagePool<T, E>,
+    ) -> EntryList<T, E>
+        ensures { result ≡ flat_map (λ bookcase. bookcase) bookcases }
+    {
+        let pool = if E::WITHIN.is_some() && bookcases.total() >= LONG {
+            pool.next(alloc)
+        } else {
+            PagePool::empty()
+        };
+        EntryList { bookcases, pool }
     }
 
     pub(crate) fn len(&self) -> usize
@@ -124,19 +145,18 @@ impl<T: Drop, E: PageEntries<T>> EntryList<T, E> {
             (λ made. made ≡ take from self.now ++ items.items ++ drop to self.now) }
     {
         let old = &self.bookcases;
-        if let Some(bookcases) = old.replaced(alloc, from, to, items.as_slice()) {
-            return Ok(EntryList { bookcases });
+        if let Some(bookcases) = old.replaced(alloc, &self.pool, from, to, items.as_slice()) {
+            return Ok(EntryList::of(alloc, bookcases, &self.pool));
         }
-        respliced(alloc, old, from, to, items)
+        respliced(alloc, &self.pool, old, from, to, items)
     }
 
     /// Another owner of its pages.
     pub(crate) fn try_clone(&self, alloc: Global) -> Result<EntryList<T, E>, OutOfMemory>
         ensures { IfOk result (λ clone. clone ≡ self.now) }
     {
-        Ok(EntryList {
-            bookcases: self.bookcases.try_clone(alloc)?,
-        })
+        let bookcases = self.bookcases.try_clone(alloc)?;
+        Ok(EntryList::of(alloc, bookcases, &self.pool))
     }
 
     /// The list with `items` in place of the entries `from..to`. What no other list shares with it is changed where it lies,
@@ -153,17 +173,21 @@ impl<T: Drop, E: PageEntries<T>> EntryList<T, E> {
         ensures { IfOk result
             (λ made. made ≡ take from self ++ items.now ++ drop to self) }
     {
-        let EntryList { mut bookcases } = self;
-        if bookcases.replace(alloc, from, to, items) {
-            return Ok(EntryList { bookcases });
+        let EntryList {
+            mut bookcases,
+            pool,
+        } = self;
+        if bookcases.replace(alloc, &pool, from, to, items) {
+            return Ok(EntryList { bookcases, pool });
         }
-        respliced(alloc, &bookcases, from, to, copies_of(alloc, items)?)
+        respliced(alloc, &pool, &bookcases, from, to, copies_of(alloc, items)?)
     }
 }
 
 // The list of `old` with `items` in place of the entries `from..to`, in new pages there.
 fn respliced<T: Drop, E: PageEntries<T>>(
     alloc: Global,
+    pool: &PagePool<T, E>,
     old: &Row<T, Bookcase<T, E>>,
     from: usize,
     to: usize,
@@ -176,11 +200,9 @@ fn respliced<T: Drop, E: PageEntries<T>>(
         ++ drop to (flat_map (λ bookcase. bookcase) old.now)) }
 {
     let made = if old.count() == 0 {
-        Bookcase::made(alloc, items)?
+        Bookcase::made(alloc, pool, items)?
     } else {
-        spliced_row(alloc, old, from, items, old, to)?
+        spliced_row(alloc, pool, old, from, items, old, to)?
     };
-    Ok(EntryList {
-        bookcases: Row::of(alloc, made)?,
-    })
+    Ok(EntryList::of(alloc, Row::of(alloc, made)?, pool))
 }

@@ -22,6 +22,7 @@ mod page;
 mod page_entries;
 mod part;
 mod parts;
+mod pool;
 mod row;
 mod share;
 mod short;

@@ -8,6 +8,7 @@ ghost use Rattle.page_list.specs.Search.{IsBehindLesser, IsTestAt};
 use crate::cut::{Growth, cut};
 use crate::entries::entries_round;
 use crate::parts::{items_before, items_from, last_of};
+use crate::pool::BlockPool;
 use crate::{Block, Entry, Found, OutOfMemory, PageEntries};
 use std::alloc::Global;
 use std::marker::{Model, PhantomData};
@@ -31,9 +32,28 @@ impl<T: Drop, E: PageEntries<T>> Model for Page<T, E> {
     ghost view = { λ p. E.values p.entries };
 }
 
+/// The memory for the pages of a list.
+pub(crate) type PagePool<T, E> = BlockPool<Page<T, E>>;
+
+// The entries in a page.
+fn placed<T: Drop, E: PageEntries<T>>(
+    alloc: Global,
+    pool: &PagePool<T, E>,
+    entries: E,
+) -> Result<Arc<Page<T, E>>, OutOfMemory>
+    ensures { IfOk result (λ made. arc_value made ≡ E.values entries) }
+{
+    let page = Page::of(entries);
+    match E::WITHIN {
+        Some(size) => pool.placed(alloc, size, page),
+        None => Ok(Arc::new(alloc, page)?),
+    }
+}
+
 // The entries in new pages.
 fn pages_of<T: Drop, E: PageEntries<T>>(
     alloc: Global,
+    pool: &PagePool<T, E>,
     entries: Vec<Entry<T>>,
     growth: Growth,
 ) -> Result<Vec<Arc<Page<T, E>>>, OutOfMemory>
@@ -42,7 +62,7 @@ fn pages_of<T: Drop, E: PageEntries<T>>(
 {
     let mut pages = Vec::new(alloc);
     for part in cut::<Entry<T>, E>(alloc, entries, growth)? {
-        pages.push(Arc::new(alloc, Page::of(part))?)?;
+        pages.push(placed(alloc, pool, part)?)?;
     }
     Ok(pages)
 }
@@ -57,8 +77,9 @@ impl<T: Drop, E: PageEntries<T>> Page<T, E> {
         }
     }
 
-    // A place behind an entry of a lesser mark, or the first place. Every other entry is read first: a page has few, none of
-    // these reads waits for another, as those of a search by halves would, and they fetch each line of the page's memory.
+    // A place behind an entry of a lesser mark, or the first place; where marks never fall, behind the last such. Every other
+    // entry is read first: a page has few, none of these reads waits for another, as those of a search by halves would, and they
+    // fetch each line of the page's memory. What they find decides no jump, so the processor needn't guess it.
     fn start_of_run(&self, mark: u64) -> usize
         ensures { IsBehindLesser mark self.now result }
     {
@@ -71,7 +92,7 @@ impl<T: Drop, E: PageEntries<T>> Page<T, E> {
             }
             at = at.saturating_add(STRIDE);
         }
-        while start < entries.len() && entries[start].mark() < mark {
+        if start < entries.len() && entries[start].mark() < mark {
             start += 1;
         }
         start
@@ -114,13 +135,23 @@ impl<T: Drop, E: PageEntries<T>> Page<T, E> {
 }
 
 impl<T: Drop, E: PageEntries<T>> Block<T> for Page<T, E> {
+    type Pool = PagePool<T, E>;
+
     ghost entries = { λ page. page };
 
-    fn made(alloc: Global, items: Vec<Entry<T>>) -> Result<Vec<Arc<Page<T, E>>>, OutOfMemory>
+    fn keep(pool: &PagePool<T, E>, replaced: &Arc<Page<T, E>>) {
+        pool.keep(replaced);
+    }
+
+    fn made(
+        alloc: Global,
+        pool: &PagePool<T, E>,
+        items: Vec<Entry<T>>,
+    ) -> Result<Vec<Arc<Page<T, E>>>, OutOfMemory>
         ensures { IfOk result (λ made. flat_map (λ page. page) (map arc_value made.items)
             ≡ items.items) }
     {
-        pages_of(alloc, items, Growth::Anywhere)
+        pages_of(alloc, pool, items, Growth::Anywhere)
     }
 
     fn len(&self) -> usize {
@@ -178,23 +209,29 @@ impl<T: Drop, E: PageEntries<T>> Block<T> for Page<T, E> {
     fn replaced(
         &self,
         alloc: Global,
+        pool: &PagePool<T, E>,
         from: usize,
         to: usize,
         items: &[Entry<T>],
     ) -> Option<Arc<Self>> {
         let entries = self.entries.replaced(alloc, from, to, items)?;
-        match Arc::new(alloc, Page::of(entries)) {
-            Ok(page) => Some(page),
-            Err(_) => None,
-        }
+        placed(alloc, pool, entries).ok()
     }
 
-    fn replace(&mut self, alloc: Global, from: usize, to: usize, items: &[Entry<T>]) -> bool {
+    fn replace(
+        &mut self,
+        alloc: Global,
+        _pool: &PagePool<T, E>,
+        from: usize,
+        to: usize,
+        items: &[Entry<T>],
+    ) -> bool {
         self.entries.replace(alloc, from, to, items)
     }
 
     fn spliced(
         alloc: Global,
+        pool: &PagePool<T, E>,
         left: &Self,
         from: usize,
         items: Vec<Entry<T>>,
@@ -209,6 +246,6 @@ impl<T: Drop, E: PageEntries<T>> Block<T> for Page<T, E> {
         let before = items_before(left.entries.as_slice(), from);
         let after = items_from(right.entries.as_slice(), to);
         let entries = entries_round(alloc, 0, before, items.as_slice(), after)?;
-        pages_of(alloc, entries, Growth::after(after.is_empty()))
+        pages_of(alloc, pool, entries, Growth::after(after.is_empty()))
     }
 }

@@ -7,6 +7,9 @@ use std::alloc::Global;
 
 /// The entries of a page: `EntriesApart` or `EntriesWithin`.
 pub trait PageEntries<T: Drop>: Part<Entry<T>> {
+    /// How many octets a page's block of memory has, its count of owners among them, where they lie in it.
+    const WITHIN: Option<usize>;
+
     fn as_slice(&self) -> &[Entry<T>]
         ensures value { result.now ≡ Self.values self.now }
         ensures some { 0 < length (Self.values self.now) }

@@ -172,6 +172,7 @@ impl<T: Drop, B: Block<T>> Row<T, B> {
     pub(crate) fn replaced(
         &self,
         alloc: Global,
+        pool: &B::Pool,
         from: usize,
         to: usize,
         items: &[Entry<T>],
@@ -184,7 +185,8 @@ impl<T: Drop, B: Block<T>> Row<T, B> {
         ensures count { IfSome result (λ row. length row ≡ length self.now) }
     {
         let (p, x, y) = self.block_of(from, to)?;
-        let block = self.block(p).replaced(alloc, x, y, items)?;
+        let block = self.block(p).replaced(alloc, pool, x, y, items)?;
+        self.keep(pool, p);
         match self.exchanged(alloc, p, block) {
             Ok(row) => Some(row),
             Err(_) => None,
@@ -196,6 +198,7 @@ impl<T: Drop, B: Block<T>> Row<T, B> {
     pub(crate) fn replace(
         &mut self,
         alloc: Global,
+        pool: &B::Pool,
         from: usize,
         to: usize,
         items: &[Entry<T>],
@@ -214,7 +217,7 @@ impl<T: Drop, B: Block<T>> Row<T, B> {
         if self.total().checked_add(items.len()).is_none() {
             return false;
         }
-        replace_at::<T, B>(&mut self.slots, alloc, p, x, y, items)
+        replace_at::<T, B>(&mut self.slots, alloc, pool, p, x, y, items)
     }
 
     // The block that has all of `from..to`, and both places in it; none where there are two of them or more.
@@ -235,6 +238,13 @@ impl<T: Drop, B: Block<T>> Row<T, B> {
             return None;
         }
         Some((p, from - start, to - start))
+    }
+
+    /// Keeps the block `p`, which is replaced, for its memory where it is a page.
+    pub(crate) fn keep(&self, pool: &B::Pool, p: usize)
+        requires { p < length self.now }
+    {
+        B::keep(pool, self.slots[p].share());
     }
 
     // The row with `block` in the place `p`.
@@ -399,7 +409,8 @@ impl<T: Drop, B: Block<T>> Row<T, B> {
     }
 
     // A block whose first entry has a lesser mark, or the first block; where marks never fall, the last such. Every other is
-    // read first: none of these reads waits for another, as those of a search by halves would.
+    // read first: none of these reads waits for another, as those of a search by halves would, and what they find decides no
+    // jump, so the processor needn't guess it.
     fn last_lesser(&self, mark: u64) -> usize
         requires { 0 < length self.now }
         ensures in_range { result < length self.now }
@@ -415,7 +426,7 @@ impl<T: Drop, B: Block<T>> Row<T, B> {
             }
             at = at.saturating_add(STRIDE);
         }
-        while last + 1 < count && self.mark_of(last + 1) < mark {
+        if last + 1 < count && self.mark_of(last + 1) < mark {
             last += 1;
         }
         last

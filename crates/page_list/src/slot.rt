@@ -59,6 +59,7 @@ impl<B: Drop> Slot<B> {
     pub(crate) fn replace<T: Drop>(
         &mut self,
         alloc: Global,
+        pool: &B::Pool,
         start: usize,
         x: usize,
         y: usize,
@@ -75,7 +76,7 @@ impl<B: Drop> Slot<B> {
             → IsShelved mark_of B.entries self.new.block start self.new }
         ensures same { result ≡ false → self.new ≡ self.old }
     {
-        if !replace_block::<T, B>(&mut self.share, alloc, x, y, items) {
+        if !replace_block::<T, B>(&mut self.share, alloc, pool, x, y, items) {
             return false;
         }
         self.end = start + self.share.len();

@@ -37,6 +37,7 @@ fn first_seam<T: Drop, B: Block<T>>(row: &Row<T, B>, at: usize, inner: bool) -> 
 // how many of `left` stand before them, and the last block of `right` that they replace.
 fn joined<T: Drop, B: Block<T>>(
     alloc: Global,
+    pool: &B::Pool,
     left: &Row<T, B>,
     p: usize,
     made: Vec<Arc<B>>,
@@ -54,11 +55,11 @@ fn joined<T: Drop, B: Block<T>>(
 {
     if made.len() == 1 && made[0].is_small() {
         if p > 0 {
-            let made = with_left::<T, B>(alloc, left.block(p - 1), made.as_slice())?;
+            let made = with_left::<T, B>(alloc, pool, left.block(p - 1), made.as_slice())?;
             return Ok((made, p - 1, q));
         }
         if q < right.count() - 1 {
-            let made = with_right::<T, B>(alloc, made.as_slice(), right.block(q + 1))?;
+            let made = with_right::<T, B>(alloc, pool, made.as_slice(), right.block(q + 1))?;
             return Ok((made, p, q + 1));
         }
     }
@@ -68,6 +69,7 @@ fn joined<T: Drop, B: Block<T>>(
 // A block and the one block that `made` has, in new blocks.
 fn with_left<T: Drop, B: Block<T>>(
     alloc: Global,
+    pool: &B::Pool,
     block: &B,
     made: &[Arc<B>],
 ) -> Result<Vec<Arc<B>>, OutOfMemory>
@@ -75,12 +77,21 @@ fn with_left<T: Drop, B: Block<T>>(
     ensures { IfOk result (λ both. flat_map B.entries (map arc_value both.items)
         ≡ B.entries block.now ++ flat_map B.entries (map arc_value made.now)) }
 {
-    B::spliced(alloc, block, block.len(), Vec::new(alloc), &made[0], 0)
+    B::spliced(
+        alloc,
+        pool,
+        block,
+        block.len(),
+        Vec::new(alloc),
+        &made[0],
+        0,
+    )
 }
 
 // The one block that `made` has and a block, in new blocks.
 fn with_right<T: Drop, B: Block<T>>(
     alloc: Global,
+    pool: &B::Pool,
     made: &[Arc<B>],
     block: &B,
 ) -> Result<Vec<Arc<B>>, OutOfMemory>
@@ -88,7 +99,15 @@ fn with_right<T: Drop, B: Block<T>>(
     ensures { IfOk result (λ both. flat_map B.entries (map arc_value both.items)
         ≡ flat_map B.entries (map arc_value made.now) ++ B.entries block.now) }
 {
-    B::spliced(alloc, &made[0], made[0].len(), Vec::new(alloc), block, 0)
+    B::spliced(
+        alloc,
+        pool,
+        &made[0],
+        made[0].len(),
+        Vec::new(alloc),
+        block,
+        0,
+    )
 }
 
 // Whether no entry comes in, and whole blocks stay on both sides, neither of them small.
@@ -109,6 +128,7 @@ fn is_clean_cut<T: Drop, B: Block<T>>(
 /// The entries of `left` before `from`, `items`, and the entries of `right` from `to` on.
 pub(crate) fn spliced_row<T: Drop, B: Block<T>>(
     alloc: Global,
+    pool: &B::Pool,
     left: &Row<T, B>,
     from: usize,
     items: Vec<Entry<T>>,
@@ -136,7 +156,8 @@ pub(crate) fn spliced_row<T: Drop, B: Block<T>>(
             right.slots_from(q),
         );
     }
-    let made = B::spliced(alloc, first, x, items, last, y)?;
-    let (made, p, q) = joined(alloc, left, p, made, right, q)?;
+    left.keep(pool, p);
+    let made = B::spliced(alloc, pool, first, x, items, last, y)?;
+    let (made, p, q) = joined(alloc, pool, left, p, made, right, q)?;
     shared_round(alloc, left.slots_before(p), made, right.slots_after(q))
 }

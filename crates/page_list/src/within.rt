@@ -7,6 +7,7 @@ use crate::part::Part;
 use crate::{Entry, OutOfMemory, PageEntries};
 use std::alloc::Global;
 use std::marker::Model;
+use std::mem::size_of;
 
 /// How many entries a page's own block may have.
 const MOST_WITHIN: usize = 16;
@@ -35,7 +36,8 @@ impl<T> Model for EntriesWithin<T> {
 fn filled<T: Drop>(entries: Vec<Entry<T>>) -> Result<Vec<Entry<T>>, OutOfMemory>
     requires some { 0 < length entries.items }
     requires few { length entries.items ≤ MOST_WITHIN }
-    ensures entries { IfOk result (λ all. take (length entries.items) all.items ≡ entries.items) }
+    ensures entries { IfOk result
+        (λ all. take (length entries.items) all.items ≡ entries.items) }
     ensures full { IfOk result (λ all. length all.items ≡ MOST_WITHIN) }
 {
     let mut all = entries;
@@ -69,6 +71,8 @@ impl<T: Drop> Part<Entry<T>> for EntriesWithin<T> {
 }
 
 impl<T: Drop> PageEntries<T> for EntriesWithin<T> {
+    const WITHIN: Option<usize> = Some(size_of::<(usize, EntriesWithin<()>)>());
+
     fn as_slice(&self) -> &[Entry<T>] {
         &self.items[..self.count]
     }

@@ -230,31 +230,40 @@ fn finds_where_a_test_ends(rt: HostRuntime) -> Result<(), Fail> {
 
 // A number that counts how often it is compared.
 #[derive(Drop)]
-struct Counted<'a> {
+struct Counted {
     number: u64,
-    calls: &'a Cell<u64>,
+    calls: Arc<Cell<u64>>,
+}
+
+impl Counted {
+    fn of(number: u64, calls: &Arc<Cell<u64>>) -> Result<Counted, OutOfMemory> {
+        Ok(Counted {
+            number,
+            calls: Arc::try_clone(calls)?,
+        })
+    }
 }
 
 struct ByNumber;
 
-impl<'a> Marking<Counted<'a>> for ByNumber {
+impl Marking<Counted> for ByNumber {
     ghost mark = { λ _. 0 };
 
     ghost note = { λ _. 0 };
 
-    fn mark(_entry: &Counted<'a>) -> u64 {
+    fn mark(_entry: &Counted) -> u64 {
         0
     }
 
-    fn note(_entry: &Counted<'a>) -> u64 {
+    fn note(_entry: &Counted) -> u64 {
         0
     }
 }
 
-impl<'a> Ranking<Counted<'a>> for ByNumber {
+impl Ranking<Counted> for ByNumber {
     ghost cmp = { λ x y. nat_cmp x.number y.number };
 
-    fn compare(one: &Counted<'a>, other: &Counted<'a>) -> Ordering {
+    fn compare(one: &Counted, other: &Counted) -> Ordering {
         one.calls.set(one.calls.get().wrapping_add(1));
         one.number.cmp(&other.number)
     }
@@ -268,16 +277,16 @@ impl<'a> Ranking<Counted<'a>> for ByNumber {
 
 // The most comparisons of a search, in a list that was made one number after another; none where one misses.
 fn most_comparisons(alloc: Global, count: u64) -> Result<Option<u64>, OutOfMemory> {
-    let calls = Cell::new(0u64);
-    let calls = &calls;
+    let calls = Arc::new(alloc, Cell::new(0u64))?;
     let mut list: OrderedList<Counted, ByNumber> = OrderedList::empty(alloc);
     for number in 0..count {
-        list = list.with(alloc, Arc::new(alloc, Counted { number, calls })?)?;
+        list = list.with(alloc, Arc::new(alloc, Counted::of(number, &calls)?)?)?;
     }
     let mut most = 0;
     for number in 0..count {
+        let sought = Counted::of(number, &calls)?;
         calls.set(0);
-        if list.at(&Counted { number, calls }).is_none() {
+        if list.at(&sought).is_none() {
             return Ok(None);
         }
         most = most.max(calls.get());

@@ -301,6 +301,56 @@ fn is_changed_in_place_while_another_stays(rt: HostRuntime) -> Result<(), Fail> 
     Ok(())
 }
 
+// The list of the numbers up to so many, one of which is 7 in place of what it was.
+fn is_with_a_seven(list: &Numbers<EntriesWithin<u64>>, at: usize) -> bool {
+    let mut place = 0usize;
+    for entry in list {
+        let number = if place == at { 7 } else { place as u64 };
+        if **entry != number {
+            return false;
+        }
+        place = place.saturating_add(1);
+    }
+    true
+}
+
+#[test]
+fn a_new_page_takes_the_block_of_a_replaced_one(rt: HostRuntime) -> Result<(), Fail> {
+    let alloc = rt.alloc();
+    let old: Numbers<EntriesWithin<u64>> = list_of(alloc, 2000)?;
+    assert!(rt; old.entries.pool.kept() == 0);
+    if old.len() == 2000 {
+        let one = old.with_one(alloc, 100, 101, Arc::new(alloc, 7)?)?;
+        assert!(rt; one.entries.pool.kept() == 1);
+        // the old list has that page still
+        let other = old.with_one(alloc, 500, 501, Arc::new(alloc, 7)?)?;
+        assert!(rt; other.entries.pool.kept() == 2);
+        assert!(rt; is_with_a_seven(&one, 100) && is_with_a_seven(&other, 500));
+        drop(old);
+        drop(other);
+        if one.len() == 2000 {
+            let last = one.with_one(alloc, 100, 101, Arc::new(alloc, 100)?)?;
+            drop(one);
+            assert!(rt; last.entries.pool.kept() == 2);
+            assert!(rt; is_with_a_seven(&last, 2000));
+        }
+    }
+    Ok(())
+}
+
+#[test]
+fn a_short_list_keeps_no_page(rt: HostRuntime) -> Result<(), Fail> {
+    let alloc = rt.alloc();
+    let short: Numbers<EntriesWithin<u64>> = list_of(alloc, 1000)?;
+    let apart: Numbers<EntriesApart<u64>> = list_of(alloc, 2000)?;
+    if short.len() == 1000 && apart.len() == 2000 {
+        let short = short.with_one(alloc, 100, 101, Arc::new(alloc, 7)?)?;
+        let apart = apart.with_one(alloc, 100, 101, Arc::new(alloc, 7)?)?;
+        assert!(rt; short.entries.pool.kept() == 0 && apart.entries.pool.kept() == 0);
+    }
+    Ok(())
+}
+
 #[test]
 fn replaces_at_the_edges(rt: HostRuntime) -> Result<(), Fail> {
     // how many entries there are at first, the part that goes, and how many come in
