@@ -3,7 +3,6 @@
 //! `replay_meaning` and `server`.
 #![tactic(auto)]
 
-mod ending;
 mod reading;
 mod replay;
 mod run;

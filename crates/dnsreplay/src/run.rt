@@ -8,9 +8,8 @@ ghost use Rattle.command_line.specs.declared.command.Command.TheVariants.{Replay
 ghost use Rattle.server.specs.Back.{CameBack, AllServedWhole};
 ghost use Rattle.dnsreplay.specs.Serve.{service_of, IsOfServe, ServedInPart};
 
-use crate::ending::write_and_end;
 use crate::reading::{MAX_INPUT, ReadError, read_whole};
-use crate::replay::{Replayed, replay};
+use crate::replay::replay;
 use crate::selfrun::selfrun;
 use crate::status::Status;
 use command_line::{Command, command_of};
@@ -19,7 +18,7 @@ use server::{ServeError, Service, serve};
 use std::alloc::Global;
 use std::sync::Wait;
 use std::thread::Threads;
-use worker_seats::{Frames, write_whole};
+use worker_seats::{Frames, write_outputs, write_whole};
 
 /// Runs the words, those after the program's name: replays over the source and the sink, and serves over the harbor at the
 /// moments that the clock tells. Workers of a replay pass the gate.
@@ -285,10 +284,10 @@ fn run_replay<R: Threads + Wait + Sync, S: Source, K: Sink, G: Gate>(
     let Some(frames) = Frames::of(&input, workers) else {
         return Status::BadFrame;
     };
-    let Ok(Replayed { outputs, cache }) = replay(rt, alloc, workers, &frames, gate) else {
+    let Ok(outputs) = replay(rt, alloc, workers, &frames, gate) else {
         return Status::OutOfMemory;
     };
-    let written = write_and_end(rt, alloc, sink, &frames, &outputs, cache);
+    let written = write_outputs(rt, alloc, sink, &frames, &outputs);
     outputs.give_back(rt);
     match written {
         Ok(()) => Status::Good,

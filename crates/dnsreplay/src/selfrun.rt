@@ -6,7 +6,7 @@ ghost use Rattle.worker_seats.specs.Cuts.{Part};
 ghost use Rattle.dnsreplay.specs.Made.{made_input, made_inputs, queries_of};
 ghost use Rattle.dnsreplay.specs.Summary.{IsMadeSummary};
 
-use crate::replay::{Replayed, replay};
+use crate::replay::replay;
 use crate::summary::summary;
 use dname::{Octets, OctetsList, OutOfMemory};
 use outside_core::Gate;
@@ -69,7 +69,7 @@ fn made_outputs<R: Threads + Wait + Sync, G: Gate>(
     let Some(frames) = Frames::of(&octets, 1) else {
         unreachable!()
     };
-    let Replayed { outputs, .. } = replay(rt, alloc, 1, &frames, gate)?;
+    let outputs = replay(rt, alloc, 1, &frames, gate)?;
     Ok(outputs)
 }
 

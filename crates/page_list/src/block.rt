@@ -60,9 +60,11 @@ pub(crate) trait Block<T: Drop>: Drop {
             → IsPartitionedBy p (entries self.now) → result
             ≡ prefix_len p (entries self.now) };
 
-    /// The same, asked only of entries with the mark: those of a lesser mark come before, those of a greater one don't.
-    fn find_at<F: Fn(&T) -> bool>(&self, mark: u64, before: &F) -> Found<'_, T>
-        requires { F.IsAlwaysCallable before.now }
+    /// The same, asked only of entries with the mark: those of a lesser mark come before, those of a greater one don't. Who asks
+    /// tells how many entries there are, so that the search of a page needn't wait for its memory to know where it ends.
+    fn find_at<F: Fn(&T) -> bool>(&self, len: usize, mark: u64, before: &F) -> Found<'_, T>
+        requires callable { F.IsAlwaysCallable before.now }
+        requires len { len ≡ length (entries self.now) }
         ensures in_range { result.count ≤ length (entries self.now) }
         ensures exact { (p : Marked T → Bool) → IsTestOf F.Fn before.now p
             → PartsAtMark mark_of mark p (entries self.now)

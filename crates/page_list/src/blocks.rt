@@ -106,7 +106,7 @@ impl<T: Drop, B: Block<T>> Block<T> for Blocks<T, B> {
         self.row.find(before)
     }
 
-    fn find_at<F: Fn(&T) -> bool>(&self, mark: u64, before: &F) -> Found<'_, T> {
+    fn find_at<F: Fn(&T) -> bool>(&self, _len: usize, mark: u64, before: &F) -> Found<'_, T> {
         self.row.find_at(mark, before)
     }
 

@@ -80,27 +80,29 @@ impl<T: Drop, E: PageEntries<T>> Page<T, E> {
     // A place behind an entry of a lesser mark, or the first place; where marks never fall, behind the last such. Every other
     // entry is read first: a page has few, none of these reads waits for another, as those of a search by halves would, and they
     // fetch each line of the page's memory. What they find decides no jump, so the processor needn't guess it.
-    fn start_of_run(&self, mark: u64) -> usize
+    fn start_of_run(&self, len: usize, mark: u64) -> usize
+        requires { len ≡ length self.now }
         ensures { IsBehindLesser mark self.now result }
     {
         let entries = self.entries.as_slice();
         let mut start = 0;
         let mut at = STRIDE - 1;
-        while at < entries.len() {
+        while at < len {
             if entries[at].mark() < mark {
                 start = at + 1;
             }
             at = at.saturating_add(STRIDE);
         }
-        if start < entries.len() && entries[start].mark() < mark {
+        if start < len && entries[start].mark() < mark {
             start += 1;
         }
         start
     }
 
     // The first place from `low` on whose entry has a greater mark, or the end.
-    fn end_of_run(&self, low: usize, mark: u64) -> usize
-        requires { low ≤ length self.now }
+    fn end_of_run(&self, len: usize, low: usize, mark: u64) -> usize
+        requires len { len ≡ length self.now }
+        requires low { low ≤ length self.now }
         ensures order { low ≤ result }
         ensures in_range { result ≤ length self.now }
         ensures greater { (d : Marked T) → result < length self.now
@@ -108,7 +110,7 @@ impl<T: Drop, E: PageEntries<T>> Page<T, E> {
     {
         let entries = self.entries.as_slice();
         let mut end = low;
-        while end < entries.len() {
+        while end < len {
             if entries[end].mark() > mark {
                 return end;
             }
@@ -189,9 +191,9 @@ impl<T: Drop, E: PageEntries<T>> Block<T> for Page<T, E> {
         low
     }
 
-    fn find_at<F: Fn(&T) -> bool>(&self, mark: u64, before: &F) -> Found<'_, T> {
-        let mut low = self.start_of_run(mark);
-        let mut high = self.end_of_run(low, mark);
+    fn find_at<F: Fn(&T) -> bool>(&self, len: usize, mark: u64, before: &F) -> Found<'_, T> {
+        let mut low = self.start_of_run(len, mark);
+        let mut high = self.end_of_run(len, low, mark);
         while low < high {
             let middle = low + (high - low) / 2;
             if self.is_before(middle, mark, before) {

@@ -9,11 +9,11 @@ returns-in-Ok-clause-replay g c octets output are merged =
     let frames = c.args.frames.now in
     let all = c.in_ok-cache.ensures.all.1 in
     subst (λ n. IsReplay n octets output) all
-    (replay_of c.in_ok-cache.seats.items c.in-Ok.seats.items (journal_at c.close-cache.result) octets output frames
+    (replay_of c.in_ok-cache.seats.items c.in-Ok.seats.items (journal_at c.close-closed.result) octets output frames
     (subst (λ n. SpellsFrames n octets frames) (sym all) are)
     c.requires.few
     c.in-Ok.ensures.all
     (λ k d within. (c.in_ok-cache.ensures.fresh k d within).2)
-    c.close-cache.ensures.seen
-    c.close-cache.ensures.places
+    c.close-closed.ensures.seen
+    c.close-closed.ensures.places
     (c.in-Ok.ensures.worked output merged))

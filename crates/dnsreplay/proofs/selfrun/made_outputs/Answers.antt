@@ -26,5 +26,5 @@ replay-requires-clause-few g c = λ κs outlives.
 pub returns-clause-replay : goal.returns-clause-replay
 returns-clause-replay g c =
     let is = both_put c.args.seed c.args.names c.args.queries _ _ _ _ _ c.new-octets.ensures.items c.in_ok-put_frames.ensures c.in_ok-put_frames-2.ensures c.in_ok-made.ensures.messages c.in_ok-asked.ensures in
-    made_by_one c.in_ok-outputs.field-0.outputs c.in-Some.frames (inputs_spelling (made_inputs c.args.seed c.args.names c.args.queries)) c.in_ok-outputs.ensures.all c.in_ok-outputs.ensures.merge c.in_ok-outputs.ensures.replay
+    made_by_one c.in_ok-outputs.outputs c.in-Some.frames (inputs_spelling (made_inputs c.args.seed c.args.names c.args.queries)) c.in_ok-outputs.ensures.all c.in_ok-outputs.ensures.merge c.in_ok-outputs.ensures.replay
     (subst (λ o. SpellsFrames 1 o c.in-Some.frames) (c.deref.ensures.value ∙ is) c.in-Some.ensures.frames)
