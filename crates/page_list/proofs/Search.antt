@@ -52,17 +52,6 @@ HasNarrowed-down xs IsTest low high middle was up lt fails = record {
 pub IsBehindLesser-start : {X : Type 0} (mark : ℕ) (entries : List (Marked X)) → IsBehindLesser mark entries 0
 IsBehindLesser-start mark entries = record { in_range = omega arith; lesser = λ d some. absurd (omega arith) }
 
--- the entry at the place has a lesser mark
-pub IsBehindLesser-more : {X : Type 0} (mark own : ℕ) (entries : List (Marked X)) (at : ℕ) (entry : Marked X) → at < length entries → entry ≡ get_or entries at entry → own ≡ mark_of entry → own < mark → IsBehindLesser mark entries (at + 1)
-IsBehindLesser-more mark own entries at entry lt is e less = record {
-  in_range = omega arith;
-  lesser = λ d some.
-      let back : at + 1 - 1 ≡ at = omega arith in
-      let read : own ≡ mark_of (get_or entries (at + 1 - 1) d) =
-      e ∙ (ap mark_of (get_or_read entries at entry lt is d) ∙ ap (λ n. mark_of (get_or entries n d)) (sym back)) in
-      omega (arith, read);
-}
-
 -- entries of a lesser mark come before, and none does from one of a greater mark on
 pub HasNarrowed-to_run : {X F : Type 0} (g : Shared F (Bor X × Unit {0}) Bool) (f : F) (mark : ℕ) (xs : List (Marked X)) (low high : ℕ) → IsBehindLesser mark xs low → low ≤ high → high ≤ length xs → ((d : Marked X) → high < length xs → mark < mark_of (get_or xs high d)) → HasNarrowed xs (IsTestAt g f mark xs) low high
 HasNarrowed-to_run g f mark xs low high behind le in_xs greater = record {

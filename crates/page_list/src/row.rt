@@ -277,15 +277,6 @@ impl<T: Drop, B: Block<T>> Row<T, B> {
         if p == 0 { 0 } else { self.slots[p - 1].end() }
     }
 
-    // How many entries the block `p` has, told by the row: the block isn't read.
-    fn len_of(&self, p: usize) -> usize
-        requires { p < length self.now }
-        ensures { (block : B) → block ≡ slice_index_or self.now p block
-            → result ≡ length (B.entries block) }
-    {
-        self.slots[p].end() - self.start(p)
-    }
-
     /// How many entries there are.
     pub(crate) fn total(&self) -> usize
         ensures { result ≡ length (flat_map B.entries self.now) }
@@ -387,9 +378,11 @@ impl<T: Drop, B: Block<T>> Row<T, B> {
             };
         }
         let p = self.block_to_search_at(mark, before);
-        let found = self.block(p).find_at(self.len_of(p), mark, before);
+        let start = self.start(p);
+        let len = self.slots[p].end() - start;
+        let found = self.block(p).find_at(len, mark, before);
         Found {
-            count: self.start(p) + found.count,
+            count: start + found.count,
             last: found.last,
         }
     }
