@@ -304,8 +304,12 @@ mod life_tests;
 #[cfg(test)]
 mod message_tests;
 #[cfg(test)]
+mod pairs_tests;
+#[cfg(test)]
 mod port_tests;
 #[cfg(test)]
 mod selfrun_tests;
+#[cfg(test)]
+mod serve_tests;
 #[cfg(test)]
 mod tests;
