@@ -1,3 +1,4 @@
+pub mod CountLemmas
 pub mod DenialLemmas
 pub mod DroppingLemmas
 pub mod GoingLemmas

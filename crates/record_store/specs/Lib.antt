@@ -1,5 +1,6 @@
 pub mod Marks
 pub mod Ranks
+pub mod Counts
 pub mod Holding
 pub mod Dropping
 pub mod Putting

@@ -1,9 +1,8 @@
 //! The first record goes.
-ghost use Rattle.std.specs.Prelude.{◌≡◌, ◌<◌, length, drop, IfOk, None};
+ghost use Rattle.std.specs.Prelude.{◌≡◌, ◌<◌, length, drop, IfOk};
 ghost use Rattle.std.specs.List.{All, Contains};
 ghost use Rattle.std.specs.Arc.{arc_value};
-ghost use Rattle.denial_records.specs.declared.record.Record.{Record};
-ghost use Rattle.cache_meaning.specs.Held.{chain_of, zone_of};
+ghost use Rattle.cache_meaning.specs.Held.{zone_of};
 ghost use Rattle.held_laws.specs.HeldLaws.{NoneDisplaces, IsReordered};
 ghost use Rattle.zone_chains.specs.Zone.{records_in, IsDenialOf, IsOneZone};
 ghost use Rattle.record_store.specs.Holding.{AreBut, IsTied, held_in, rest_of};
@@ -11,9 +10,10 @@ ghost use Rattle.ordered_list.specs.Order.{IsInOrder};
 ghost use Rattle.record_store.specs.Ranks.{apex_cmp};
 ghost use Rattle.record_store.specs.Dropping.{AreSets, IsZoneLeft, AreZonesLeft};
 
-use crate::holding::{Holding, Sets, Zones};
+use crate::holding::{Holding, Zones};
 use crate::ranks::zone_of;
-use crate::zones::{has_set, with_zone, without_zone, zone_at};
+use crate::sets::Sets;
+use crate::zones::{with_zone, without_zone, zone_at};
 use denial_records::Record;
 use dname::OutOfMemory;
 use std::alloc::Global;
@@ -83,12 +83,11 @@ fn zones_left(
     sets: &Sets,
     zone: Arc<ZoneRecords, Global>,
 ) -> Result<Arc<Zones, Global>, OutOfMemory>
-    requires { (item : Record) → Contains sets.now item → chain_of item ≡ None }
     ensures made { IfOk result (λ made.
         AreZonesLeft sets.now (arc_value zone) zones.now (arc_value made)) }
     ensures in_order { IfOk result (λ made. IsInOrder apex_cmp (arc_value made)) }
 {
-    if zone.is_empty() && !has_set(sets, zone.apex()) {
+    if zone.is_empty() && !sets.has_set_of(zone.apex()) {
         without_zone(alloc, zones, &zone)
     } else {
         with_zone(alloc, zones, zone)

@@ -6,7 +6,8 @@ ghost use Rattle.held_laws.specs.HeldLaws.{NoneDisplaces, EachChainHasARecord};
 ghost use Rattle.ordered_list.specs.Order.{IsInOrder};
 ghost use Rattle.record_store.specs.Ranks.{going_cmp};
 
-use crate::ranks::{ByApex, ByGoing, BySet};
+use crate::ranks::{ByApex, ByGoing};
+use crate::sets::Sets;
 use denial_records::Record;
 use dname::OutOfMemory;
 use ordered_list::OrderedList;
@@ -16,8 +17,6 @@ use std::sync::Arc;
 use zone_chains::ZoneRecords;
 
 pub(crate) type Goings = OrderedList<Record, ByGoing>;
-
-pub(crate) type Sets = OrderedList<Record, BySet>;
 
 pub(crate) type Zones = OrderedList<ZoneRecords, ByApex>;
 
@@ -48,7 +47,7 @@ impl Holding {
     {
         Ok(Holding {
             goings: Goings::empty(alloc),
-            sets: Arc::new(alloc, Sets::empty(alloc))?,
+            sets: Arc::new(alloc, Sets::empty(alloc)?)?,
             zones: Arc::new(alloc, Zones::empty(alloc))?,
         })
     }

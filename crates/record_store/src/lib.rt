@@ -1,9 +1,10 @@
 //! The records that a cache holds, found by search: the held state of `cache_meaning`, in the order of keys.
 //!
 //! Public clauses cite the definitions of `cache_meaning` and `held_laws` (`KeyOrder`). Specs of its own, which serve the inner
-//! steps, in reading order: `Marks`, `Ranks`, `Holding`, `LookUp`, `Putting`, `Dropping`.
+//! steps, in reading order: `Marks`, `Ranks`, `Counts`, `Holding`, `LookUp`, `Putting`, `Dropping`.
 #![tactic(auto)]
 
+mod counts;
 mod dropping;
 mod goings;
 mod holding;
@@ -14,6 +15,7 @@ mod putting;
 mod ranks;
 mod same_set;
 mod set_search;
+mod sets;
 mod state;
 mod store;
 mod zone_ref;

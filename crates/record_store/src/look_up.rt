@@ -5,7 +5,7 @@ ghost use Rattle.cache_meaning.specs.Zones.{zone_in, zone_for, set_at};
 ghost use Rattle.held_laws.specs.KeyOrder.{in_key_order};
 ghost use Rattle.record_store.specs.LookUp.{IsZoneIn};
 
-use crate::holding::{Holding, Sets, Zones};
+use crate::holding::{Holding, Zones};
 use crate::set_search::set_in;
 use crate::zone_ref::zone_in;
 use crate::zone_search::zone_for;
@@ -40,7 +40,6 @@ impl Holding {
     pub(crate) fn set_at(&self, zone: &Name, owner: &Name, rtype: u16) -> Option<&KeptSet>
         ensures { option_copied result ≡ set_at (in_key_order self.now) zone.now owner.now rtype }
     {
-        let sets: &Sets = &self.sets;
-        set_in(sets, zone, owner, rtype)
+        set_in(self.sets.list(), zone, owner, rtype)
     }
 }

@@ -1,6 +1,6 @@
 //! The numbers by which sets are sought.
 ghost use Rattle.std.specs.Prelude.{◌≡◌, ◌<◌, ◌≤◌, ◌*◌, ◌+◌, ◌-◌, ◌/◌, ◌^◌, length, drop, fold};
-ghost use Rattle.record_store.specs.Marks.{mixed, word_of, words_mixed, hash_of, lower, zone_part, set_number};
+ghost use Rattle.record_store.specs.Marks.{mixed, word_of, words_mixed, hash_of, lower, set_number};
 
 use dname::{LentName, Name, octets_from};
 
@@ -24,15 +24,7 @@ pub(crate) fn lent_set_number(zone: &LentName<'_>, owner: &LentName<'_>, rtype: 
     zone_number(zone.wire()) + lower(hash)
 }
 
-/// The least number that a set of the zone may have.
-pub(crate) fn first_of_zone(zone: &Name) -> u64
-    ensures value { result ≡ zone_part zone.now * 2 ^ 32 }
-    ensures room { result + 2 ^ 32 ≤ 2 ^ 64 }
-{
-    zone_number(zone.wire())
-}
-
-// The same, of the apex's wire form.
+// The least number that a set of the zone may have, by its apex's wire form.
 fn zone_number(apex: &[u8]) -> u64
     ensures value { result ≡ lower (hash_of apex.now) * 2 ^ 32 }
     ensures room { result + 2 ^ 32 ≤ 2 ^ 64 }

@@ -10,9 +10,10 @@ ghost use Rattle.record_store.specs.Putting.{IsZoneFor};
 ghost use Rattle.record_store.specs.Ranks.{set_cmp};
 
 use crate::goings::{with, without, without_gone};
-use crate::holding::{Goings, Holding, Sets};
+use crate::holding::{Goings, Holding};
 use crate::ranks::zone_of;
 use crate::same_set::same_set;
+use crate::sets::{SetList, Sets};
 use crate::zones::{with_apex, with_zone, zone_at};
 use denial_records::Record;
 use dname::OutOfMemory;
@@ -37,8 +38,8 @@ impl Holding {
         requires { chain_of (arc_value new) ≡ None }
         ensures { IfOk result (λ made. IsReordered (held_with self (arc_value new)) made) }
     {
-        let rank = self.sets.rank(&new);
-        let old = set_of(&self.sets, rank)?;
+        let rank = self.sets.list().rank(&new);
+        let old = set_of(self.sets.list(), rank)?;
         if let Some(old) = &old {
             if same_record(old, &new) {
                 // That no record displaces another is a clause of `len`.
@@ -101,7 +102,7 @@ impl Holding {
 }
 
 // The set of that rank, which has the key of a new one.
-fn set_of(sets: &Sets, rank: Rank) -> Result<Option<Arc<Record, Global>>, OutOfMemory>
+fn set_of(sets: &SetList, rank: Rank) -> Result<Option<Arc<Record, Global>>, OutOfMemory>
     requires { (new : Record) × IsRank set_cmp new sets.now rank.from rank.to }
     ensures { IfOk result (λ old. (new : Record)
         → IsRank set_cmp new sets.now rank.from rank.to

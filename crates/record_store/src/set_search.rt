@@ -8,8 +8,8 @@ ghost use Rattle.cache_meaning.specs.Zones.{as_set_at};
 ghost use Rattle.zone_chains.specs.Zone.{IsChosen};
 ghost use Rattle.record_store.specs.LookUp.{set_like};
 
-use crate::holding::Sets;
 use crate::marks::set_number;
+use crate::sets::SetList;
 use denial_records::{KeptSet, Record};
 use dname::Name;
 use page_list::Last;
@@ -17,7 +17,7 @@ use std::cmp::Ordering;
 
 /// The set of the zone at the owner name and type.
 pub(crate) fn set_in<'s>(
-    sets: &'s Sets,
+    sets: &'s SetList,
     zone: &Name,
     owner: &Name,
     rtype: u16,

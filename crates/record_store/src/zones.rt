@@ -1,19 +1,14 @@
 //! The zones of a store.
-ghost use Rattle.std.specs.Prelude.{◌≡◌, ◌⊎◌, ◌↔◌, IfOk, None, MatchOption, IsTrue};
+ghost use Rattle.std.specs.Prelude.{◌≡◌, ◌⊎◌, ◌↔◌, IfOk, MatchOption};
 ghost use Rattle.std.specs.List.{Contains};
 ghost use Rattle.std.specs.Arc.{arc_value};
-ghost use Rattle.cache_meaning.specs.Held.{chain_of, zone_of};
-ghost use Rattle.denial_records.specs.declared.record.Record.{Record};
 ghost use Rattle.ordered_list.specs.Order.{IsInOrder};
 ghost use Rattle.zone_chains.specs.Zone.{OneZone};
 ghost use Rattle.record_store.specs.Holding.{IsWithApex};
 ghost use Rattle.record_store.specs.Ranks.{apex_cmp};
 
-use crate::holding::{Sets, Zones};
-use crate::marks::first_of_zone;
-use crate::ranks::{BySet, zone_of};
+use crate::holding::Zones;
 use dname::{Name, OutOfMemory};
-use ordered_list::Marking;
 use std::alloc::Global;
 use std::sync::Arc;
 use zone_chains::ZoneRecords;
@@ -80,26 +75,4 @@ pub(crate) fn without_zone(
     ensures order { IfOk result (λ made. IsInOrder apex_cmp (arc_value made)) }
 {
     Ok(Arc::new(alloc, zones.without(alloc, zone)?)?)
-}
-
-/// Whether a set of the zone is held. Sets of the zone's number stand together, so hardly any other is read.
-pub(crate) fn has_set(sets: &Sets, apex: &Name) -> bool
-    requires sets { (item : Record) → Contains sets.now item → chain_of item ≡ None }
-    ensures yes { IsTrue result → (item : Record) × Contains sets.now item
-        × (zone_of item ≡ apex.now) }
-    ensures no { (item : Record) → Contains sets.now item → zone_of item ≡ apex.now
-        → IsTrue result }
-{
-    let first = first_of_zone(apex);
-    let from = sets.find_at(first, |item| BySet::mark(item) < first);
-    for place in from..sets.len() {
-        let zone = zone_of(sets.get(place));
-        if zone == *apex {
-            return true;
-        }
-        if first_of_zone(&zone) != first {
-            return false;
-        }
-    }
-    false
 }

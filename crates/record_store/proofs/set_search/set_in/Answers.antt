@@ -1,8 +1,7 @@
-use Rattle.std.proofs.Common.{◌≡◌, ◌+◌, ◌∙◌, sym, rules}
+use Rattle.std.proofs.Common.{◌∙◌, sym, rules}
 use Rattle.std.specs.Ordering.{is_le}
 use Rattle.std.specs.Arc.{arc_value}
 use Rattle.denial_records.specs.declared.record.Record.{Record}
-use Rattle.cache_meaning.specs.Zones.{as_set_at}
 use Rattle.ordered_list.proofs.MarkLemmas.{upto_parts}
 use Rattle.record_store.specs.LookUp.{set_like}
 use Rattle.record_store.specs.Ranks.{set_cmp, sets_total, sets_rise}

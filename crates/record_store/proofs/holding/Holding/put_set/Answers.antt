@@ -12,9 +12,9 @@ without_set-requires-clause-sets c = subst (AreSets c.self.inside.goings) (sym c
 
 pub without_set-requires-clause-old : goal.without_set-requires-clause-old
 without_set-requires-clause-old c =
-    let rank = subst (λ sets. IsRank set_cmp c.deref-2.result.now sets c.rank-rank.result.from c.rank-rank.result.to) (c.deref.ensures ∙ sym c.deref-3.ensures) c.rank-rank.ensures.rank in
+    let rank = subst (λ sets. IsRank set_cmp c.deref-2.result.now sets c.rank-rank.result.from c.rank-rank.result.to) (c.list.ensures ∙ (c.deref.ensures ∙ (sym c.deref-3.ensures ∙ sym c.list-2.ensures))) c.rank-rank.ensures.rank in
     c.in_ok-old.ensures c.deref-2.result.now rank
-    ∙ (λ i. entry_at set_cmp ((c.deref-2.ensures ∙ sym c.deref-5.ensures) i) ((c.deref-3.ensures ∙ sym c.deref-4.ensures) i))
+    ∙ (λ i. entry_at set_cmp ((c.deref-2.ensures ∙ sym c.deref-5.ensures) i) ((c.list-2.ensures ∙ (c.deref-3.ensures ∙ sym c.deref-4.ensures)) i))
 
 pub invariant_of-result : goal.invariant_of-result
 invariant_of-result c =
@@ -36,8 +36,8 @@ returns c =
 
 pub returns-then-same_record : goal.returns-then-same_record
 returns-then-same_record c =
-    let rank = subst (λ sets. IsRank set_cmp c.deref-2.result.now sets c.rank-rank.result.from c.rank-rank.result.to) (c.deref.ensures ∙ sym c.deref-3.ensures) c.rank-rank.ensures.rank in
-    let found = c.in_ok-old.ensures c.deref-2.result.now rank ∙ ap (entry_at set_cmp c.deref-2.result.now) (c.deref-3.ensures ∙ sym c.deref.ensures) in
+    let rank = subst (λ sets. IsRank set_cmp c.deref-2.result.now sets c.rank-rank.result.from c.rank-rank.result.to) (c.list.ensures ∙ (c.deref.ensures ∙ (sym c.deref-3.ensures ∙ sym c.list-2.ensures))) c.rank-rank.ensures.rank in
+    let found = c.in_ok-old.ensures c.deref-2.result.now rank ∙ ap (entry_at set_cmp c.deref-2.result.now) (c.list-2.ensures ∙ (c.deref-3.ensures ∙ sym c.deref.ensures)) in
     set_already c.self.inside.goings (arc_value c.self.inside.sets) (arc_value c.self.inside.zones) c.self.invariant (arc_value c.args.new) c.requires c.args.self c.self.view_is
     c.deref.result.now c.deref.ensures c.deref-2.result.now c.deref-2.ensures (arc_value c.in-Some.old)
     (sym found ∙ ap (option_map (λ o. arc_value o)) c.in-Some.is)

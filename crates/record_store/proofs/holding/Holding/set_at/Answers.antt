@@ -1,4 +1,4 @@
-use Rattle.std.proofs.Common.{◌≡◌, List, subst}
+use Rattle.std.proofs.Common.{◌≡◌, ◌∙◌, List, subst}
 use Rattle.std.specs.Arc.{arc_value}
 use Rattle.std.specs.Option.{option_copied}
 use Rattle.denial_records.specs.declared.record.Record.{Record}
@@ -13,4 +13,4 @@ pub returns : goal.returns
 returns c =
     subst (λ (held : Held). option_copied c.set_in.result ≡ set_at (in_key_order held) c.args.zone.now c.args.owner.now c.args.rtype) c.self.view_is
     (set_in_sets c.self.inside.goings (arc_value c.self.inside.sets) (arc_value c.self.inside.zones) c.self.invariant c.args.zone.now c.args.owner.now c.args.rtype (option_copied c.set_in.result)
-    (subst (λ (sets : List Record). IsChosen (as_set_at c.args.zone.now c.args.owner.now c.args.rtype) sets (option_copied c.set_in.result)) c.deref-sets.ensures c.set_in.ensures))
+    (subst (λ (sets : List Record). IsChosen (as_set_at c.args.zone.now c.args.owner.now c.args.rtype) sets (option_copied c.set_in.result)) (c.list.ensures ∙ c.deref.ensures) c.set_in.ensures))
