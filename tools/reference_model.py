@@ -1,6 +1,6 @@
 """What `dnsreplay replay --workers 1` answers to each frame, said once more, to be compared with the program.
 
-It is written from the RFCs and from docs/rules, and from none of the program's code; it shares no structure with it, makes
+It is written from the same rules that docs/rules states, and from none of the program's code; it shares no structure with it, makes
 each reply anew, and has no threads. A moment is in seconds since 1970, and the clock is the frame's moment alone.
 """
 
