@@ -10,20 +10,24 @@ use crate::{Entry, Found, OutOfMemory};
 use std::alloc::Global;
 use std::sync::Arc;
 
-pub(crate) trait Block<T: Drop>: Drop {
-    /// The memory that a list's pages are made in.
-    type Pool;
+/// A part of a list: a page, or a row of parts.
+pub trait Block<T: Drop>: Drop {
+    /// The memory that such blocks of a list are made in.
+    type Pool: Drop;
 
     // its entries, in order
     ghost entries: { Self → List (Marked T) };
 
-    /// Keeps a replaced page for its block of memory.
-    fn keep(pool: &Self::Pool, replaced: &Arc<Self>);
+    /// Memory for such blocks of a list, if it is shared by the versions of one.
+    fn pool(alloc: Global) -> Option<Self::Pool>;
+
+    /// Keeps a replaced block for its memory.
+    fn keep(pool: Option<&Self::Pool>, replaced: &Arc<Self>);
 
     /// The items in new blocks, as even as they go.
     fn made(
         alloc: Global,
-        pool: &Self::Pool,
+        pool: Option<&Self::Pool>,
         items: Vec<Entry<T>>,
     ) -> Result<Vec<Arc<Self>>, OutOfMemory>
         ensures { IfOk result (λ made. flat_map entries (map arc_value made.items)
@@ -78,7 +82,7 @@ pub(crate) trait Block<T: Drop>: Drop {
     fn replaced(
         &self,
         alloc: Global,
-        pool: &Self::Pool,
+        pool: Option<&Self::Pool>,
         from: usize,
         to: usize,
         items: &[Entry<T>],
@@ -93,7 +97,7 @@ pub(crate) trait Block<T: Drop>: Drop {
     fn replace(
         &mut self,
         alloc: Global,
-        pool: &Self::Pool,
+        pool: Option<&Self::Pool>,
         from: usize,
         to: usize,
         items: &[Entry<T>],
@@ -107,7 +111,7 @@ pub(crate) trait Block<T: Drop>: Drop {
     /// The entries of `left` before `from`, `items`, and the entries of `right` from `to` on, in new blocks.
     fn spliced(
         alloc: Global,
-        pool: &Self::Pool,
+        pool: Option<&Self::Pool>,
         left: &Self,
         from: usize,
         items: Vec<Entry<T>>,

@@ -14,8 +14,9 @@ use std::alloc::Global;
 use std::marker::Model;
 use std::sync::Arc;
 
+/// One to 32 blocks, whose slots have a block of memory of their own.
 #[derive(Drop)]
-pub(crate) struct Blocks<T: Drop, B: Block<T>> {
+pub struct Blocks<T: Drop, B: Block<T>> {
     row: Row<T, B>,
 }
 
@@ -43,8 +44,8 @@ impl<T: Drop, B: Block<T>> Blocks<T, B> {
 
 #[cfg(test)]
 impl<T: Drop, B: Block<T>> Blocks<T, B> {
-    pub(crate) fn slots(&self) -> &[Slot<B>] {
-        self.row.slots()
+    pub(crate) fn shares(&self) -> &[Slot<B>] {
+        self.row.shares()
     }
 }
 
@@ -69,11 +70,15 @@ impl<T: Drop, B: Block<T>> Block<T> for Blocks<T, B> {
 
     ghost entries = { λ block. block };
 
-    fn keep(_pool: &B::Pool, _replaced: &Arc<Blocks<T, B>>) {}
+    fn pool(alloc: Global) -> Option<B::Pool> {
+        B::pool(alloc)
+    }
+
+    fn keep(_pool: Option<&B::Pool>, _replaced: &Arc<Blocks<T, B>>) {}
 
     fn made(
         alloc: Global,
-        pool: &B::Pool,
+        pool: Option<&B::Pool>,
         items: Vec<Entry<T>>,
     ) -> Result<Vec<Arc<Blocks<T, B>>>, OutOfMemory>
         ensures { IfOk result (λ made. flat_map (λ block. block) (map arc_value made.items)
@@ -83,37 +88,37 @@ impl<T: Drop, B: Block<T>> Block<T> for Blocks<T, B> {
     }
 
     fn len(&self) -> usize {
-        self.row.total()
+        self.row.shelf().total()
     }
 
     fn is_small(&self) -> bool {
-        self.row.count() < MOST / 4
+        self.row.shelf().count() < MOST / 4
     }
 
     fn first(&self) -> &Entry<T> {
-        self.row.block(0).first()
+        self.row.shelf().block(0).first()
     }
 
     fn first_mark(&self) -> u64 {
-        self.row.first_mark()
+        self.row.shelf().first_mark()
     }
 
     fn page_from(&self, i: usize) -> &[Entry<T>] {
-        self.row.page_from(i)
+        self.row.shelf().page_from(i)
     }
 
     fn find<F: Fn(&T) -> bool>(&self, before: &F) -> usize {
-        self.row.find(before)
+        self.row.shelf().find(before)
     }
 
     fn find_at<F: Fn(&T) -> bool>(&self, _len: usize, mark: u64, before: &F) -> Found<'_, T> {
-        self.row.find_at(mark, before)
+        self.row.shelf().find_at(mark, before)
     }
 
     fn replaced(
         &self,
         alloc: Global,
-        pool: &B::Pool,
+        pool: Option<&B::Pool>,
         from: usize,
         to: usize,
         items: &[Entry<T>],
@@ -128,7 +133,7 @@ impl<T: Drop, B: Block<T>> Block<T> for Blocks<T, B> {
     fn replace(
         &mut self,
         alloc: Global,
-        pool: &B::Pool,
+        pool: Option<&B::Pool>,
         from: usize,
         to: usize,
         items: &[Entry<T>],
@@ -138,7 +143,7 @@ impl<T: Drop, B: Block<T>> Block<T> for Blocks<T, B> {
 
     fn spliced(
         alloc: Global,
-        pool: &B::Pool,
+        pool: Option<&B::Pool>,
         left: &Self,
         from: usize,
         items: Vec<Entry<T>>,
@@ -150,7 +155,15 @@ impl<T: Drop, B: Block<T>> Block<T> for Blocks<T, B> {
         ensures { IfOk result (λ made. flat_map (λ block. block) (map arc_value made.items)
             ≡ take from left.now ++ items.items ++ drop to right.now) }
     {
-        let blocks = spliced_row(alloc, pool, &left.row, from, items, &right.row, to)?;
+        let blocks = spliced_row(
+            alloc,
+            pool,
+            &left.row.shelf(),
+            from,
+            items,
+            &right.row.shelf(),
+            to,
+        )?;
         blocks_of(alloc, blocks, Growth::after(to == right.len()))
     }
 }

@@ -5,61 +5,52 @@ ghost use Rattle.std.specs.List.Sorted.{IsPartitionedBy};
 ghost use Rattle.page_list.specs.Marks.{Marked, mark_of, PartsAtMark};
 ghost use Rattle.page_list.specs.Search.{IsLastOf, IsTestOf};
 
-use crate::blocks::Blocks;
 use crate::entries::copies_of;
-use crate::page::{Page, PagePool};
 use crate::row::Row;
 use crate::splice::spliced_row;
-use crate::{Block, Entry, Found, OutOfMemory, PageEntries};
+use crate::{Block, Entry, Found, OutOfMemory};
 use std::alloc::Global;
 use std::marker::Model;
+use std::sync::Arc;
 
 /// From so many entries on a list has memory of its own for its pages.
 const LONG: usize = 1_024;
 
-type Shelf<T, E> = Blocks<T, Page<T, E>>;
-
-type Bookcase<T, E> = Blocks<T, Shelf<T, E>>;
-
 /// Entries in shared pages, seen as the list of them.
 #[derive(Drop)]
-pub(crate) struct EntryList<T: Drop, E: PageEntries<T>> {
-    pub(crate) bookcases: Row<T, Bookcase<T, E>>,
-    pub(crate) pool: PagePool<T, E>,
+pub(crate) struct EntryList<T: Drop, K: Block<T>> {
+    pub(crate) bookcases: Row<T, K>,
+    pub(crate) pool: Option<Arc<K::Pool>>,
 }
 
-impl<T: Drop, E: PageEntries<T>> Model for EntryList<T, E> {
+impl<T: Drop, K: Block<T>> Model for EntryList<T, K> {
     ghost use Rattle.std.specs.Prelude.{List};
     ghost use Rattle.std.specs.List.{flat_map};
     ghost use Rattle.page_list.specs.Marks.{Marked};
 
     ghost Value = { List (Marked T) };
 
-    ghost view = { λ l. flat_map (λ bookcase. bookcase) l.bookcases };
+    ghost view = { λ l. flat_map K.entries l.bookcases };
 }
 
-impl<T: Drop, E: PageEntries<T>> EntryList<T, E> {
-    pub(crate) fn empty(alloc: Global) -> EntryList<T, E>
+impl<T: Drop, K: Block<T>> EntryList<T, K> {
+    pub(crate) fn empty(alloc: Global) -> EntryList<T, K>
         ensures { result ≡ [] }
     {
         EntryList {
             bookcases: Row::empty(alloc),
-            pool: PagePool::empty(),
+            pool: None,
         }
     }
 
     // The list of these pages, by the version before it.
-    fn of(
-        alloc: Global,
-        bookcases: Row<T, Bookcase<T, E>>,
-        pool: &PagePool<T, E>,
-    ) -> EntryList<T, E>
-        ensures { result ≡ flat_map (λ bookcase. bookcase) bookcases }
+    fn of(alloc: Global, bookcases: Row<T, K>, pool: &Option<Arc<K::Pool>>) -> EntryList<T, K>
+        ensures { result ≡ flat_map K.entries bookcases }
     {
-        let pool = if E::WITHIN.is_some() && bookcases.total() >= LONG {
-            pool.next(alloc)
+        let pool = if bookcases.shelf().total() >= LONG {
+            next_pool::<T, K>(alloc, pool)
         } else {
-            PagePool::empty()
+            None
         };
         EntryList { bookcases, pool }
     }
@@ -67,7 +58,7 @@ impl<T: Drop, E: PageEntries<T>> EntryList<T, E> {
     pub(crate) fn len(&self) -> usize
         ensures { result ≡ length self.now }
     {
-        self.bookcases.total()
+        self.bookcases.shelf().total()
     }
 
     pub(crate) fn get(&self, i: usize) -> &Entry<T>
@@ -83,7 +74,7 @@ impl<T: Drop, E: PageEntries<T>> EntryList<T, E> {
         ensures some { 0 < length result.now }
         ensures entries { result.now ≡ take (length result.now) (drop i self.now) }
     {
-        self.bookcases.page_from(i)
+        self.bookcases.shelf().page_from(i)
     }
 
     /// How many entries `before` holds of, which are the first ones.
@@ -93,7 +84,7 @@ impl<T: Drop, E: PageEntries<T>> EntryList<T, E> {
         ensures exact { (p : Marked T → Bool) → IsTestOf F.Fn before.now p
             → IsPartitionedBy p self.now → result ≡ prefix_len p self.now }
     {
-        self.bookcases.find(before)
+        self.bookcases.shelf().find(before)
     }
 
     /// The same, asked only of entries with the mark, and the last of those entries where it was met.
@@ -104,7 +95,7 @@ impl<T: Drop, E: PageEntries<T>> EntryList<T, E> {
             → PartsAtMark mark_of mark p self.now → result.count ≡ prefix_len p self.now }
         ensures last { IfSome result.last (λ last. IsLastOf self.now result.count last.now) }
     {
-        self.bookcases.find_at(mark, before)
+        self.bookcases.shelf().find_at(mark, before)
     }
 
     /// The last of the entries that `find_at` counts, and its place.
@@ -138,21 +129,27 @@ impl<T: Drop, E: PageEntries<T>> EntryList<T, E> {
         from: usize,
         to: usize,
         items: Vec<Entry<T>>,
-    ) -> Result<EntryList<T, E>, OutOfMemory>
+    ) -> Result<EntryList<T, K>, OutOfMemory>
         requires order { from ≤ to }
         requires in_range { to ≤ length self.now }
         ensures { IfOk result
             (λ made. made ≡ take from self.now ++ items.items ++ drop to self.now) }
     {
         let old = &self.bookcases;
-        if let Some(bookcases) = old.replaced(alloc, &self.pool, from, to, items.as_slice()) {
+        if let Some(bookcases) = old.replaced(
+            alloc,
+            lent::<T, K>(&self.pool),
+            from,
+            to,
+            items.as_slice(),
+        ) {
             return Ok(EntryList::of(alloc, bookcases, &self.pool));
         }
         respliced(alloc, &self.pool, old, from, to, items)
     }
 
     /// Another owner of its pages.
-    pub(crate) fn try_clone(&self, alloc: Global) -> Result<EntryList<T, E>, OutOfMemory>
+    pub(crate) fn try_clone(&self, alloc: Global) -> Result<EntryList<T, K>, OutOfMemory>
         ensures { IfOk result (λ clone. clone ≡ self.now) }
     {
         let bookcases = self.bookcases.try_clone(alloc)?;
@@ -167,7 +164,7 @@ impl<T: Drop, E: PageEntries<T>> EntryList<T, E> {
         from: usize,
         to: usize,
         items: &[Entry<T>],
-    ) -> Result<EntryList<T, E>, OutOfMemory>
+    ) -> Result<EntryList<T, K>, OutOfMemory>
         requires order { from ≤ to }
         requires in_range { to ≤ length self }
         ensures { IfOk result
@@ -177,32 +174,51 @@ impl<T: Drop, E: PageEntries<T>> EntryList<T, E> {
             mut bookcases,
             pool,
         } = self;
-        if bookcases.replace(alloc, &pool, from, to, items) {
+        if bookcases.replace(alloc, lent::<T, K>(&pool), from, to, items) {
             return Ok(EntryList { bookcases, pool });
         }
         respliced(alloc, &pool, &bookcases, from, to, copies_of(alloc, items)?)
     }
 }
 
-// The list of `old` with `items` in place of the entries `from..to`, in new pages there.
-fn respliced<T: Drop, E: PageEntries<T>>(
+// The memory of the next version: that of this one, or its own. For want of memory it has none.
+fn next_pool<T: Drop, K: Block<T>>(
     alloc: Global,
-    pool: &PagePool<T, E>,
-    old: &Row<T, Bookcase<T, E>>,
+    pool: &Option<Arc<K::Pool>>,
+) -> Option<Arc<K::Pool>> {
+    match pool {
+        Some(pool) => Arc::try_clone(pool).ok(),
+        None => Arc::new(alloc, K::pool(alloc)?).ok(),
+    }
+}
+
+fn lent<T: Drop, K: Block<T>>(pool: &Option<Arc<K::Pool>>) -> Option<&K::Pool> {
+    match pool {
+        Some(pool) => Some(pool),
+        None => None,
+    }
+}
+
+// The list of `old` with `items` in place of the entries `from..to`, in new pages there.
+fn respliced<T: Drop, K: Block<T>>(
+    alloc: Global,
+    pool: &Option<Arc<K::Pool>>,
+    old: &Row<T, K>,
     from: usize,
     to: usize,
     items: Vec<Entry<T>>,
-) -> Result<EntryList<T, E>, OutOfMemory>
+) -> Result<EntryList<T, K>, OutOfMemory>
     requires order { from ≤ to }
-    requires in_range { to ≤ length (flat_map (λ bookcase. bookcase) old.now) }
+    requires in_range { to ≤ length (flat_map K.entries old.now) }
     ensures { IfOk result (λ made. made
-        ≡ take from (flat_map (λ bookcase. bookcase) old.now) ++ items.items
-        ++ drop to (flat_map (λ bookcase. bookcase) old.now)) }
+        ≡ take from (flat_map K.entries old.now) ++ items.items
+        ++ drop to (flat_map K.entries old.now)) }
 {
-    let made = if old.count() == 0 {
-        Bookcase::made(alloc, pool, items)?
+    let made = if old.shelf().count() == 0 {
+        K::made(alloc, lent::<T, K>(pool), items)?
     } else {
-        spliced_row(alloc, pool, old, from, items, old, to)?
+        let shelf = old.shelf();
+        spliced_row(alloc, lent::<T, K>(pool), &shelf, from, items, &shelf, to)?
     };
     Ok(EntryList::of(alloc, Row::of(alloc, made)?, pool))
 }

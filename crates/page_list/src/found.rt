@@ -4,7 +4,7 @@ use std::sync::Arc;
 
 /// How many entries come before, and the last of them where it was met on the way.
 #[derive(Drop)]
-pub(crate) struct Found<'a, T> {
+pub struct Found<'a, T> {
     pub(crate) count: usize,
     pub(crate) last: Option<&'a Entry<T>>,
 }

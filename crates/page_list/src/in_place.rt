@@ -15,7 +15,7 @@ use std::sync::Arc;
 pub(crate) fn replace_block<T: Drop, B: Block<T>>(
     share: &mut Arc<B>,
     alloc: Global,
-    pool: &B::Pool,
+    pool: Option<&B::Pool>,
     from: usize,
     to: usize,
     items: &[Entry<T>],
@@ -62,7 +62,7 @@ fn shift_from<B: Drop>(slots: &mut Vec<Slot<B>>, from: usize, old: usize, new: u
 pub(crate) fn replace_at<T: Drop, B: Block<T>>(
     slots: &mut Vec<Slot<B>>,
     alloc: Global,
-    pool: &B::Pool,
+    pool: Option<&B::Pool>,
     p: usize,
     x: usize,
     y: usize,

@@ -5,28 +5,28 @@ ghost use Rattle.std.specs.Arc.{arc_value};
 ghost use Rattle.page_list.specs.Marks.{value_of};
 
 use crate::entry_list::EntryList;
-use crate::{EntriesApart, Entry, PageEntries};
+use crate::{Apart, Entry, Form};
 use std::marker::Model;
 use std::sync::Arc;
 
 /// Lends the entries of a list in order, seen as the list of those that are still to come.
 #[derive(Drop)]
-pub struct Iter<'a, T: Drop, E: PageEntries<T> = EntriesApart<T>> {
-    list: &'a EntryList<T, E>,
+pub struct Iter<'a, T: Drop, F: Form<T> = Apart> {
+    list: &'a EntryList<T, F::Top>,
     // what is left of the page that is being read
     page: &'a [Entry<T>],
     // how many entries of the list there are up to the end of that page
     end: usize,
 }
 
-impl<'a, T: Drop, E: PageEntries<T>> Model for Iter<'a, T, E> {
+impl<'a, T: Drop, F: Form<T>> Model for Iter<'a, T, F> {
     ghost Value = { List T };
 
     ghost view = { λ it. map value_of (it.page.now ++ drop it.end it.list.now) };
 }
 
-impl<'a, T: Drop, E: PageEntries<T>> Iter<'a, T, E> {
-    pub(crate) fn over(list: &'a EntryList<T, E>) -> Iter<'a, T, E>
+impl<'a, T: Drop, F: Form<T>> Iter<'a, T, F> {
+    pub(crate) fn over(list: &'a EntryList<T, F::Top>) -> Iter<'a, T, F>
         ensures { result ≡ map value_of list.now }
     {
         Iter {
@@ -37,7 +37,7 @@ impl<'a, T: Drop, E: PageEntries<T>> Iter<'a, T, E> {
     }
 }
 
-impl<'a, T: Drop, E: PageEntries<T>> Iterator for Iter<'a, T, E> {
+impl<'a, T: Drop, F: Form<T>> Iterator for Iter<'a, T, F> {
     type Item = &'a Arc<T>;
 
     ghost next_gives = { YieldsFirstBy (λ entry. arc_value entry.now) (λ it. it) };
@@ -55,5 +55,10 @@ impl<'a, T: Drop, E: PageEntries<T>> Iterator for Iter<'a, T, E> {
         let (entry, rest) = self.page.split_first()?;
         self.page = rest;
         Some(entry.share())
+    }
+
+    /// At least what is left of the page that is being read.
+    fn size_hint(&self) -> (usize, Option<usize>) {
+        (self.page.len(), None)
     }
 }

@@ -7,7 +7,7 @@ ghost use Rattle.std.specs.Arc.{arc_value};
 ghost use Rattle.page_list.specs.Marks.{marked_by, PartsAtMark};
 
 use crate::entry_list::EntryList;
-use crate::{EntriesApart, Entry, Iter, Last, Marking, NoMarks, OutOfMemory, PageEntries};
+use crate::{Apart, Entry, Form, Iter, Last, Marking, NoMarks, OutOfMemory};
 use std::alloc::Global;
 use std::marker::{Model, PhantomData};
 use std::slice::from_ref;
@@ -16,15 +16,15 @@ use std::sync::Arc;
 /// A list that stays, seen as the list of its entries: a change makes another list, which shares with it all that
 /// it does not touch. It keeps the mark of each entry beside it for its searches.
 #[derive(Drop)]
-pub struct MarkedList<T: Drop, M: Marking<T>, E: PageEntries<T> = EntriesApart<T>> {
-    entries: EntryList<T, E>,
+pub struct MarkedList<T: Drop, M: Marking<T>, F: Form<T> = Apart> {
+    entries: EntryList<T, F::Top>,
     by: PhantomData<M>,
 }
 
 /// A list that stays, without marks.
 pub type PageList<T> = MarkedList<T, NoMarks>;
 
-impl<T: Drop, M: Marking<T>, E: PageEntries<T>> Model for MarkedList<T, M, E> {
+impl<T: Drop, M: Marking<T>, F: Form<T>> Model for MarkedList<T, M, F> {
     ghost use Rattle.std.specs.Prelude.{◌≡◌, List, map};
     ghost use Rattle.page_list.specs.Marks.{marked_by, value_of};
 
@@ -35,9 +35,9 @@ impl<T: Drop, M: Marking<T>, E: PageEntries<T>> Model for MarkedList<T, M, E> {
     ghost invariant = { λ l. l.entries ≡ map (marked_by M.mark M.note) (map value_of l.entries) };
 }
 
-impl<T: Drop, M: Marking<T>, E: PageEntries<T>> MarkedList<T, M, E> {
+impl<T: Drop, M: Marking<T>, F: Form<T>> MarkedList<T, M, F> {
     /// A list with no entry, which takes no memory.
-    pub fn empty(alloc: Global) -> MarkedList<T, M, E>
+    pub fn empty(alloc: Global) -> MarkedList<T, M, F>
         ensures { result ≡ [] }
     {
         MarkedList {
@@ -66,18 +66,18 @@ impl<T: Drop, M: Marking<T>, E: PageEntries<T>> MarkedList<T, M, E> {
     }
 
     /// The entries in order, one after another: the whole list at a cost linear in its length.
-    pub fn iter(&self) -> Iter<'_, T, E>
+    pub fn iter(&self) -> Iter<'_, T, F>
         ensures { result ≡ self.now }
     {
         Iter::over(&self.entries)
     }
 
     /// How many entries `before` holds of, where these are the first ones: about 20 calls at 131,072 entries.
-    pub fn find<F: Fn(&T) -> bool>(&self, before: F) -> usize
-        requires { F.IsAlwaysCallable before }
+    pub fn find<C: Fn(&T) -> bool>(&self, before: C) -> usize
+        requires { C.IsAlwaysCallable before }
         ensures in_range { result ≤ length self.now }
         ensures exact { (p : T → Bool)
-            → ((x : T) (r : Bool) → FnReturnsAt F.Fn before x r → r ≡ p x)
+            → ((x : T) (r : Bool) → FnReturnsAt C.Fn before x r → r ≡ p x)
             → IsPartitionedBy p self.now → result ≡ prefix_len p self.now }
     {
         self.entries.find(&before)
@@ -85,26 +85,26 @@ impl<T: Drop, M: Marking<T>, E: PageEntries<T>> MarkedList<T, M, E> {
 
     /// How many entries `before` holds of, where these are the first ones. It is asked only of entries with the mark
     /// itself: those of a lesser mark come before, those of a greater one don't.
-    pub fn find_at<F: Fn(&T) -> bool>(&self, mark: u64, before: F) -> usize
-        requires { F.IsAlwaysCallable before }
+    pub fn find_at<C: Fn(&T) -> bool>(&self, mark: u64, before: C) -> usize
+        requires { C.IsAlwaysCallable before }
         ensures in_range { result ≤ length self.now }
         ensures exact { (p : T → Bool)
-            → ((x : T) (r : Bool) → FnReturnsAt F.Fn before x r → r ≡ p x)
+            → ((x : T) (r : Bool) → FnReturnsAt C.Fn before x r → r ≡ p x)
             → PartsAtMark M.mark mark p self.now → result ≡ prefix_len p self.now }
     {
         self.entries.find_at(mark, &before).count
     }
 
     /// The last of the entries that `find_at` counts, found with them. None where there are none.
-    pub fn last_at<F: Fn(&T) -> bool>(&self, mark: u64, before: F) -> Option<Last<'_, T>>
-        requires { F.IsAlwaysCallable before }
+    pub fn last_at<C: Fn(&T) -> bool>(&self, mark: u64, before: C) -> Option<Last<'_, T>>
+        requires { C.IsAlwaysCallable before }
         ensures in_range { IfSome result (λ last. last.place < length self.now) }
         ensures value { IfSome result (λ last. arc_value last.share.now
             ≡ slice_index_or self.now last.place (arc_value last.share.now)) }
         ensures mark { IfSome result (λ last. last.mark ≡ M.mark (arc_value last.share.now)) }
         ensures note { IfSome result (λ last. last.note ≡ M.note (arc_value last.share.now)) }
         ensures exact { (p : T → Bool)
-            → ((x : T) (r : Bool) → FnReturnsAt F.Fn before x r → r ≡ p x)
+            → ((x : T) (r : Bool) → FnReturnsAt C.Fn before x r → r ≡ p x)
             → PartsAtMark M.mark mark p self.now → MatchOption result (prefix_len p self.now ≡ 0)
             (λ last. last.place + 1 ≡ prefix_len p self.now) }
     {
@@ -127,7 +127,7 @@ impl<T: Drop, M: Marking<T>, E: PageEntries<T>> MarkedList<T, M, E> {
         from: usize,
         to: usize,
         items: Vec<Arc<T>>,
-    ) -> Result<MarkedList<T, M, E>, OutOfMemory>
+    ) -> Result<MarkedList<T, M, F>, OutOfMemory>
         requires order { from ≤ to }
         requires in_range { to ≤ length self.now }
         ensures { IfOk result (λ made.
@@ -142,7 +142,7 @@ impl<T: Drop, M: Marking<T>, E: PageEntries<T>> MarkedList<T, M, E> {
     }
 
     /// Another owner of its entries: a list that may be changed where it lies, while this one stays.
-    pub fn try_clone(&self, alloc: Global) -> Result<MarkedList<T, M, E>, OutOfMemory>
+    pub fn try_clone(&self, alloc: Global) -> Result<MarkedList<T, M, F>, OutOfMemory>
         ensures { IfOk result (λ clone. clone ≡ self.now) }
     {
         let entries = self.entries.try_clone(alloc)?;
@@ -159,7 +159,7 @@ impl<T: Drop, M: Marking<T>, E: PageEntries<T>> MarkedList<T, M, E> {
         from: usize,
         to: usize,
         item: Arc<T>,
-    ) -> Result<MarkedList<T, M, E>, OutOfMemory>
+    ) -> Result<MarkedList<T, M, F>, OutOfMemory>
         requires order { from ≤ to }
         requires in_range { to ≤ length self.now }
         ensures { IfOk result (λ made.
@@ -174,7 +174,7 @@ impl<T: Drop, M: Marking<T>, E: PageEntries<T>> MarkedList<T, M, E> {
         alloc: Global,
         from: usize,
         to: usize,
-    ) -> Result<MarkedList<T, M, E>, OutOfMemory>
+    ) -> Result<MarkedList<T, M, F>, OutOfMemory>
         requires order { from ≤ to }
         requires in_range { to ≤ length self.now }
         ensures { IfOk result (λ made. made ≡ take from self.now ++ drop to self.now) }
@@ -189,7 +189,7 @@ impl<T: Drop, M: Marking<T>, E: PageEntries<T>> MarkedList<T, M, E> {
         from: usize,
         to: usize,
         item: Arc<T>,
-    ) -> Result<MarkedList<T, M, E>, OutOfMemory>
+    ) -> Result<MarkedList<T, M, F>, OutOfMemory>
         requires order { from ≤ to }
         requires in_range { to ≤ length self }
         ensures { IfOk result
@@ -209,7 +209,7 @@ impl<T: Drop, M: Marking<T>, E: PageEntries<T>> MarkedList<T, M, E> {
         alloc: Global,
         from: usize,
         to: usize,
-    ) -> Result<MarkedList<T, M, E>, OutOfMemory>
+    ) -> Result<MarkedList<T, M, F>, OutOfMemory>
         requires order { from ≤ to }
         requires in_range { to ≤ length self }
         ensures { IfOk result (λ made. made ≡ take from self ++ drop to self) }
@@ -238,14 +238,19 @@ fn marked_entries<T: Drop, M: Marking<T>>(
     Ok(made)
 }
 
-impl<'a, T: Drop, M: Marking<T>, E: PageEntries<T>> IntoIterator for &'a MarkedList<T, M, E> {
+impl<'a, T: Drop, M: Marking<T>, F: Form<T>> IntoIterator for &'a MarkedList<T, M, F>
+where
+    F::Top: 'a,
+{
     type Item = &'a Arc<T>;
 
-    type IntoIter = Iter<'a, T, E>;
+    type IntoIter = Iter<'a, T, F>;
 
     ghost into_iter_gives = { λ list it. it ≡ list.now };
 
-    fn into_iter(self) -> Iter<'a, T, E> {
+    fn into_iter(self) -> Iter<'a, T, F>
+        ensures { result ≡ self.now }
+    {
         self.iter()
     }
 }

@@ -17,8 +17,9 @@ use std::sync::Arc;
 /// Of so many entries one mark is read at first.
 const STRIDE: usize = 2;
 
+/// A page of a list, seen as its entries.
 #[derive(Drop)]
-pub(crate) struct Page<T: Drop, E: PageEntries<T>> {
+pub struct Page<T: Drop, E: PageEntries<T>> {
     entries: E,
     of: PhantomData<T>,
 }
@@ -38,14 +39,14 @@ pub(crate) type PagePool<T, E> = BlockPool<Page<T, E>>;
 // The entries in a page.
 fn placed<T: Drop, E: PageEntries<T>>(
     alloc: Global,
-    pool: &PagePool<T, E>,
+    pool: Option<&PagePool<T, E>>,
     entries: E,
 ) -> Result<Arc<Page<T, E>>, OutOfMemory>
     ensures { IfOk result (λ made. arc_value made ≡ E.values entries) }
 {
     let page = Page::of(entries);
-    match E::WITHIN {
-        Some(size) => pool.placed(alloc, size, page),
+    match pool {
+        Some(pool) => pool.placed(alloc, page),
         None => Ok(Arc::new(alloc, page)?),
     }
 }
@@ -53,7 +54,7 @@ fn placed<T: Drop, E: PageEntries<T>>(
 // The entries in new pages.
 fn pages_of<T: Drop, E: PageEntries<T>>(
     alloc: Global,
-    pool: &PagePool<T, E>,
+    pool: Option<&PagePool<T, E>>,
     entries: Vec<Entry<T>>,
     growth: Growth,
 ) -> Result<Vec<Arc<Page<T, E>>>, OutOfMemory>
@@ -141,13 +142,22 @@ impl<T: Drop, E: PageEntries<T>> Block<T> for Page<T, E> {
 
     ghost entries = { λ page. page };
 
-    fn keep(pool: &PagePool<T, E>, replaced: &Arc<Page<T, E>>) {
-        pool.keep(replaced);
+    fn pool(alloc: Global) -> Option<PagePool<T, E>> {
+        match E::WITHIN {
+            Some(size) => Some(BlockPool::new(alloc, size)),
+            None => None,
+        }
+    }
+
+    fn keep(pool: Option<&PagePool<T, E>>, replaced: &Arc<Page<T, E>>) {
+        if let Some(pool) = pool {
+            pool.keep(replaced);
+        }
     }
 
     fn made(
         alloc: Global,
-        pool: &PagePool<T, E>,
+        pool: Option<&PagePool<T, E>>,
         items: Vec<Entry<T>>,
     ) -> Result<Vec<Arc<Page<T, E>>>, OutOfMemory>
         ensures { IfOk result (λ made. flat_map (λ page. page) (map arc_value made.items)
@@ -211,7 +221,7 @@ impl<T: Drop, E: PageEntries<T>> Block<T> for Page<T, E> {
     fn replaced(
         &self,
         alloc: Global,
-        pool: &PagePool<T, E>,
+        pool: Option<&PagePool<T, E>>,
         from: usize,
         to: usize,
         items: &[Entry<T>],
@@ -223,7 +233,7 @@ impl<T: Drop, E: PageEntries<T>> Block<T> for Page<T, E> {
     fn replace(
         &mut self,
         alloc: Global,
-        _pool: &PagePool<T, E>,
+        _pool: Option<&PagePool<T, E>>,
         from: usize,
         to: usize,
         items: &[Entry<T>],
@@ -233,7 +243,7 @@ impl<T: Drop, E: PageEntries<T>> Block<T> for Page<T, E> {
 
     fn spliced(
         alloc: Global,
-        pool: &PagePool<T, E>,
+        pool: Option<&PagePool<T, E>>,
         left: &Self,
         from: usize,
         items: Vec<Entry<T>>,

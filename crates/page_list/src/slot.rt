@@ -59,7 +59,7 @@ impl<B: Drop> Slot<B> {
     pub(crate) fn replace<T: Drop>(
         &mut self,
         alloc: Global,
-        pool: &B::Pool,
+        pool: Option<&B::Pool>,
         start: usize,
         x: usize,
         y: usize,

@@ -4,14 +4,14 @@ ghost use Rattle.std.specs.List.{flat_map};
 ghost use Rattle.std.specs.Arc.{arc_value};
 ghost use Rattle.page_list.specs.Rows.{IsSeam};
 
-use crate::row::Row;
 use crate::share::shared_round;
+use crate::shelf::Shelf;
 use crate::{Block, Entry, OutOfMemory};
 use std::alloc::Global;
 use std::sync::Arc;
 
 // The block before whose end, and the place in it before which, the first `at` entries end.
-fn seam<T: Drop, B: Block<T>>(row: &Row<T, B>, at: usize) -> (usize, usize)
+fn seam<T: Drop, B: Block<T>>(row: &Shelf<'_, T, B>, at: usize) -> (usize, usize)
     requires some { 0 < length row.now }
     requires in_range { at ≤ length (flat_map B.entries row.now) }
     ensures { IsSeam B.entries row.now at result.0 result.1 }
@@ -24,7 +24,7 @@ fn seam<T: Drop, B: Block<T>>(row: &Row<T, B>, at: usize) -> (usize, usize)
 }
 
 // The same, but at the start of the block that has the entry `at` where `inner` says that there is one.
-fn first_seam<T: Drop, B: Block<T>>(row: &Row<T, B>, at: usize, inner: bool) -> (usize, usize)
+fn first_seam<T: Drop, B: Block<T>>(row: &Shelf<'_, T, B>, at: usize, inner: bool) -> (usize, usize)
     requires some { 0 < length row.now }
     requires in_range { at ≤ length (flat_map B.entries row.now) }
     requires inner { IsTrue inner → at < length (flat_map B.entries row.now) }
@@ -37,11 +37,11 @@ fn first_seam<T: Drop, B: Block<T>>(row: &Row<T, B>, at: usize, inner: bool) -> 
 // how many of `left` stand before them, and the last block of `right` that they replace.
 fn joined<T: Drop, B: Block<T>>(
     alloc: Global,
-    pool: &B::Pool,
-    left: &Row<T, B>,
+    pool: Option<&B::Pool>,
+    left: &Shelf<'_, T, B>,
     p: usize,
     made: Vec<Arc<B>>,
-    right: &Row<T, B>,
+    right: &Shelf<'_, T, B>,
     q: usize,
 ) -> Result<(Vec<Arc<B>>, usize, usize), OutOfMemory>
     requires left_in { p < length left.now }
@@ -69,7 +69,7 @@ fn joined<T: Drop, B: Block<T>>(
 // A block and the one block that `made` has, in new blocks.
 fn with_left<T: Drop, B: Block<T>>(
     alloc: Global,
-    pool: &B::Pool,
+    pool: Option<&B::Pool>,
     block: &B,
     made: &[Arc<B>],
 ) -> Result<Vec<Arc<B>>, OutOfMemory>
@@ -91,7 +91,7 @@ fn with_left<T: Drop, B: Block<T>>(
 // The one block that `made` has and a block, in new blocks.
 fn with_right<T: Drop, B: Block<T>>(
     alloc: Global,
-    pool: &B::Pool,
+    pool: Option<&B::Pool>,
     made: &[Arc<B>],
     block: &B,
 ) -> Result<Vec<Arc<B>>, OutOfMemory>
@@ -128,11 +128,11 @@ fn is_clean_cut<T: Drop, B: Block<T>>(
 /// The entries of `left` before `from`, `items`, and the entries of `right` from `to` on.
 pub(crate) fn spliced_row<T: Drop, B: Block<T>>(
     alloc: Global,
-    pool: &B::Pool,
-    left: &Row<T, B>,
+    pool: Option<&B::Pool>,
+    left: &Shelf<'_, T, B>,
     from: usize,
     items: Vec<Entry<T>>,
-    right: &Row<T, B>,
+    right: &Shelf<'_, T, B>,
     to: usize,
 ) -> Result<Vec<Arc<B>>, OutOfMemory>
     requires left_some { 0 < length left.now }

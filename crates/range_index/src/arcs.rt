@@ -11,7 +11,7 @@ use crate::kept::kept_shares;
 use crate::ring_span::SpanList;
 use crate::search::{OneSpan, candidate, place_in, span_has, starting_at};
 use crate::{Met, OutOfMemory, Place, RingSpan};
-use page_list::{EntriesWithin, Iter};
+use page_list::{Iter, Within};
 use std::alloc::Global;
 use std::marker::Model;
 use std::sync::Arc;
@@ -61,7 +61,7 @@ impl<T: Drop, R: RingSpan<T>> Arcs<T, R> {
     }
 
     /// The spans one after another, at a cost linear in their number.
-    pub fn iter(&self) -> Iter<'_, T, EntriesWithin<T>>
+    pub fn iter(&self) -> Iter<'_, T, Within>
         ensures { result ≡ self.now }
     {
         self.list.iter()

@@ -2,7 +2,7 @@
 ghost use Rattle.std.specs.Prelude.{◌≡◌, ◌<◌, ℕ};
 ghost use Rattle.std.specs.declared.cmp.Ordering.TheVariants.{Less};
 
-use page_list::{EntriesWithin, MarkedList, Marking};
+use page_list::{MarkedList, Marking, Within};
 use std::cmp::Ordering;
 use std::marker::PhantomData;
 
@@ -52,7 +52,7 @@ pub trait RingSpan<T> {
 }
 
 /// Spans in order of start, which lie within their pages: they are sought far oftener than they change.
-pub(crate) type SpanList<T, R> = MarkedList<T, ByStart<R>, EntriesWithin<T>>;
+pub(crate) type SpanList<T, R> = MarkedList<T, ByStart<R>, Within>;
 
 /// The mark of a span: that of its start. Its note is the mark of its end.
 #[derive(Drop)]

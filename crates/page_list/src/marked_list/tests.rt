@@ -3,13 +3,16 @@ ghost use Rattle.std.specs.List.{prefix_len};
 ghost use Rattle.std.specs.List.Sorted.{IsPartitionedBy};
 
 use super::*;
-use crate::short::MOST;
-use crate::{Block, EntriesWithin};
+use crate::Within;
 use std::cell::Cell;
 use std::test::Fail;
 
-// Numbers without marks, whose pages keep them in one way or the other.
-type Numbers<E> = MarkedList<u64, NoMarks, E>;
+mod look;
+
+use look::{Walked, look};
+
+// Numbers without marks, which lie in memory in one way or the other.
+type Numbers<F> = MarkedList<u64, NoMarks, F>;
 
 fn next(seed: &mut u64) -> u64 {
     *seed = seed
@@ -27,8 +30,8 @@ fn numbers(alloc: Global, from: u64, to: u64) -> Result<Vec<Arc<u64>>, OutOfMemo
     Ok(items)
 }
 
-fn list_of<E: PageEntries<u64>>(alloc: Global, count: u64) -> Result<Numbers<E>, OutOfMemory> {
-    let empty: Numbers<E> = MarkedList::empty(alloc);
+fn list_of<F: Walked>(alloc: Global, count: u64) -> Result<Numbers<F>, OutOfMemory> {
+    let empty: Numbers<F> = MarkedList::empty(alloc);
     empty.with_replaced(alloc, 0, 0, numbers(alloc, 0, count)?)
 }
 
@@ -60,7 +63,7 @@ fn replace(
 }
 
 // By `get` and by the iterator.
-fn same<E: PageEntries<u64>>(list: &Numbers<E>, plain: &[u64]) -> bool {
+fn same<F: Walked>(list: &Numbers<F>, plain: &[u64]) -> bool {
     if list.len() != plain.len() {
         return false;
     }
@@ -78,51 +81,6 @@ fn same<E: PageEntries<u64>>(list: &Numbers<E>, plain: &[u64]) -> bool {
     rest.next().is_none()
 }
 
-// How many owners a list has that no other list shares: those in its blocks that have one owner.
-fn own_owners<E: PageEntries<u64>>(list: &Numbers<E>) -> usize {
-    let mut count = list.entries.bookcases.count();
-    for bookcase in list.entries.bookcases.slots() {
-        if Arc::strong_count(bookcase.share()) == 1 {
-            count = count.saturating_add(bookcase.share().slots().len());
-            for shelf in bookcase.share().slots() {
-                if Arc::strong_count(shelf.share()) == 1 {
-                    count = count.saturating_add(shelf.share().slots().len());
-                    for page in shelf.share().slots() {
-                        if Arc::strong_count(page.share()) == 1 {
-                            count = count.saturating_add(page.share().len());
-                        }
-                    }
-                }
-            }
-        }
-    }
-    count
-}
-
-// Each page of several, each shelf and each bookcase has at least a quarter of what it may have.
-fn is_filled<E: PageEntries<u64>>(list: &Numbers<E>) -> bool {
-    let mut pages = 0usize;
-    let mut shelves = 0usize;
-    let mut few = E::most();
-    let mut few_pages = MOST;
-    let mut few_shelves = MOST;
-    for bookcase in list.entries.bookcases.slots() {
-        few_shelves = few_shelves.min(bookcase.share().slots().len());
-        for shelf in bookcase.share().slots() {
-            shelves = shelves.saturating_add(1);
-            few_pages = few_pages.min(shelf.share().slots().len());
-            for page in shelf.share().slots() {
-                pages = pages.saturating_add(1);
-                few = few.min(page.share().len());
-            }
-        }
-    }
-    let quarter = MOST / 4;
-    (pages <= 1 || few >= E::most() / 4)
-        && (shelves <= 1 || few_pages >= quarter)
-        && (list.entries.bookcases.count() <= 1 || few_shelves >= quarter)
-}
-
 const TURNS: u64 = 10_000;
 
 // A random number that is mostly small, now and then below a hundred, and rarely below `most`.
@@ -137,9 +95,9 @@ fn some_count(seed: &mut u64, most: u64) -> u64 {
 
 // Replaces a random part of both lists by random numbers; false where they then differ, or the old list
 // did not stay.
-fn replaced_alike<E: PageEntries<u64>>(
+fn replaced_alike<F: Walked>(
     alloc: Global,
-    list: &mut Numbers<E>,
+    list: &mut Numbers<F>,
     plain: &mut Vec<u64>,
     seed: &mut u64,
     compares: bool,
@@ -163,13 +121,13 @@ fn replaced_alike<E: PageEntries<u64>>(
 }
 
 // The turn at which a random list and a plain one differ, or pages are small; none where there is no such turn.
-fn differs_at<E: PageEntries<u64>>(alloc: Global, turns: u64) -> Result<Option<u64>, OutOfMemory> {
+fn differs_at<F: Walked>(alloc: Global, turns: u64) -> Result<Option<u64>, OutOfMemory> {
     let mut seed = 7;
-    let mut list: Numbers<E> = MarkedList::empty(alloc);
+    let mut list: Numbers<F> = MarkedList::empty(alloc);
     let mut plain: Vec<u64> = Vec::new(alloc);
     for turn in 0..turns {
         let same = replaced_alike(alloc, &mut list, &mut plain, &mut seed, turn % 250 == 0)?;
-        if !same || turn % 10 == 0 && !is_filled(&list) {
+        if !same || turn % 10 == 0 && !look(&list).is_filled {
             return Ok(Some(turn));
         }
     }
@@ -182,38 +140,24 @@ fn differs_at<E: PageEntries<u64>>(alloc: Global, turns: u64) -> Result<Option<u
 
 #[test]
 fn says_the_same_as_a_plain_list(rt: HostRuntime) -> Result<(), Fail> {
-    let apart = differs_at::<EntriesApart<u64>>(rt.alloc(), TURNS)?;
+    let apart = differs_at::<Apart>(rt.alloc(), TURNS)?;
     assert!(rt; apart.is_none(), "apart, at turn {apart:?}");
-    let within = differs_at::<EntriesWithin<u64>>(rt.alloc(), TURNS)?;
+    let within = differs_at::<Within>(rt.alloc(), TURNS)?;
     assert!(rt; within.is_none(), "within, at turn {within:?}");
     Ok(())
 }
 
-// How many pages a list has.
-fn pages_in<E: PageEntries<u64>>(list: &Numbers<E>) -> usize {
-    let mut count = 0usize;
-    for bookcase in list.entries.bookcases.slots() {
-        for shelf in bookcase.share().slots() {
-            count = count.saturating_add(shelf.share().slots().len());
-        }
-    }
-    count
-}
-
 // How many pages a list has that got so many numbers at its end, one after another; none where it isn't as it must be.
-fn pages_grown<E: PageEntries<u64>>(
-    alloc: Global,
-    count: u64,
-) -> Result<Option<usize>, OutOfMemory> {
-    let mut list: Numbers<E> = MarkedList::empty(alloc);
+fn pages_grown<F: Walked>(alloc: Global, count: u64) -> Result<Option<usize>, OutOfMemory> {
+    let mut list: Numbers<F> = MarkedList::empty(alloc);
     let mut plain: Vec<u64> = Vec::new(alloc);
     for n in 0..count {
         let at = list.len();
         list = list.into_with_one(alloc, at, at, Arc::new(alloc, n)?)?;
         plain.push(n)?;
     }
-    if same(&list, plain.as_slice()) && is_filled(&list) {
-        Ok(Some(pages_in(&list)))
+    if same(&list, plain.as_slice()) && look(&list).is_filled {
+        Ok(Some(look(&list).pages))
     } else {
         Ok(None)
     }
@@ -222,39 +166,56 @@ fn pages_grown<E: PageEntries<u64>>(
 #[test]
 fn fills_its_pages_where_it_grows_at_its_end(rt: HostRuntime) -> Result<(), Fail> {
     // three quarters of a page each: 24 of 32, and 12 of 16
-    let apart = pages_grown::<EntriesApart<u64>>(rt.alloc(), 24_000)?;
+    let apart = pages_grown::<Apart>(rt.alloc(), 24_000)?;
     assert!(rt; apart == Some(1000), "apart, {apart:?} pages");
-    let within = pages_grown::<EntriesWithin<u64>>(rt.alloc(), 24_000)?;
+    let within = pages_grown::<Within>(rt.alloc(), 24_000)?;
     assert!(rt; within == Some(2000), "within, {within:?} pages");
     Ok(())
 }
 
-#[test]
-fn what_is_unused_within_a_page_keeps_nothing_else(rt: HostRuntime) -> Result<(), Fail> {
-    let alloc = rt.alloc();
+// Whether an entry that goes from the start of a list of so many is kept by nothing else then.
+fn first_is_let_go<F: Walked>(
+    alloc: Global,
+    count: u64,
+    in_place: bool,
+) -> Result<bool, OutOfMemory> {
     let first = Arc::new(alloc, 0)?;
-    let empty: Numbers<EntriesWithin<u64>> = MarkedList::empty(alloc);
+    let empty: Numbers<F> = MarkedList::empty(alloc);
     let one = empty.with_one(alloc, 0, 0, Arc::try_clone(&first)?)?;
     let at = one.len();
-    let old = one.with_replaced(alloc, at, at, numbers(alloc, 1, 3)?)?;
+    let old = one.with_replaced(alloc, at, at, numbers(alloc, 1, count)?)?;
     drop(one);
-    assert!(rt; Arc::strong_count(&first) > 1);
-    if old.len() == 3 {
+    if Arc::strong_count(&first) == 1 || old.is_empty() {
+        return Ok(false);
+    }
+    let new = if in_place {
+        old.into_without_run(alloc, 0, 1)?
+    } else {
         let new = old.without_run(alloc, 0, 1)?;
         drop(old);
-        assert!(rt; same(&new, &[1, 2]));
-        assert!(rt; Arc::strong_count(&first) == 1);
+        new
+    };
+    Ok(Arc::strong_count(&first) == 1 && new.len() as u64 == count.saturating_sub(1))
+}
+
+#[test]
+fn what_is_unused_within_a_block_keeps_nothing_else(rt: HostRuntime) -> Result<(), Fail> {
+    // in one page, in one row of pages, in two such rows
+    for count in [3, 40, 600] {
+        let new = first_is_let_go::<Within>(rt.alloc(), count, false)?;
+        let in_place = first_is_let_go::<Within>(rt.alloc(), count, true)?;
+        assert!(rt; new && in_place, "{count}: new {new}, in place {in_place}");
     }
     Ok(())
 }
 
 // In both lists a random entry comes in, takes the place of one or goes.
-fn changed_in_place<E: PageEntries<u64>>(
+fn changed_in_place<F: Walked>(
     alloc: Global,
-    list: Numbers<E>,
+    list: Numbers<F>,
     plain: &mut Vec<u64>,
     seed: &mut u64,
-) -> Result<Numbers<E>, OutOfMemory> {
+) -> Result<Numbers<F>, OutOfMemory> {
     let from = (next(seed) as usize) % list.len().saturating_add(1);
     let to = from
         .saturating_add((next(seed) % 2) as usize)
@@ -274,8 +235,8 @@ fn changed_in_place<E: PageEntries<u64>>(
 }
 
 // Whether a list of 3000 numbers is changed as a plain one is, while another owner of its pages stays as it was.
-fn is_changed_in_place<E: PageEntries<u64>>(alloc: Global) -> Result<bool, OutOfMemory> {
-    let old: Numbers<E> = list_of(alloc, 3000)?;
+fn is_changed_in_place<F: Walked>(alloc: Global) -> Result<bool, OutOfMemory> {
+    let old: Numbers<F> = list_of(alloc, 3000)?;
     let mut first = Vec::new(alloc);
     let mut plain = Vec::new(alloc);
     for n in 0..3000 {
@@ -290,19 +251,19 @@ fn is_changed_in_place<E: PageEntries<u64>>(alloc: Global) -> Result<bool, OutOf
             return Ok(false);
         }
     }
-    Ok(same(&list, plain.as_slice()) && is_filled(&list) && same(&old, first.as_slice()))
+    Ok(same(&list, plain.as_slice()) && look(&list).is_filled && same(&old, first.as_slice()))
 }
 
 #[test]
 fn is_changed_in_place_while_another_stays(rt: HostRuntime) -> Result<(), Fail> {
-    let apart = is_changed_in_place::<EntriesApart<u64>>(rt.alloc())?;
-    let within = is_changed_in_place::<EntriesWithin<u64>>(rt.alloc())?;
+    let apart = is_changed_in_place::<Apart>(rt.alloc())?;
+    let within = is_changed_in_place::<Within>(rt.alloc())?;
     assert!(rt; apart && within, "apart {apart}, within {within}");
     Ok(())
 }
 
 // The list of the numbers up to so many, one of which is 7 in place of what it was.
-fn is_with_a_seven(list: &Numbers<EntriesWithin<u64>>, at: usize) -> bool {
+fn is_with_a_seven<F: Walked>(list: &Numbers<F>, at: usize) -> bool {
     let mut place = 0usize;
     for entry in list {
         let number = if place == at { 7 } else { place as u64 };
@@ -314,40 +275,74 @@ fn is_with_a_seven(list: &Numbers<EntriesWithin<u64>>, at: usize) -> bool {
     true
 }
 
+// The list with a number in the place of another; itself where there is no such place.
+fn with_number<F: Walked>(
+    alloc: Global,
+    list: &Numbers<F>,
+    at: usize,
+    number: u64,
+) -> Result<Numbers<F>, OutOfMemory> {
+    if at < list.len() {
+        list.with_one(alloc, at, at + 1, Arc::new(alloc, number)?)
+    } else {
+        list.try_clone(alloc)
+    }
+}
+
+// How many replaced pages are kept after each of some changes of one number, if all lists are what they must be.
+fn kept_pages<F: Walked>(alloc: Global) -> Result<Option<[usize; 5]>, OutOfMemory> {
+    let old: Numbers<F> = list_of(alloc, 2000)?;
+    let at_first = look(&old).kept;
+    let one = with_number(alloc, &old, 100, 7)?;
+    let after_one = look(&one).kept;
+    // the old list has that page still
+    let other = with_number(alloc, &old, 500, 7)?;
+    let after_other = look(&other).kept;
+    let mut are_right = is_with_a_seven(&one, 100) && is_with_a_seven(&other, 500);
+    drop(old);
+    drop(other);
+    // a row that was replaced has that page still, and is filled again now
+    let last = with_number(alloc, &one, 100, 100)?;
+    drop(one);
+    let after_last = look(&last).kept;
+    let again = with_number(alloc, &last, 900, 7)?;
+    are_right = are_right && is_with_a_seven(&last, 2000) && is_with_a_seven(&again, 900);
+    if are_right {
+        Ok(Some([
+            at_first,
+            after_one,
+            after_other,
+            after_last,
+            look(&again).kept,
+        ]))
+    } else {
+        Ok(None)
+    }
+}
+
 #[test]
 fn a_new_page_takes_the_block_of_a_replaced_one(rt: HostRuntime) -> Result<(), Fail> {
-    let alloc = rt.alloc();
-    let old: Numbers<EntriesWithin<u64>> = list_of(alloc, 2000)?;
-    assert!(rt; old.entries.pool.kept() == 0);
-    if old.len() == 2000 {
-        let one = old.with_one(alloc, 100, 101, Arc::new(alloc, 7)?)?;
-        assert!(rt; one.entries.pool.kept() == 1);
-        // the old list has that page still
-        let other = old.with_one(alloc, 500, 501, Arc::new(alloc, 7)?)?;
-        assert!(rt; other.entries.pool.kept() == 2);
-        assert!(rt; is_with_a_seven(&one, 100) && is_with_a_seven(&other, 500));
-        drop(old);
-        drop(other);
-        if one.len() == 2000 {
-            let last = one.with_one(alloc, 100, 101, Arc::new(alloc, 100)?)?;
-            drop(one);
-            assert!(rt; last.entries.pool.kept() == 2);
-            assert!(rt; is_with_a_seven(&last, 2000));
-        }
-    }
+    let kept = kept_pages::<Within>(rt.alloc())?;
+    assert!(rt; kept == Some([0, 1, 2, 3, 3]), "{kept:?}");
     Ok(())
+}
+
+// Whether a list of so many numbers has memory of its own after a change.
+fn has_pool<F: Walked>(alloc: Global, count: u64) -> Result<bool, OutOfMemory> {
+    let old: Numbers<F> = list_of(alloc, count)?;
+    let new = with_number(alloc, &old, 100, 7)?;
+    Ok(new.entries.pool.is_some())
 }
 
 #[test]
 fn a_short_list_keeps_no_page(rt: HostRuntime) -> Result<(), Fail> {
-    let alloc = rt.alloc();
-    let short: Numbers<EntriesWithin<u64>> = list_of(alloc, 1000)?;
-    let apart: Numbers<EntriesApart<u64>> = list_of(alloc, 2000)?;
-    if short.len() == 1000 && apart.len() == 2000 {
-        let short = short.with_one(alloc, 100, 101, Arc::new(alloc, 7)?)?;
-        let apart = apart.with_one(alloc, 100, 101, Arc::new(alloc, 7)?)?;
-        assert!(rt; short.entries.pool.kept() == 0 && apart.entries.pool.kept() == 0);
-    }
+    let short = has_pool::<Within>(rt.alloc(), 1000)?;
+    let long = has_pool::<Within>(rt.alloc(), 2000)?;
+    let apart = has_pool::<Apart>(rt.alloc(), 2000)?;
+    assert!(rt;
+        !short && long && !apart,
+        "short {short}, long {long}, apart {apart}"
+    );
     Ok(())
 }
 
@@ -391,22 +386,22 @@ fn replaces_at_the_edges(rt: HostRuntime) -> Result<(), Fail> {
         [100, 50, 50, 0],
     ];
     for [len, from, to, count] in rows {
-        let apart = replaces_as_told::<EntriesApart<u64>>(rt.alloc(), len, from, to, count)?;
-        let within = replaces_as_told::<EntriesWithin<u64>>(rt.alloc(), len, from, to, count)?;
+        let apart = replaces_as_told::<Apart>(rt.alloc(), len, from, to, count)?;
+        let within = replaces_as_told::<Within>(rt.alloc(), len, from, to, count)?;
         assert!(rt; apart && within, "{from}..{to} of {len} by {count}");
     }
     Ok(())
 }
 
 // In the list of the numbers up to len, from..to is replaced by count others, and the old list stays.
-fn replaces_as_told<E: PageEntries<u64>>(
+fn replaces_as_told<F: Walked>(
     alloc: Global,
     len: u64,
     from: u64,
     to: u64,
     count: u64,
 ) -> Result<bool, OutOfMemory> {
-    let old: Numbers<E> = list_of(alloc, len)?;
+    let old: Numbers<F> = list_of(alloc, len)?;
     let mut plain = Vec::new(alloc);
     for n in 0..len {
         plain.push(n)?;
@@ -425,12 +420,12 @@ fn replaces_as_told<E: PageEntries<u64>>(
 }
 
 // The list without the entry at a place, or with a new one before it.
-fn one_changed<M: Marking<u64>, E: PageEntries<u64>>(
+fn one_changed<M: Marking<u64>, F: Walked>(
     alloc: Global,
-    list: &MarkedList<u64, M, E>,
+    list: &MarkedList<u64, M, F>,
     at: usize,
     new: Option<u64>,
-) -> Result<MarkedList<u64, M, E>, OutOfMemory> {
+) -> Result<MarkedList<u64, M, F>, OutOfMemory> {
     let at = at.min(list.len());
     let mut to = at;
     let mut items = Vec::new(alloc);
@@ -442,11 +437,10 @@ fn one_changed<M: Marking<u64>, E: PageEntries<u64>>(
     list.with_replaced(alloc, at, to, items)
 }
 
-#[test]
-fn shares_what_it_does_not_touch(rt: HostRuntime) -> Result<(), Fail> {
-    let alloc = rt.alloc();
+// The most owners that one of 5000 changes of a list makes.
+fn most_new_owners<F: Walked>(alloc: Global) -> Result<usize, OutOfMemory> {
     let mut seed = 11;
-    let mut list: PageList<u64> = list_of(alloc, 131_072)?;
+    let mut list: Numbers<F> = list_of(alloc, 131_072)?;
     let mut most = 0;
     for turn in 0..5000u64 {
         // at each border of the full pages first
@@ -457,9 +451,15 @@ fn shares_what_it_does_not_touch(rt: HostRuntime) -> Result<(), Fail> {
         };
         let new = if turn % 2 == 0 { None } else { Some(turn) };
         let new = one_changed(alloc, &list, at as usize, new)?;
-        most = most.max(own_owners(&new));
+        most = most.max(look(&new).own_owners);
         list = new;
     }
+    Ok(most)
+}
+
+#[test]
+fn shares_what_it_does_not_touch(rt: HostRuntime) -> Result<(), Fail> {
+    let most = most_new_owners::<Apart>(rt.alloc())?;
     println!(rt; "most new owners {most}")?;
     assert!(rt; most <= 200);
     Ok(())
@@ -477,7 +477,7 @@ fn threads_may_share_it(rt: HostRuntime) -> Result<(), Fail> {
 }
 
 // How many entries are below a number, in a list that rises.
-fn count_below(list: &PageList<u64>, bound: u64) -> usize
+fn count_below<F: Walked>(list: &Numbers<F>, bound: u64) -> usize
     requires { IsPartitionedBy (λ x. nat_lt x bound) list.now }
     ensures { result ≡ prefix_len (λ x. nat_lt x bound) list.now }
 {
@@ -486,7 +486,7 @@ fn count_below(list: &PageList<u64>, bound: u64) -> usize
 
 // The most calls of `before` in a search in the list of 0..count for each of 2001 bounds, or fewer, that lie
 // `step` apart; none where a search is wrong.
-fn most_calls(list: &PageList<u64>, count: u64, step: u64) -> Option<u64> {
+fn most_calls<F: Walked>(list: &Numbers<F>, count: u64, step: u64) -> Option<u64> {
     let mut most = 0;
     for k in 0..2001u64 {
         let bound = k.saturating_mul(step).min(count);
@@ -501,6 +501,15 @@ fn most_calls(list: &PageList<u64>, count: u64, step: u64) -> Option<u64> {
         most = most.max(calls.get());
     }
     Some(most)
+}
+
+fn calls_in_full<F: Walked>(
+    alloc: Global,
+    count: u64,
+    step: u64,
+) -> Result<Option<u64>, OutOfMemory> {
+    let list: Numbers<F> = list_of(alloc, count)?;
+    Ok(most_calls(&list, count, step))
 }
 
 #[test]
@@ -518,24 +527,26 @@ fn finds_with_few_calls(rt: HostRuntime) -> Result<(), Fail> {
         (131_072, 67, 18),
     ];
     for (count, step, enough) in rows {
-        let list: PageList<u64> = list_of(alloc, count)?;
-        let most = most_calls(&list, count, step).ok_or("a wrong place")?;
+        let most = calls_in_full::<Apart>(alloc, count, step)?.ok_or("a wrong place")?;
         assert!(rt; most <= enough, "{most} calls at {count} entries");
     }
     Ok(())
 }
 
-#[test]
-fn finds_with_few_calls_in_a_worn_list(rt: HostRuntime) -> Result<(), Fail> {
-    let alloc = rt.alloc();
+fn calls_in_worn<F: Walked>(alloc: Global) -> Result<Option<u64>, OutOfMemory> {
     let mut seed = 3;
-    let mut list: PageList<u64> = list_of(alloc, 131_072)?;
+    let mut list: Numbers<F> = list_of(alloc, 131_072)?;
     for _ in 0..20_000u64 {
         let at = next(&mut seed) % 131_072;
         let without = one_changed(alloc, &list, at as usize, None)?;
         list = one_changed(alloc, &without, at as usize, Some(at))?;
     }
-    let most = most_calls(&list, 131_072, 67).ok_or("a wrong place")?;
+    Ok(most_calls(&list, 131_072, 67))
+}
+
+#[test]
+fn finds_with_few_calls_in_a_worn_list(rt: HostRuntime) -> Result<(), Fail> {
+    let most = calls_in_worn::<Apart>(rt.alloc())?.ok_or("a wrong place")?;
     println!(rt; "most calls {most}")?;
     assert!(rt; most <= 20);
     Ok(())
@@ -578,24 +589,24 @@ impl Marking<u64> for Tens {
 }
 
 // The numbers up to `count` in order, each as often as `repeat` says.
-fn marked<M: Marking<u64>, E: PageEntries<u64>>(
+fn marked<M: Marking<u64>, F: Walked>(
     alloc: Global,
     count: u64,
     repeat: u64,
-) -> Result<MarkedList<u64, M, E>, OutOfMemory> {
+) -> Result<MarkedList<u64, M, F>, OutOfMemory> {
     let mut items = Vec::new(alloc);
     for n in 0..count {
         for _ in 0..repeat {
             items.push(Arc::new(alloc, n)?)?;
         }
     }
-    let empty: MarkedList<u64, M, E> = MarkedList::empty(alloc);
+    let empty: MarkedList<u64, M, F> = MarkedList::empty(alloc);
     empty.with_replaced(alloc, 0, 0, items)
 }
 
 // Whether `find_at` finds each of up to 201 bounds where `find` does, and asks of entries with its mark alone.
-fn finds_by_marks<M: Marking<u64>, E: PageEntries<u64>>(
-    list: &MarkedList<u64, M, E>,
+fn finds_by_marks<M: Marking<u64>, F: Walked>(
+    list: &MarkedList<u64, M, F>,
     count: u64,
     repeat: u64,
 ) -> bool {
@@ -621,12 +632,12 @@ fn finds_by_marks<M: Marking<u64>, E: PageEntries<u64>>(
 }
 
 // In a full list, and in one worn by 100 changes.
-fn searches_agree<M: Marking<u64>, E: PageEntries<u64>>(
+fn searches_agree<M: Marking<u64>, F: Walked>(
     alloc: Global,
     count: u64,
     repeat: u64,
 ) -> Result<bool, OutOfMemory> {
-    let mut list: MarkedList<u64, M, E> = marked(alloc, count, repeat)?;
+    let mut list: MarkedList<u64, M, F> = marked(alloc, count, repeat)?;
     if !finds_by_marks(&list, count, repeat) {
         return Ok(false);
     }
@@ -656,15 +667,15 @@ fn finds_by_marks_what_it_finds_without(rt: HostRuntime) -> Result<(), Fail> {
         [20_000, 1],
     ];
     for [count, repeat] in rows {
-        let none = searches_agree::<NoMarks, EntriesApart<u64>>(alloc, count, repeat)?;
+        let none = searches_agree::<NoMarks, Apart>(alloc, count, repeat)?;
         assert!(rt; none, "all marks zero, {repeat} times {count}");
-        let some = searches_agree::<Tens, EntriesApart<u64>>(alloc, count, repeat)?;
+        let some = searches_agree::<Tens, Apart>(alloc, count, repeat)?;
         assert!(rt; some, "equal marks, {repeat} times {count}");
-        let all = searches_agree::<Itself, EntriesApart<u64>>(alloc, count, repeat)?;
+        let all = searches_agree::<Itself, Apart>(alloc, count, repeat)?;
         assert!(rt; all, "marks that decide all, {repeat} times {count}");
-        let some = searches_agree::<Tens, EntriesWithin<u64>>(alloc, count, repeat)?;
+        let some = searches_agree::<Tens, Within>(alloc, count, repeat)?;
         assert!(rt; some, "equal marks within, {repeat} times {count}");
-        let all = searches_agree::<Itself, EntriesWithin<u64>>(alloc, count, repeat)?;
+        let all = searches_agree::<Itself, Within>(alloc, count, repeat)?;
         assert!(rt; all, "marks that decide all within, {repeat} times {count}");
     }
     Ok(())
