@@ -1,46 +1,17 @@
-"""Random signed zones, their NSEC and NSEC3 chains, and the answers and queries that speak of them: for tools/differential.
+"""Random signed zones, their NSEC and NSEC3 chains, and the answers and queries that speak of them, for `differential`.
 
-All is drawn from one `random.Random`, so the same seed makes the same octets. A zone's chains are true of it. A share of the
-answers has faults on purpose (`faults`, from 0 to 1); without any, each reply has to be what the zone itself answers. The
-signatures are made up: that they verify is the word of the upstream resolver.
+All is drawn from one `random.Random`, so the same seed makes the same octets. A zone's chains are true of it. A share
+of the answers has faults on purpose (`faults`, from 0 to 1); without any, each reply has to be what the zone itself
+answers. The signatures are made up: that they verify is the word of the upstream resolver.
 """
-
 import struct
-import sys
-
-sys.dont_write_bytecode = True  # for the modules beside this file
-from reference_messages import (  # noqa: E402
-    LAYOUTS,
-    ONE_NAME,
-    REST,
-    TEXT,
-    Malformed,
-    canonical,
-    hash_of,
-    is_below,
-    label_count,
-    lowered,
-    read_name,
-    text_of_hash,
-    wire_form,
-)
-from reference_model import (  # noqa: E402
-    AROUND,
-    CNAME,
-    DNAME,
-    DS,
-    IN,
-    NO_DATA,
-    NO_NAME,
-    NS,
-    NSEC,
-    NSEC3,
-    OPT,
-    QUERY,
-    RRSIG,
-    SOA,
-    UPSTREAM,
-)
+from .reference_messages import (
+    LAYOUTS, ONE_NAME, REST, TEXT, Malformed, canonical, hash_of, is_below, label_count, lowered, read_name,
+    text_of_hash, wire_form,
+)  # fmt: skip
+from .reference_model import (
+    AROUND, CNAME, DNAME, DS, IN, NO_DATA, NO_NAME, NS, NSEC, NSEC3, OPT, QUERY, RRSIG, SOA, UPSTREAM,
+)  # fmt: skip
 
 MOMENT = 1_000_000_000
 LABELS = (b"a", b"b", b"c", b"w", b"*", b"x", b"(x", b"\0", b"\xff", b"zz", b"Z", b"ab", b"a-", b"+")
@@ -51,42 +22,29 @@ ODD_TYPES = (0, OPT, RRSIG, NSEC, NSEC3, 127, 128, 129, 255, 256, NSEC3PARAM, 48
 SALTS = (b"", b"\xaa", b"\xaa\xbb\xcc\xdd", bytes(20))
 RESPONSE = 0x81A0  # QR, RD, RA, AD
 
-
-def random_octets(rng, count):
-    return bytes(rng.randrange(256) for _ in range(count))
-
+def random_octets(rng, count): return bytes(rng.randrange(256) for _ in range(count))
 
 def in_any_case(rng, name):
     return tuple(bytes(o - 32 if 97 <= o <= 122 and rng.random() < 0.5 else o for o in label) for label in name)
 
-
-def fits(name):
-    return len(wire_form(name)) <= 255
-
+def fits(name): return len(wire_form(name)) <= 255
 
 def type_bit_maps(types):
     """RFC 4034, section 4.1.2."""
-    windows = {}
-    for rtype in types:
-        windows.setdefault(rtype >> 8, set()).add(rtype & 255)
     octets = b""
-    for window in sorted(windows):
-        bits = bytearray(max(windows[window]) // 8 + 1)
-        for bit in windows[window]:
-            bits[bit // 8] |= 0x80 >> bit % 8
-        octets += bytes([window, len(bits)]) + bytes(bits)
+    for window in sorted({rtype >> 8 for rtype in types}):
+        number = sum(1 << 255 - rtype % 256 for rtype in set(types) if rtype >> 8 == window)
+        bits = number.to_bytes(32, "big").rstrip(b"\0")
+        octets += bytes([window, len(bits)]) + bits
     return octets
-
 
 def nsec3_data(salt, iterations, flags, following, types, algorithm=1):
     """RFC 5155, section 3.2."""
     head = struct.pack(">BBHB", algorithm, flags, iterations, len(salt))
     return head + salt + bytes([len(following)]) + following + type_bit_maps(types)
 
-
 class Zone:
     """An apex and its records: data by owner name and type (RFC 1034, section 4.2)."""
-
     def __init__(self, rng, apex, cuts=()):
         self.rng, self.apex, self.records = rng, apex, {}
         self.minimum = rng.choice([300, 300, 60, 3600, 0, 7, 86400, 0xFFFFFFFF])
@@ -94,63 +52,46 @@ class Zone:
         self.add(apex, SOA)
         self.add(apex, NS)
         for cut in cuts:
-            if is_below(cut, apex):
-                self.add_each(cut, [NS, DS] if rng.random() < 0.5 else [NS])
-        for _ in range(rng.randint(0, 9)):
-            self.add_some(rng.choice([1, 1, 1, 2, 2, 3, 4]), LABELS)
+            if is_below(cut, apex): self.add_each(cut, [NS, DS] if rng.random() < 0.5 else [NS])
+        for _ in range(rng.randint(0, 9)): self.add_some(rng.choice([1, 1, 1, 2, 2, 3, 4]), LABELS)
 
     def add_each(self, owner, types):
-        for rtype in types:
-            self.add(owner, rtype)
+        for rtype in types: self.add(owner, rtype)
 
     def add_some(self, depth, labels):
         """An owner name with sets, an alias, a cut or a DNAME."""
         rng = self.rng
         owner = lowered(tuple(rng.choice(labels) for _ in range(depth))) + self.apex
         often = rng.random()
-        if often < 0.55:
-            self.add_each(owner, rng.sample(PLAIN_TYPES, rng.randint(1, 3)))
-        elif often < 0.65:
-            self.add(owner, CNAME)
-        elif often < 0.77:
-            self.add_each(owner, [NS] + [DS] * (rng.random() < 0.5) + [A] * (rng.random() < 0.2))
-        elif often < 0.87:
-            self.add_each(owner, [DNAME] + [A] * (rng.random() < 0.4))
-        else:
-            self.add_each(owner, [DS, A])
+        if often < 0.55: self.add_each(owner, rng.sample(PLAIN_TYPES, rng.randint(1, 3)))
+        elif often < 0.65: self.add(owner, CNAME)
+        elif often < 0.77: self.add_each(owner, [NS] + [DS] * (rng.random() < 0.5) + [A] * (rng.random() < 0.2))
+        elif often < 0.87: self.add_each(owner, [DNAME] + [A] * (rng.random() < 0.4))
+        else: self.add_each(owner, [DS, A])
 
     def add(self, owner, rtype):
         data = self.records.setdefault((owner, rtype), [])
         count = 1 if rtype in (SOA, CNAME, DNAME) else self.rng.choice([1, 1, 1, 2, 3])
         for _ in range(count - len(data)):
             one = self.data(rtype)
-            if one not in data:
-                data.append(one)
+            if one not in data: data.append(one)
 
     def data(self, rtype):
         rng = self.rng
         targets = ((), (b"ns",) + self.apex, (rng.choice(LABELS), b"other"), (rng.choice(LABELS),) + self.apex)
         target = wire_form(in_any_case(rng, rng.choice(targets)))
-        if rtype == SOA:
-            return wire_form(self.server) + b"\0" + struct.pack(">5I", 1, 3600, 600, 86400, self.minimum)
-        if rtype in (NS, CNAME, DNAME, 12):
-            return target
-        if rtype in (MX, SRV):
-            return random_octets(rng, 2 if rtype == MX else 6) + target
-        if rtype == A:
-            return bytes([192, 0, 2, rng.randrange(256)])
-        if rtype == DS:
-            return bytes([0, 1, 13, 2]) + random_octets(rng, 32)
+        if rtype == SOA: return wire_form(self.server) + b"\0" + struct.pack(">5I", 1, 3600, 600, 86400, self.minimum)
+        if rtype in (NS, CNAME, DNAME, 12): return target
+        if rtype in (MX, SRV): return random_octets(rng, 2 if rtype == MX else 6) + target
+        if rtype == A: return bytes([192, 0, 2, rng.randrange(256)])
+        if rtype == DS: return bytes([0, 1, 13, 2]) + random_octets(rng, 32)
         return random_octets(rng, rng.choice([0, 1, 4, 20, 20, 100, 500]))
 
-    def types(self, owner):
-        return {rtype for (other, rtype) in self.records if other == owner}
-
-    def is_cut(self, owner):
-        return owner != self.apex and (owner, NS) in self.records
+    def types(self, owner): return {rtype for (other, rtype) in self.records if other == owner}
+    def is_cut(self, owner): return owner != self.apex and (owner, NS) in self.records
 
     def is_live(self, owner):
-        """Neither a cut nor a DNAME is above it: below those the zone says nothing (RFC 1034, section 4.3.2; RFC 6672, 2.4)."""
+        """No cut or DNAME is above it: below those the zone says nothing (RFC 1034, section 4.3.2; RFC 6672, 2.4)."""
         above = [owner[count:] for count in range(1, len(owner) - len(self.apex) + 1)]
         return not any(self.is_cut(name) or (name, DNAME) in self.records for name in above)
 
@@ -167,8 +108,7 @@ class Zone:
     def own_sets(self):
         """The owner names and types of which the zone has authority, and so signs."""
         for owner, rtype in sorted(self.records):
-            if self.is_live(owner) and (rtype == DS if self.is_cut(owner) else True):
-                yield owner, rtype
+            if self.is_live(owner) and (rtype == DS if self.is_cut(owner) else True): yield owner, rtype
 
     def shown_types(self, owner):
         """At a cut the parent's side shows few types (RFC 6840, section 4.1)."""
@@ -186,8 +126,7 @@ class Zone:
         With Opt-Out unsigned delegations are left out, and empty non-terminals that are there for them alone.
         """
         owners = self.live_owners()
-        if opt_out:
-            owners = [owner for owner in owners if not self.is_cut(owner) or (owner, DS) in self.records]
+        if opt_out: owners = [owner for owner in owners if not self.is_cut(owner) or (owner, DS) in self.records]
         hashes = sorted((hash_of(name, salt, iterations), name) for name in self.with_ancestors(owners))
         chain = []
         for (digest, name), (following, _) in zip(hashes, hashes[1:] + hashes[:1]):
@@ -206,24 +145,19 @@ class Zone:
             if self.is_cut(above) and not (count == 0 and rtype == DS) or (above, DNAME) in self.records and count:
                 return None
         existing = set(self.existing())
-        if name in existing:
-            return self.at(name, rtype)
+        if name in existing: return self.at(name, rtype)
         encloser = next(name[count:] for count in range(1, len(name) + 1) if name[count:] in existing)
         source = (b"*",) + encloser
-        if source not in existing:
-            return NO_NAME
+        if source not in existing: return NO_NAME
         answer = self.at(source, rtype)
         return None if (source, NS) in self.records or answer == NO_DATA and (source, DNAME) in self.records else answer
 
     def at(self, name, rtype):
-        if (name, rtype) in self.records:
-            return sorted(self.records[name, rtype])
+        if (name, rtype) in self.records: return sorted(self.records[name, rtype])
         return None if (name, CNAME) in self.records else NO_DATA
-
 
 class Message:
     """A message while it is written, with pointers where `compressed` (RFC 1035, section 4.1.4)."""
-
     def __init__(self, rng, compressed):
         self.rng, self.compressed, self.octets, self.offsets = rng, compressed, bytearray(), {}
 
@@ -233,8 +167,7 @@ class Message:
             if self.compressed and rest in self.offsets and self.rng.random() < 0.9:
                 self.octets += struct.pack(">H", 0xC000 | self.offsets[rest])
                 return
-            if len(self.octets) < 0x4000:
-                self.offsets.setdefault(rest, len(self.octets))
+            if len(self.octets) < 0x4000: self.offsets.setdefault(rest, len(self.octets))
             self.octets += bytes([len(labels[count])]) + labels[count]
         self.octets += b"\0"
 
@@ -261,55 +194,43 @@ class Message:
         self.data(rtype, data)
         self.octets[start - 2 : start] = struct.pack(">H", len(self.octets) - start & 0xFFFF)
 
-
 def message(rng, name, rtype, flags, sections, compressed):
     made = Message(rng, compressed)
     made.octets += struct.pack(">6H", rng.randrange(65536), flags, 1, *(len(section) for section in sections))
     made.name(name)
     made.octets += struct.pack(">HH", rtype, IN)
     for section in sections:
-        for record in section:
-            made.record(*record)
+        for record in section: made.record(*record)
     return bytes(made.octets[:65535])
-
 
 def mutated(rng, octets):
     """With one to five octets or ends changed: at random, in the counts, or into a pointer."""
     octets = bytearray(octets)
     for _ in range(rng.choice([1, 1, 1, 2, 5])):
         way, at = rng.randrange(7), rng.randrange(len(octets)) if octets else 0
-        if way == 0 and octets:
-            octets[at] = rng.randrange(256)
-        elif way == 1:
-            del octets[at:]
-        elif way == 2:
-            octets += random_octets(rng, rng.randint(1, 5))
-        elif way == 3 and octets:
-            octets[at] ^= 1 << rng.randrange(8)
+        if way == 0 and octets: octets[at] = rng.randrange(256)
+        elif way == 1: del octets[at:]
+        elif way == 2: octets += random_octets(rng, rng.randint(1, 5))
+        elif way == 3 and octets: octets[at] ^= 1 << rng.randrange(8)
         elif way == 4 and len(octets) > 13:
             at = rng.randrange(12, len(octets) - 1)
             to = rng.choice([12, rng.randrange(256), rng.randrange(min(255, len(octets)))])
             octets[at : at + 2] = bytes([0xC0 | rng.choice([0, 0, 0, 1]), to])
         elif way == 5 and len(octets) > 5:
             octets[rng.randint(4, min(11, len(octets) - 1))] = rng.choice([0, 1, 2, rng.randrange(256)])
-        elif way == 6:
-            del octets[at : at + rng.randint(1, 3)]
+        elif way == 6: del octets[at : at + rng.randint(1, 3)]
     return bytes(octets)
-
 
 class Traffic:
     """Some zones below one another, each with one to four chains, and answers and queries that speak of them."""
-
     def __init__(self, rng, faults=0.0):
         self.rng, self.faults = rng, faults
         self.now = MOMENT + rng.choice([0, 0, 0, rng.randrange(1000)])
         if rng.random() < 0.08:  # about the ends of what a moment can tell
             self.now = rng.choice([0xFFFFFFFF - rng.randrange(3000), rng.randrange(2000)])
         apexes = [rng.choice([(b"example",), (b"example",), (b"b", b"example"), (), (b"*", b"ex")])]
-        if rng.random() < 0.5:
-            apexes.append((rng.choice([b"a", b"b", b"c", b"w"]),) + apexes[0])
-        if rng.random() < 0.15:
-            apexes.append((b"c",) + apexes[-1])
+        if rng.random() < 0.5: apexes.append((rng.choice([b"a", b"b", b"c", b"w"]),) + apexes[0])
+        if rng.random() < 0.15: apexes.append((b"c",) + apexes[-1])
         self.zones = [Zone(rng, apex, apexes[number + 1 :]) for number, apex in enumerate(apexes)]
         self.chains = {zone.apex: self.some_chains() for zone in self.zones}
         self.find_names()
@@ -332,11 +253,8 @@ class Traffic:
             names += [(rng.choice(LABELS), rng.choice(LABELS)) + zone.apex for _ in range(4)]
         self.names = sorted({lowered(name) for name in names if fits(name)})
 
-    def faulty(self, share=1.0):
-        return self.rng.random() < self.faults * share
-
-    def pass_time(self, steps):
-        self.now = (self.now + self.rng.choice(steps)) % AROUND
+    def faulty(self, share=1.0): return self.rng.random() < self.faults * share
+    def pass_time(self, steps): self.now = (self.now + self.rng.choice(steps)) % AROUND
 
     def signed(self, zone, owner, rtype, items, labels=None):
         """The records of a set and its signatures."""
@@ -364,11 +282,9 @@ class Traffic:
             if number and is_faulty and rng.random() < 0.5:  # one that differs from the first
                 at = rng.randrange(4)
                 parts[at] = (max(0, labels - 1), original ^ 1, rng.choice([0, -5]), zone[1:])[at]
-            elif number and rng.random() < 0.5:
-                parts[2] = rng.choice([5, 200, 0, -5])
+            elif number and rng.random() < 0.5: parts[2] = rng.choice([5, 200, 0, -5])
             records.append(self.signature(owner, rtype, number, is_faulty, *parts))
-        if is_faulty and rng.random() < 0.3:
-            rng.shuffle(records)
+        if is_faulty and rng.random() < 0.3: rng.shuffle(records)
         return records
 
     def signature(self, owner, rtype, number, is_faulty, labels, original, ahead, signer):
@@ -381,10 +297,8 @@ class Traffic:
 
     def nsec(self, zone, owner, following, types):
         rng = self.rng
-        if self.faulty(0.6):
-            following = rng.choice(self.names)
-        if self.faulty(0.6):
-            types = types ^ {rng.choice([A, NS, CNAME, DNAME, TXT, DS, SOA])}
+        following = rng.choice(self.names) if self.faulty(0.6) else following
+        types = types ^ {rng.choice([A, NS, CNAME, DNAME, TXT, DS, SOA])} if self.faulty(0.6) else types
         data = wire_form(in_any_case(rng, following) if rng.random() < 0.2 else following) + type_bit_maps(types)
         if self.faulty(0.3):
             data += rng.choice([b"\0", b"\0\1\0", b"\1\1\1", b"\0\x21" + b"\1" * 33, b"\xff\x20" + b"\xff" * 32])
@@ -393,14 +307,12 @@ class Traffic:
     def nsec3(self, zone, parameters, digest, following, types):
         rng, (salt, iterations, opt_out) = self.rng, parameters
         text, flags, algorithm, size = text_of_hash(digest), int(opt_out), 1, None
-        if rng.random() < 0.2:
-            text = text.upper()
+        text = text.upper() if rng.random() < 0.2 else text
+        types = types ^ {rng.choice([A, NS, CNAME, DNAME, TXT, DS, 65535])} if self.faulty(0.6) else types
         if self.faulty(0.6):
-            types = types ^ {rng.choice([A, NS, CNAME, DNAME, TXT, DS, 65535])}
-        if self.faulty(0.6):
-            following = rng.choice([random_octets(rng, 20), following + b"\0", hash_of(rng.choice(self.names), salt, 0)])
-        if self.faulty(0.2):
-            text = rng.choice([text[:-1], text + b"0", text[:-1] + b"w", b"a"])
+            others = random_octets(rng, 20), following + b"\0", hash_of(rng.choice(self.names), salt, 0)
+            following = rng.choice(others)
+        text = rng.choice([text[:-1], text + b"0", text[:-1] + b"w", b"a"]) if self.faulty(0.2) else text
         if self.faulty(0.3):
             algorithm, flags, iterations, size = rng.choice(
                 [(2, 0, 0, None), (1, 2, 0, None), (1, 255, 0, None), (1, flags ^ 1, iterations, None)]
@@ -412,10 +324,8 @@ class Traffic:
 
     def denials(self, zone, parameters):
         """The denial records of one of the zone's chains, in turn."""
-        if parameters is None:
-            return [self.nsec(zone, *link) for link in zone.nsec_chain()]
-        if not fits((bytes(32),) + zone.apex):
-            return []
+        if parameters is None: return [self.nsec(zone, *link) for link in zone.nsec_chain()]
+        if not fits((bytes(32),) + zone.apex): return []
         return [self.nsec3(zone, parameters, *link) for link in zone.nsec3_chain(*parameters)]
 
     def expanded(self, zone):
@@ -423,12 +333,10 @@ class Traffic:
         rng = self.rng
         own = ((owner, rtype) for owner, rtype in zone.own_sets() if owner[:1] == (b"*",))
         wildcards = [(owner, rtype) for owner, rtype in own if rtype not in (DS, NS, SOA, DNAME)]
-        if not wildcards:
-            return []
+        if not wildcards: return []
         owner, rtype = rng.choice(wildcards)
         name = lowered(tuple(rng.choice(LABELS) for _ in range(rng.choice([1, 1, 2])))) + owner[1:]
-        if not fits(name):
-            return []
+        if not fits(name): return []
         return self.signed(zone.apex, name, rtype, zone.records[owner, rtype], label_count(owner))
 
     def odd_set(self):
@@ -445,27 +353,20 @@ class Traffic:
         rng = self.rng
         zone = rng.choice(self.zones)
         answers, authority = [], []
-        if rng.random() < 0.6:
-            authority += self.signed(zone.apex, zone.apex, SOA, zone.records[zone.apex, SOA])
+        if rng.random() < 0.6: authority += self.signed(zone.apex, zone.apex, SOA, zone.records[zone.apex, SOA])
         own = list(zone.own_sets())
         for _ in range(rng.choice([0, 0, 1, 1, 2])):
             key = rng.choice(own)
             answers += self.signed(zone.apex, *key, zone.records[key])
-        if rng.random() < 0.4:
-            answers += self.expanded(zone)
+        if rng.random() < 0.4: answers += self.expanded(zone)
         if rng.random() < 0.75:
             links = self.denials(zone, rng.choice(self.chains[zone.apex]))
-            for link in rng.sample(links, min(len(links), rng.randint(1, 5))):
-                authority += link
-        if self.faulty(0.5):
-            rng.choice([answers, authority]).extend(self.odd_set())
-        if self.faulty():
-            rng.shuffle(authority)
+            for link in rng.sample(links, min(len(links), rng.randint(1, 5))): authority += link
+        if self.faulty(0.5): rng.choice([answers, authority]).extend(self.odd_set())
+        if self.faulty(): rng.shuffle(authority)
         flags, additional = RESPONSE | rng.choice([0, 0, 0, 3]), []
-        if rng.random() < 0.5:
-            additional.append(((), OPT, 1232, 0x8000, b""))
-        if self.faulty(0.5):
-            flags = self.odd_ends(flags, answers, additional)
+        if rng.random() < 0.5: additional.append(((), OPT, 1232, 0x8000, b""))
+        flags = self.odd_ends(flags, answers, additional) if self.faulty(0.5) else flags
         octets = message(rng, rng.choice(self.names), A, flags, (answers, authority, additional), rng.random() < 0.5)
         return mutated(rng, octets) if self.faulty(0.4) else octets
 
@@ -478,33 +379,27 @@ class Traffic:
             rcode = rng.choice([0, 1, 2, 3, 4, 5, rng.randrange(16)])
             kinds = flags & ~0x20, flags | 0x200, flags & ~0x8000, flags & ~15 | rcode, flags | 0x800, flags | 0x450
             return rng.choice(kinds)
-        if way == 1:
-            additional.append(((), OPT, 1232, rng.choice([0x01000000, 0xFF000000, 0, 0x00FF0000]), b""))
-        elif way == 2:
-            additional.insert(0, ((b"x",), OPT, 1232, 0x01000000, b""))
-        elif way == 3:
-            answers.append(((), OPT, 1232, 0x01000000, b""))
-        else:
-            (additional if way == 4 else answers).append(glue)
+        if way == 1: additional.append(((), OPT, 1232, rng.choice([0x01000000, 0xFF000000, 0, 0x00FF0000]), b""))
+        elif way == 2: additional.insert(0, ((b"x",), OPT, 1232, 0x01000000, b""))
+        elif way == 3: answers.append(((), OPT, 1232, 0x01000000, b""))
+        else: (additional if way == 4 else answers).append(glue)
         return flags
 
     def query(self):
         rng = self.rng
         name = rng.choice(self.names)
-        if rng.random() < 0.05:
-            name = (rng.choice(LABELS),) * rng.randint(1, 60) + name
-            while not fits(name):
-                name = name[1:]
+        name = (rng.choice(LABELS),) * rng.randint(1, 60) + name if rng.random() < 0.05 else name
+        while not fits(name): name = name[1:]
         rtype = rng.choice(ASKED_TYPES if rng.random() < 0.93 else ODD_TYPES)
         rclass = IN if rng.random() < 0.97 else rng.choice([0, 3, 255])
         flags = 0x100 * (rng.random() < 0.8) | 0x20 * (rng.random() < 0.4) | 0x10 * (rng.random() < 0.3)
-        if rng.random() < 0.05:
-            flags |= rng.choice([0x400, 0x200, 0x80, 0x40, 0x800, 0x2800, 0x8000, 0x7])
-        options = [self.option() for _ in range(rng.choice([0] * 30 + [1] * 69 + [2]))]
-        counts = (0, 0, len(options)) if rng.random() < 0.98 else rng.choice([(len(options), 0, 0), (0, 0, 2), (1, 0, 0)])
+        if rng.random() < 0.05: flags |= rng.choice([0x400, 0x200, 0x80, 0x40, 0x800, 0x2800, 0x8000, 0x7])
+        count = rng.choice([0] * 30 + [1] * 69 + [2])
+        options = b"".join([self.option() for _ in range(count)])
+        counts = (0, 0, count) if rng.random() < 0.98 else rng.choice([(count, 0, 0), (0, 0, 2), (1, 0, 0)])
         octets = struct.pack(">6H", rng.randrange(65536), flags, 1, *counts)
-        octets += wire_form(in_any_case(rng, name) if rng.random() < 0.5 else name) + struct.pack(">HH", rtype, rclass)
-        octets += b"".join(options)
+        octets += wire_form(in_any_case(rng, name) if rng.random() < 0.5 else name)
+        octets += struct.pack(">HH", rtype, rclass) + options
         return mutated(rng, octets) if rng.random() < 0.04 + self.faults * 0.1 else octets
 
     def option(self):
@@ -523,13 +418,10 @@ class Traffic:
         rng, frames = self.rng, []
         for number in range(count):
             self.pass_time([0] * 20 + [1, 1, 5, 10, 60, 250, 3000 if rng.random() < 0.3 else 1])
-            if rng.random() < 0.01:
-                self.now = max(0, self.now - rng.choice([1, 100, 4000]))
+            if rng.random() < 0.01: self.now = max(0, self.now - rng.choice([1, 100, 4000]))
             often = rng.random()
-            if often < 0.35 or number < 2:
-                frames.append((UPSTREAM, self.now, self.upstream()))
-            elif often < 0.99:
-                frames.append((QUERY, self.now, self.query()))
+            if often < 0.35 or number < 2: frames.append((UPSTREAM, self.now, self.upstream()))
+            elif often < 0.99: frames.append((QUERY, self.now, self.query()))
             else:
                 octets = random_octets(rng, rng.choice([0, 5, 11, 12, 13, 30, 80]))
                 frames.append((rng.choice([QUERY, UPSTREAM]), self.now, octets))

@@ -1,0 +1,1 @@
+"""Tools for dnsreplay, of which nothing is proved; `../dnsreplay-tools` begins in `commands.py`."""

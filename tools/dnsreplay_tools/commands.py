@@ -1,0 +1,38 @@
+"""Makes, measures, attacks and compares what dnsreplay reads and writes; `COMMAND --help` tells more."""
+import argparse, os, signal, sys
+from . import bench, differential, fits, frames, hostile, try_serve, twice
+from .wire import Fault, Unreadable
+
+MODULES = (bench, hostile, try_serve, frames, fits, differential, twice)
+
+def add(parsers, module, name):
+    """A module's command: its `words` say what it takes and `run` does it, or it has `COMMANDS` below it."""
+    text = module.__doc__
+    how = {"help": text.split("\n", 1)[0], "description": text, "formatter_class": argparse.RawDescriptionHelpFormatter}
+    made = parsers.add_parser(name, **how)
+    made.set_defaults(command=made.prog.split(" ", 1)[1])
+    if hasattr(module, "COMMANDS"):
+        below = made.add_subparsers(required=True, metavar="COMMAND")
+        for name, each in module.COMMANDS.items(): add(below, each, name)
+    else:
+        made.set_defaults(run=getattr(module, "run", None))
+        module.words(made)
+
+def main():
+    signal.signal(signal.SIGTERM, lambda number, _: sys.exit(128 + number))  # so that what was started is ended
+    parser = argparse.ArgumentParser(prog="dnsreplay-tools", description=__doc__)
+    parser.set_defaults(unreadable=1)
+    parsers = parser.add_subparsers(required=True, metavar="COMMAND")
+    for module in MODULES: add(parsers, module, module.__name__.rpartition(".")[2])
+    args = parser.parse_args()
+    try:
+        status = args.run(args)
+        sys.stdout.flush()
+    except BrokenPipeError:  # as `| head` makes it
+        os.dup2(os.open(os.devnull, os.O_WRONLY), 1)
+        status = 141
+    except (Fault, OSError) as why:
+        sys.stdout.flush()
+        print(f"{args.command}: {why}", file=sys.stderr)
+        status = args.unreadable if isinstance(why, (Unreadable, OSError)) else 1
+    sys.exit(status)
