@@ -1,16 +1,17 @@
 -- A name that an NSEC record covers is above neither of its ends, so its closest encloser is above it.
 use Rattle.std.proofs.Common.{◌≡◌, ◌≢◌, Bool, true, false, not, ◌&&◌, List, refl, sym, subst, ◌⊎◌, inl, inr, ⊎_elim, IsTrue}
 use Rattle.std.specs.declared.cmp.Ordering.TheVariants.{Less}
-use Rattle.std.specs.Cmp.Lexicographic.{pointwise_decides, bytes_decides}
 use Rattle.std.proofs.lemmas.Bool.Decides.{not_from_Decides}
 use Rattle.dname.specs.Name.{Label, IsUnder, canonical_cmp}
 use Rattle.dname.specs.Order.{canonical_total, canonical_equal}
 use Rattle.dname.specs.Tests.{same_name, is_under}
 use Rattle.dname.specs.Arc.{arc_has, IsInside}
-use Rattle.dname.proofs.ArcLemmas.{no_end_inside, not_both_ways, inside_arc}
+use Rattle.dname.proofs.ArcLemmas.{no_end_inside, inside_arc}
+use Rattle.dname.proofs.OrderLemmas.{not_before}
+use Rattle.dname.proofs.SameLemmas.{same_name_decides}
 use Rattle.dname.proofs.TogetherLemmas.{above_is_first, stands_together}
+use Rattle.dname.proofs.UnderLemmas.{under_decides}
 use Rattle.encloser.specs.Encloser.{encloser_of}
-use Rattle.encloser.proofs.UnderLemmas.{under_decides}
 use Rattle.encloser.proofs.EncloserLemmas.{encloser_is}
 
 -- of a name inside an arc whose end isn't below it the start isn't below it either
@@ -19,9 +20,6 @@ owner_elsewhere owner next name inside elsewhere under = by inside
   where
     apart : owner ≢ name
     apart e = (no_end_inside canonical_cmp canonical_total owner next).0 (subst (IsInside canonical_cmp owner next) (sym e) inside)
-
-    not_before : (x y : List Label) → canonical_cmp x y ≡ Less → canonical_cmp y x ≢ Less
-    not_before x y less back = not_both_ways canonical_cmp canonical_total x y less back
 
     first : canonical_cmp name owner ≡ Less
     first = above_is_first owner name under apart
@@ -41,7 +39,7 @@ neither false false h = (refl, refl)
 pub covered_apart : (owner next name : List Label) → IsTrue (arc_has canonical_cmp owner next name) → (not (same_name owner name) && not (is_under next name)) ≡ true → name ≢ encloser_of name owner next
 covered_apart owner next name has covered e =
     let h = neither (same_name owner name) (is_under next name) covered in
-    let apart : name ≢ owner = λ same. not_from_Decides (same_name owner name) (pointwise_decides bytes_decides owner name) h.0 (sym same) in
+    let apart : name ≢ owner = λ same. not_from_Decides (same_name owner name) (same_name_decides owner name) h.0 (sym same) in
     let elsewhere : IsUnder next name → ⊥ = not_from_Decides (is_under next name) (under_decides next name) h.1 in
     ⊎_elim (owner_elsewhere owner next name ((inside_arc canonical_cmp canonical_total canonical_equal owner next name).1 (has, apart)) elsewhere) elsewhere
     (subst (λ (n : List Label). IsUnder owner n ⊎ IsUnder next n) (sym e) (encloser_is name owner next).shared)

@@ -6,7 +6,7 @@ use Rattle.std.proofs.lemmas.Bool.Decides.{same_from_decides, Decides-by_or, Dec
 use Rattle.std.proofs.lemmas.List.Elements.{Decides-contains}
 use Rattle.dname.specs.Name.{Label, IsUnder}
 use Rattle.dname.specs.Tests.{is_under}
-use Rattle.encloser.proofs.UnderLemmas.{under_decides}
+use Rattle.dname.proofs.UnderLemmas.{under_decides}
 use Rattle.cache_meaning.specs.Evidence.{has_type}
 
 -- a set has a type exactly where the test says so

@@ -1,3 +1,4 @@
+pub mod ChainLemmas
 pub mod CoveredLemmas
 pub mod EvidenceLemmas
 pub mod ExampleHashes

@@ -1,15 +1,16 @@
 -- A zone has two chains at most, in every state that batches make.
 use Rattle.std.proofs.Common.{◌≡◌, ◌≤◌, Bool, true, false, not, List, [], ◌∷◌, length, filter, fold, Option, Some, None, refl, ap, sym, ◌∙◌, cond, arith}
 use Rattle.std.specs.List.{list_any}
-use Rattle.std.specs.Cmp.Lexicographic.{pointwise_decides, bytes_decides}
 use Rattle.std.proofs.lemmas.List.{length-map}
-use Rattle.std.proofs.lemmas.Bool.Decides.{Decides-eqb}
 use Rattle.dname.specs.Name.{Label}
 use Rattle.dname.specs.Tests.{same_name}
+use Rattle.dname.proofs.SameLemmas.{name_equal}
 use Rattle.denial_records.specs.declared.batch.Batch.{Batch}
 use Rattle.denial_records.specs.declared.record.Record.{Record}
-use Rattle.cache_meaning.specs.Held.{Held, ZoneChain, Chain, NsecChain, Nsec3Chain, same_chain, same_zone_chain, chain_of, third_of, is_usable, goes, held_where, without_third, with_new_chain, with_chain, held_with, within_limit, held_after}
+use Rattle.cache_meaning.specs.Held.{Held, ZoneChain, same_zone_chain, chain_of, third_of, is_usable, goes, held_where, without_third, with_new_chain, with_chain, held_with, within_limit, held_after}
 use Rattle.cache_meaning.specs.Zones.{TwoChains}
+use Rattle.cache_meaning.proofs.ChainLemmas.{zone_chain_itself}
+use Rattle.facts.proofs.Filters.{filters_commute}
 
 -- ---- lists
 
@@ -22,16 +23,6 @@ shorter {A} p q (x ∷ xs) = step (p x) (q x) refl (shorter p q xs)
     step true false is h = omega arith
     step false true is h = rw is h
     step false false is h = h
-
-commute : {A : Type 0} (p q : A → Bool) (xs : List A) → filter p (filter q xs) ≡ filter q (filter p xs)
-commute p q [] = refl
-commute {A} p q (x ∷ xs) = step (p x) (q x) refl refl (commute p q xs)
-  where
-    step : (b d : Bool) → p x ≡ b → q x ≡ d → filter p (filter q xs) ≡ filter q (filter p xs) → filter p (cond d (x ∷ filter q xs) (filter q xs)) ≡ filter q (cond b (x ∷ filter p xs) (filter p xs))
-    step true true is are h = rw (is, are) (ap (λ (l : List A). x ∷ l) h)
-    step true false is are h = rw are h
-    step false true is are h = rw is h
-    step false false is are h = h
 
 -- of three, two stay at most where the third goes
 two_stay : {A : Type 0} (q : A → Bool) (xs : List A) (third : A) → length xs ≤ 3 → third_of xs ≡ Some third → q third ≡ false → length (filter q xs) ≤ 2
@@ -58,16 +49,6 @@ none_third (x ∷ y ∷ z ∷ rest) is = cc
 
 -- ---- chains
 
-same_name_itself : (name : List Label) → same_name name name ≡ true
-same_name_itself name = (pointwise_decides bytes_decides name name).1 refl
-
-same_itself : (chain : Chain) → same_chain chain chain ≡ true
-same_itself NsecChain = refl
-same_itself (Nsec3Chain parameters) = rw ((bytes_decides parameters.salt parameters.salt).1 refl, (Decides-eqb parameters.iterations parameters.iterations).1 refl)
-
-one_itself : (chain : ZoneChain) → same_zone_chain chain chain ≡ true
-one_itself chain = rw (same_name_itself chain.zone, same_itself chain.chain)
-
 abbrev of_zone : List Label → ZoneChain → Bool
 of_zone zone chain = same_name chain.zone zone
 
@@ -86,14 +67,14 @@ new_one new chains records third two is zone = by (same_name new.zone zone) refl
     by : (b : Bool) → same_name new.zone zone ≡ b → (third : Option ZoneChain) → third_of (filter (of_zone new.zone) (new ∷ chains)) ≡ third
         → length (filter (of_zone zone) (without_third third (record { records = records; chains = new ∷ chains })).chains) ≤ 2
     by true same None is =
-        let zones : new.zone ≡ zone = (pointwise_decides bytes_decides new.zone zone).0 same in
+        let zones : new.zone ≡ zone = name_equal new.zone zone same in
         none_third _ (ap (λ (z : List Label). third_of (filter (of_zone z) (new ∷ chains))) (sym zones) ∙ is)
     by true same (Some third) is =
-        let zones : new.zone ≡ zone = (pointwise_decides bytes_decides new.zone zone).0 same in
+        let zones : new.zone ≡ zone = name_equal new.zone zone same in
         let few : length (filter (of_zone zone) (new ∷ chains)) ≤ 3 = rw same (omega (arith, two zone)) in
         let goes = λ (other : ZoneChain). not (same_zone_chain third other) in
-        rw (commute (of_zone zone) goes (new ∷ chains))
-        (two_stay goes (filter (of_zone zone) (new ∷ chains)) third few (ap (λ (z : List Label). third_of (filter (of_zone z) (new ∷ chains))) (sym zones) ∙ is) (ap not (one_itself third)))
+        rw (filters_commute (of_zone zone) goes (new ∷ chains))
+        (two_stay goes (filter (of_zone zone) (new ∷ chains)) third few (ap (λ (z : List Label). third_of (filter (of_zone z) (new ∷ chains))) (sym zones) ∙ is) (ap not (zone_chain_itself third)))
     by false other None is = rw other (two zone)
     by false other (Some third) is =
         let goes = λ (other : ZoneChain). not (same_zone_chain third other) in

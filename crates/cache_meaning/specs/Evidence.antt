@@ -101,5 +101,6 @@ abbrev pub nsec3_matches : HashParameters → Nsec3Rec → List Label → Bool
 nsec3_matches parameters nsec3 name = bytes_eq nsec3.hash (hash_by parameters name)
 
 -- the name doesn't exist; inside an Opt-Out span nothing is said of it (RFC 5155, section 6; RFC 8198, section 5.2)
+-- That such a span proves that a name has no DS (RFC 5155, section 8.6) isn't used.
 abbrev pub nsec3_covers : HashParameters → Nsec3Rec → List Label → Bool
 nsec3_covers parameters nsec3 name = not (nsec3_matches parameters nsec3 name) && not nsec3.opt_out

@@ -73,6 +73,7 @@ denial_below held now zone parameters qtype encloser covering = option_and_then
     (nsec3_for held now zone parameters encloser)
 
 -- the record covers the next closer name: the encloser's wildcard answers (RFC 5155, section 8.8), or is denied
+-- hashes keep no order of names: that the name itself is covered says nothing of the next closer name
 abbrev pub by_cover :
     Held → ℕ → List Label → HashParameters → ℕ → List Label → List Label → Nsec3Rec → Option Proof
 by_cover held now zone parameters qtype next_closer encloser covering =

@@ -28,7 +28,8 @@ denial_by held now zone kind denials =
     option_map (λ soa. record { kind = kind; answer = None; soa = Some soa; denials = denials })
     (usable_soa held now zone)
 
--- NSEC records of one chain, each once; two with one arc are one record
+-- NSEC records of one chain, each once; two with one arc are one record. By the owner alone, the one that is left out
+-- could be that which the proof rests on.
 abbrev pub same_nsec_arc : NsecRec → NsecRec → Bool
 same_nsec_arc nsec other = same_name nsec.owner other.owner && same_name nsec.next other.next
 

@@ -1,4 +1,4 @@
--- What the plain program's values are, in the words of the definitions.
+-- No public clause cites this module. What the plain program's values are, in the words of the definitions.
 use Rattle.std.specs.Prelude.{List, [], ◌∷◌, map, Some, None}
 use Rattle.std.specs.Arc.{arc_value}
 use Rattle.std.specs.declared.sync.Arc.{Arc}

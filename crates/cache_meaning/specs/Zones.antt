@@ -34,7 +34,8 @@ abbrev pub candidates : List Label → ℕ → List (List Label)
 candidates name qtype =
     if qtype == DS_TYPE then drop 1 (self_and_above name) else self_and_above name
 
--- the longest of them that is the zone of a held record
+-- the longest of them that is the zone of a held record, also of one that has expired: a shorter zone knows nothing of
+-- a zone that was there
 abbrev pub zone_for : Held → List Label → ℕ → Option (List Label)
 zone_for held name qtype =
     find (λ zone. list_any (λ item. same_name (zone_of item) zone) held.records)

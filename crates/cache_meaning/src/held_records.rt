@@ -17,7 +17,7 @@ use std::marker::Model;
 use std::sync::Arc;
 
 /// The records that a cache holds at most.
-const MOST_RECORDS: usize = 131_072;
+pub const MOST_RECORDS: usize = 131_072;
 
 /// Records in the order in which they came, and the chains that they are of, the newest first. Equal records of two states
 /// are one value with two owners.

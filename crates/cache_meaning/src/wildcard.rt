@@ -27,6 +27,6 @@ pub(crate) fn source_of(covering: &KeptNsec, name: &Name) -> Name
 {
     wildcard_below(
         name,
-        &common_encloser(name, &covering.owner().name(), &covering.next().name()),
+        &common_encloser(name, &covering.owner(), &covering.next()),
     )
 }

@@ -9,6 +9,7 @@ use lib.ListN.{get_elem?}
 use prog.Atomic.{either}
 use Rattle.atomic_table.specs.Table.{State, step, Act, keeps, Valid, carried_after, stepped, Allows, Splits, Joins, Enters}
 use Rattle.atomic_table.proofs.Lists.{at_set, at_snoc, set_again}
+use Rattle.tied_lock.proofs.Keeps.{word_set}
 use Rattle.cache_versions.specs.declared.hand.InHand.{InHand}
 use Rattle.cache_versions.specs.Hands.{times, OnceBelow, in_hand, both_in_hand, DealtOnce, Deals, Comes, Holder, AreAllBelow}
 
@@ -60,10 +61,6 @@ each_more n k all other before after once (inr one) sum = (
   (λ lt. let o = once.0 (let ne = one.0 in omega arith) in omega (arith, one.1)),
   (λ le. let z = once.1 (omega arith) in omega (arith, one.1)),
 )
-
-word_set : (ws : List ℕ) (n : ℕ) → length ws ≡ 1 → slice_index (set ws 0 n) 0 ≡ n
-word_set [] n e = absurd (omega arith)
-word_set (x ∷ xs) n e = refl
 
 word_kept : (ws : List ℕ) → length ws ≡ 1 → set ws 0 (slice_index ws 0) ≡ ws
 word_kept [] e = absurd (omega arith)

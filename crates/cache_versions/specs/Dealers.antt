@@ -1,4 +1,4 @@
--- What a clause reads of a dealer and of a hand.
+-- No public clause cites this module: what a clause reads of a dealer and of a hand.
 use Rattle.std.specs.Prelude.{◌≡◌, ℕ, List, []}
 use Rattle.atomic_table.specs.Seated.{TableId}
 use Rattle.atomic_table.specs.declared.shared.Seat.{Seat}

@@ -1,4 +1,4 @@
--- What a clause reads of a desk, and of a version that is not published yet.
+-- No public clause cites this module: what a clause reads of a desk, and of a version that is not published yet.
 use Rattle.std.specs.Prelude.{◌≡◌, ℕ, ◌+◌, ◌∷◌, [], ◌++◌}
 use Rattle.std.specs.Arc.{arc_value}
 use Rattle.logbook.specs.declared.tokens.Seen.{Seen}

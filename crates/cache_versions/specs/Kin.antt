@@ -1,4 +1,4 @@
--- What a clause reads of a version, and the rule of the published one.
+-- No public clause cites this module: what a clause reads of a version, and the rule of the published one.
 use Rattle.std.specs.Prelude.{◌≡◌, ℕ, ◌≤◌, List, [], ◌∷◌, All, length, fold}
 use mathlib.Core.Option.{some}
 use mathlib.Core.List.{IsPrefix}

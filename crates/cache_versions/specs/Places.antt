@@ -1,4 +1,4 @@
--- What an insert answers, by the version that it met.
+-- No public clause cites this module: what an insert answers, by the version that it met.
 use Rattle.std.specs.Prelude.{◌≡◌, ℕ, ◌+◌, ◌<◌, Some, None, [], ◌∷◌, ◌++◌}
 use Rattle.std.specs.Prelude.{MatchResult}
 use Rattle.std.specs.declared.result.Result.{Result}

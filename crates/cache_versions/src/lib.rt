@@ -1,4 +1,8 @@
-//! Published versions of a state, which threads read without waiting.
+//! Published versions of a state. Threads read the newest one without waiting, and place batches behind it under a lock, each
+//! from a seat of its own, which keeps what it has seen and the places of its batches.
+//!
+//! Public clauses cite, in reading order, `Seats`, `Lends`, `Shares`, `Rows`, `Inserts`, `Faults`, `Closes` and, for places,
+//! `Hands`. Specs of the inner steps, in reading order: `Book`, `Kin`, `Desks`, `Places`, `Dealers`.
 #![tactic(auto)]
 
 mod book;

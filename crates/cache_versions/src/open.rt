@@ -11,6 +11,7 @@ use crate::book::{Head, open_book};
 use crate::dealer::Dealer;
 use crate::desk::Pen;
 use crate::hand::Hand;
+use crate::never::never;
 use crate::place::owned;
 use crate::rule::{Copies, Meet, Replaces};
 use crate::seat::{Held, Seat};
@@ -44,7 +45,8 @@ pub(crate) fn first_version<S: State>(
     Ok((head, Held { recorded }))
 }
 
-// The first publication. With it the writer has taken what memory its operations need.
+// The first publication. With it the writer has taken what memory its operations need. It waits for ever where `left_right` doesn't
+// publish, which no run shows.
 fn meet<S: State, R: Wait>(
     rt: &R,
     writer: Pen<S>,
@@ -61,13 +63,12 @@ fn meet<S: State, R: Wait>(
         return Err(AllocError);
     }
     let (writer, done) = writer.publish_as::<Meet, R>(rt);
-    match done {
-        Ok(()) => Ok(writer),
-        Err(_) => {
-            writer.take(rt);
-            Err(AllocError)
-        }
+    if done.is_err() {
+        writer.take(rt);
+        never(rt);
+        unreachable!()
     }
+    Ok(writer)
 }
 
 /// A writer that knows the version, which it publishes.
@@ -88,8 +89,10 @@ pub(crate) fn open_writer<S: State, R: Wait>(
     meet(rt, writer, first)
 }
 
-// A seat that has seen the version which the writer knows.
-fn make_seat<S: State>(
+// A seat that has seen the version which the writer knows. It waits for ever where `left_right` has no place for a reader, which no
+// run shows: it has as many as there are seats.
+fn make_seat<S: State, R: Wait>(
+    rt: &R,
     alloc: Global,
     writer: &mut Pen<S>,
     held: &Held<S>,
@@ -104,7 +107,10 @@ fn make_seat<S: State>(
     ensures seat { IfOk result (IsMadeWith held.now.recorded hand.table_id) }
 {
     let held = held.again()?;
-    let mut reader = writer.factory().reader()?;
+    let Ok(mut reader) = writer.factory().reader() else {
+        never(rt);
+        unreachable!()
+    };
     reader.learn::<Replaces>(writer.tell::<Copies>());
     Ok(Seat {
         number,
@@ -116,7 +122,8 @@ fn make_seat<S: State>(
 }
 
 /// Seats that have seen the version which the writer knows, by their numbers.
-pub(crate) fn make_seats<S: State>(
+pub(crate) fn make_seats<S: State, R: Wait>(
+    rt: &R,
     alloc: Global,
     writer: &mut Pen<S>,
     held: &Held<S>,
@@ -136,7 +143,7 @@ pub(crate) fn make_seats<S: State>(
     let mut made = Vec::new(alloc);
     for number in 0..seats {
         let hand = dealer.cut(&mut all);
-        let seat = make_seat(alloc, writer, held, hand, number)?;
+        let seat = make_seat(rt, alloc, writer, held, hand, number)?;
         made.push(seat)?;
     }
     Ok(made)

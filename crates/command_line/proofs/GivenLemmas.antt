@@ -3,6 +3,7 @@ use Rattle.std.proofs.Common.{◌≡◌, ◌<◌, ◌+◌, ℕ, zero, suc, ◌&&
 use Rattle.std.specs.List.{list_any}
 use Rattle.std.specs.Str.{bytes_eq}
 use Rattle.std.proofs.lemmas.Bool.{false≢true, or_parts}
+use Rattle.facts.proofs.Lists.{same_head, same_tail}
 use Rattle.clap.specs.Words.{HasKind, HasMatchesOf, found_of, is_simple, kind_of, with_rule}
 use Rattle.clap.specs.Walk.{Row, rows_of, settled}
 use Rattle.clap.specs.Simple.{App, built, matches_of}
@@ -19,18 +20,6 @@ use Rattle.command_line.proofs.LexerLemmas.{equal, same}
 use Rattle.command_line.proofs.BuildLemmas.{AllGiven, AllLooked, built_option, end_of, faultless, options, passes, rows_are, simple_and_free}
 use Rattle.command_line.proofs.SoundLemmas.{AllGood, Apart, Distinct, Given, all_given, name_in, names_of, text_in}
 use Rattle.command_line.proofs.FullLemmas.{AllDone, IsKnown, Ready, all_read}
-
--- ---- lists
-
-same_head : {X : Type 0} (x y : X) (xs ys : List X) → x ∷ xs ≡ y ∷ ys → x ≡ y
-same_head x y xs ys e = ap (λ l. get_or l 0 x) e
-
-same_tail : {X : Type 0} (x y : X) (xs ys : List X) → x ∷ xs ≡ y ∷ ys → xs ≡ ys
-same_tail x y xs ys e = ap tail e
-  where
-    tail : {X : Type 0} → List X → List X
-    tail [] = []
-    tail (x ∷ xs) = xs
 
 -- ---- the names of the settings
 

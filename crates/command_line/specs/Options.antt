@@ -1,4 +1,4 @@
--- The options of a command as `clap` knows them, and what it found for each.
+-- No public clause cites this module. The options of a command as `clap` knows them, and what it found for each.
 use Rattle.std.specs.Prelude.{ℕ, ◌==◌, ◌&&◌, Bool, true, not, List, [], ◌∷◌, map, drop, codes, Some, unwrap_or}
 use Rattle.std.specs.List.{list_any}
 use Rattle.std.specs.Str.{bytes_eq}

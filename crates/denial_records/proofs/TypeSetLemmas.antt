@@ -1,10 +1,13 @@
 -- Reading type bit maps block by block, and what the blocks that are left say of a type.
-use Rattle.std.proofs.Common.{◌≡◌, ◌≢◌, ◌⊎◌, ℕ, ◌+◌, ◌*◌, ◌/◌, ◌%◌, ◌^◌, ◌<◌, ◌≤◌, zero, suc, Bool, true, false, not, cond, eqb, bit_and, List, [], ◌∷◌, ◌++◌, length, take, drop, get_or, map, filter, Contains, Decides, refl, sym, ◌∙◌, ap, subst, arith, inl, inr, length-append}
+use Rattle.std.proofs.Common.{◌≡◌, ◌≢◌, ◌⊎◌, ℕ, ◌+◌, ◌*◌, ◌/◌, ◌%◌, ◌^◌, ◌<◌, ◌≤◌, zero, suc, Bool, true, false, not, eqb, bit_and, List, [], ◌∷◌, ◌++◌, length, take, drop, get_or, Contains, Decides, refl, sym, ◌∙◌, ap, subst, arith, inl, inr, length-append}
 use Rattle.std.specs.List.{range_with_len}
 use Rattle.std.proofs.lemmas.List.{take_at, drop_at, get_or_past, nil_from_length}
 use Rattle.std.proofs.lemmas.List.Elements.{Contains-append_left, Contains-append_right, Contains-append_cases}
 use Rattle.std.proofs.lemmas.Nat.{and_le_l}
 use Rattle.std.proofs.lemmas.Bool.{eq-eqb, eqb-true, cases_lt, true≢false}
+use Rattle.facts.proofs.Lists.{here, there, here_or_there, nothing_in}
+use Rattle.facts.proofs.Filters.{kept, was_kept}
+use Rattle.facts.proofs.Maps.{into_map, from_map}
 use Rattle.denial_records.specs.TypeSet.{Block, map_of, AreBlocksFrom, has_bit, bits_of, types_of_block, types_of, IsTypeMap, blocks_within, types_in, BeginsWith}
 
 -- ---- blocks give their octets, and octets their blocks
@@ -109,63 +112,10 @@ map_from_forms octets forms = (types_of forms.blocks, record { blocks = forms.bl
 pub forms_from_map : (octets types : List ℕ) → IsTypeMap octets types → FormsFrom 0 octets
 forms_from_map octets types is = record { blocks = is.blocks; written = is.written; formed = is.formed }
 
--- ---- what stands in a list
-
-here : {X : Type 0} (x : X) (xs : List X) → Contains (x ∷ xs) x
-here x xs = (0, omega arith, refl)
-
-there : {X : Type 0} (y : X) (xs : List X) (x : X) → Contains xs x → Contains (y ∷ xs) x
-there y xs x h = (suc h.0, omega (arith, h.1), h.2)
-
-here_or_there : {X : Type 0} (y : X) (xs : List X) (x : X) → Contains (y ∷ xs) x → (y ≡ x) ⊎ Contains xs x
-here_or_there y xs x (zero, within, is) = inl is
-here_or_there y xs x (suc k, within, is) = inr (k, omega arith, is)
-
-nowhere : {X : Type 0} (x : X) → Contains [] x → ⊥
-nowhere x h = omega (arith, h.1)
-
-in_map : (f : ℕ → ℕ) (xs : List ℕ) (y : ℕ) → Contains (map f xs) y → (x : ℕ) × (Contains xs x) × (f x ≡ y)
-in_map f [] y h = absurd (nowhere y h)
-in_map f (x ∷ xs) y h = elim (here_or_there (f x) (map f xs) y h) [
-  | inl is ↦ (x, here x xs, is)
-  | inr h ↦ (let more = in_map f xs y h in (more.0, there x xs more.0 more.1, more.2))
-]
-
-to_map : (f : ℕ → ℕ) (xs : List ℕ) (x : ℕ) → Contains xs x → Contains (map f xs) (f x)
-to_map f [] x h = absurd (nowhere x h)
-to_map f (y ∷ xs) x h = elim (here_or_there y xs x h) [
-  | inl is ↦ subst (λ z. Contains (f y ∷ map f xs) (f z)) is (here (f y) (map f xs))
-  | inr h ↦ there (f y) (map f xs) (f x) (to_map f xs x h)
-]
-
-in_cond : (b : Bool) (y : ℕ) (ys : List ℕ) (x : ℕ) → Contains (cond b (y ∷ ys) ys) x → ((b ≡ true) × (y ≡ x)) ⊎ Contains ys x
-in_cond true y ys x h = elim (here_or_there y ys x h) [ inl is ↦ inl (refl, is) | inr h ↦ inr h ]
-in_cond false y ys x h = inr h
-
-here_cond : (b : Bool) (y : ℕ) (ys : List ℕ) → b ≡ true → Contains (cond b (y ∷ ys) ys) y
-here_cond true y ys is = here y ys
-here_cond false y ys is = cc
-
-there_cond : (b : Bool) (y : ℕ) (ys : List ℕ) (x : ℕ) → Contains ys x → Contains (cond b (y ∷ ys) ys) x
-there_cond true y ys x h = there y ys x h
-there_cond false y ys x h = h
-
-in_filter : (p : ℕ → Bool) (xs : List ℕ) (x : ℕ) → Contains (filter p xs) x → Contains xs x × (p x ≡ true)
-in_filter p [] x h = absurd (nowhere x h)
-in_filter p (y ∷ xs) x h = elim (in_cond (p y) y (filter p xs) x h) [
-  | inl both ↦ (subst (Contains (y ∷ xs)) both.1 (here y xs), sym (ap p both.1) ∙ both.0)
-  | inr h ↦ (let more = in_filter p xs x h in (there y xs x more.0, more.1))
-]
-
-to_filter : (p : ℕ → Bool) (xs : List ℕ) (x : ℕ) → Contains xs x → p x ≡ true → Contains (filter p xs) x
-to_filter p [] x h passes = absurd (nowhere x h)
-to_filter p (y ∷ xs) x h passes = elim (here_or_there y xs x h) [
-  | inl is ↦ subst (Contains (cond (p y) (y ∷ filter p xs) (filter p xs))) is (here_cond (p y) y (filter p xs) (ap p is ∙ passes))
-  | inr h ↦ there_cond (p y) y (filter p xs) x (to_filter p xs x h passes)
-]
+-- ---- what stands in a range
 
 in_range : (a n x : ℕ) → Contains (range_with_len a n) x → (a ≤ x) × (x < a + n)
-in_range a zero x h = absurd (nowhere x h)
+in_range a zero x h = absurd (nothing_in x h)
 in_range a (suc n) x h = elim (here_or_there a (range_with_len (a + 1) n) x h) [
   | inl is ↦ (omega (arith, is), omega (arith, is))
   | inr h ↦ (let more = in_range (a + 1) n x h in (omega (arith, more.0), omega (arith, more.1)))
@@ -196,8 +146,8 @@ bit_within bitmap bit is = elim (cases_lt bit (8 * length bitmap)) [
 
 in_block : (window : ℕ) (bitmap : List ℕ) (t : ℕ) → length bitmap ≤ 32 → Contains (types_of_block (record { window = window; bitmap = bitmap })) t → (window ≡ t / 256) × (has_bit bitmap (t % 256) ≡ true)
 in_block window bitmap t short h =
-    let found = in_map (λ bit. 256 * window + bit) (bits_of bitmap) t h in
-    let set = in_filter (has_bit bitmap) (range_with_len 0 (8 * length bitmap)) found.0 found.1 in
+    let found = from_map (λ bit. 256 * window + bit) (bits_of bitmap) t h in
+    let set = was_kept (has_bit bitmap) (range_with_len 0 (8 * length bitmap)) found.0 found.1 in
     let within = in_range 0 (8 * length bitmap) found.0 set.0 in
     let bit : found.0 ≡ t % 256 = omega (arith, found.2, within.1, short) in
     (omega (arith, found.2, within.1, short), subst (λ b. has_bit bitmap b ≡ true) bit set.1)
@@ -205,13 +155,13 @@ in_block window bitmap t short h =
 to_block : (window : ℕ) (bitmap : List ℕ) (t : ℕ) → window ≡ t / 256 → has_bit bitmap (t % 256) ≡ true → Contains (types_of_block (record { window = window; bitmap = bitmap })) t
 to_block window bitmap t same set =
     let within : t % 256 < 8 * length bitmap = bit_within bitmap (t % 256) set in
-    let found = to_filter (has_bit bitmap) (range_with_len 0 (8 * length bitmap)) (t % 256) (to_range 0 (8 * length bitmap) (t % 256) (omega arith) (omega (arith, within))) set in
+    let found = kept (has_bit bitmap) (range_with_len 0 (8 * length bitmap)) (t % 256) (to_range 0 (8 * length bitmap) (t % 256) (omega arith) (omega (arith, within))) set in
     let is : 256 * window + t % 256 ≡ t = omega (arith, same) in
-    subst (Contains (types_of_block (record { window = window; bitmap = bitmap }))) is (to_map (λ bit. 256 * window + bit) (bits_of bitmap) (t % 256) found)
+    subst (Contains (types_of_block (record { window = window; bitmap = bitmap }))) is (into_map (λ bit. 256 * window + bit) (bits_of bitmap) (t % 256) found)
 
 -- types are in windows at or after the first block's
 in_blocks : (least : ℕ) (blocks : List Block) (t : ℕ) → AreBlocksFrom least blocks → Contains (types_of blocks) t → least ≤ t / 256
-in_blocks least [] t formed h = absurd (nowhere t h)
+in_blocks least [] t formed h = absurd (nothing_in t h)
 in_blocks least (block ∷ rest) t formed h = elim (Contains-append_cases (types_of_block block) (types_of rest) t h) [
   | inl h ↦ omega (arith, formed.0, (in_block block.window block.bitmap t formed.1.short h).0)
   | inr h ↦ omega (arith, formed.0, in_blocks (block.window + 1) rest t formed.2 h)
@@ -297,7 +247,7 @@ look_past types t rest window bitmap after left begins other =
     }
 
 none_left : (least : ℕ) (rest : List ℕ) (blocks : List Block) (t : ℕ) → rest ≡ map_of blocks → AreBlocksFrom least blocks → ((window : ℕ) (bitmap after : List ℕ) → ¬ BeginsWith 0 rest window bitmap after) → Contains (types_of blocks) t → ⊥
-none_left least rest [] t written formed none h = nowhere t h
+none_left least rest [] t written formed none h = nothing_in t h
 none_left least rest (block ∷ blocks) t written formed none h =
     none block.window block.bitmap (map_of blocks) (record { spelled = written; rises = omega arith; formed = formed.1 })
 

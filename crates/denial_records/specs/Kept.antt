@@ -1,22 +1,28 @@
 -- What the strings of a kept record say. A name is kept as its wire form, types as their type bit maps, and a set's items
 -- as one string that is packed itself. The signatures come last.
-use Rattle.std.specs.Prelude.{◌≡◌, ℕ, ◌+◌, ◌<◌, ◌≤◌, zero, suc, Bool, List, [], ◌∷◌, length, drop, get_or, slice_index_or}
+use Rattle.std.specs.Prelude.{◌≡◌, ℕ, ◌+◌, ◌-◌, ◌^◌, ◌<◌, ◌≤◌, nat_lt, if◌then◌else◌, zero, suc, Bool, List, [], ◌∷◌, length, drop, get_or, slice_index_or}
 use Rattle.dname.specs.Name.{labels_of, IsWire}
-use Rattle.dname.specs.Pack.{pieces_of, IsPacked}
+use Rattle.dname.specs.Pack.{head_of, pieces_of, IsPacked}
 use Rattle.denial_records.specs.TypeSet.{types_in, IsKept}
 use Rattle.denial_records.specs.declared.set_rec.SetRec.{SetRec}
 use Rattle.denial_records.specs.declared.nsec_rec.NsecRec.{NsecRec}
 use Rattle.denial_records.specs.declared.nsec3_rec.Nsec3Rec.{Nsec3Rec}
 
--- how many octets the first so many strings take in a pack, each with the three of its length
+-- how many octets the first so many strings take in a pack, each with those of its length
 abbrev pub octets_before : ℕ → List (List ℕ) → ℕ
 octets_before zero pieces = 0
 octets_before (suc count) [] = 0
-octets_before (suc count) (piece ∷ rest) = suc (suc (suc (length piece + octets_before count rest)))
+octets_before (suc count) (piece ∷ rest) =
+    length (head_of (length piece)) + (length piece + octets_before count rest)
+
+-- an offset as it is kept: the greatest number of 32 bits where it has no place in them
+abbrev pub kept_offset : ℕ → ℕ
+kept_offset offset = if nat_lt offset (2 ^ 32 - 1) then offset else 2 ^ 32 - 1
 
 -- the first so many offsets are where the strings behind the first, the second and so on begin
 abbrev pub HasOffsets : ℕ → List ℕ → List (List ℕ) → Type 0
-HasOffsets count offsets pieces = (i : ℕ) → i < count → get_or offsets i 0 ≡ octets_before (suc i) pieces
+HasOffsets count offsets pieces =
+    (i : ℕ) → i < count → get_or offsets i 0 ≡ kept_offset (octets_before (suc i) pieces)
 
 -- the string at a place
 abbrev pub piece_at : List (List ℕ) → ℕ → List ℕ

@@ -42,7 +42,7 @@ impl KeptNsec {
         Ok(KeptNsec {
             expiry: nsec.expiry,
             life: nsec.life,
-            strings: KeptStrings::of(pack)?,
+            strings: KeptStrings::of(pack),
         })
     }
 

@@ -49,7 +49,7 @@ impl KeptNsec3 {
             opt_out: nsec3.opt_out,
             hash: nsec3.hash,
             next: nsec3.next,
-            strings: KeptStrings::of(pack)?,
+            strings: KeptStrings::of(pack),
         })
     }
 

@@ -43,7 +43,7 @@ impl KeptSet {
             expiry: set.expiry,
             life: set.life,
             rtype: set.rtype,
-            strings: KeptStrings::of(pack)?,
+            strings: KeptStrings::of(pack),
         })
     }
 

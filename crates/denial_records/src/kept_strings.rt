@@ -1,15 +1,17 @@
 ghost use Rattle.std.specs.Prelude.{◌≡◌, ◌+◌, ◌<◌, ◌≤◌, length, drop, IfOk};
+ghost use Rattle.dname.specs.Pack.{head_of};
 ghost use Rattle.dname.specs.Name.{labels_of, IsWire};
 ghost use Rattle.denial_records.specs.TypeSet.{types_in, IsKept};
-ghost use Rattle.denial_records.specs.Kept.{piece_at, HasOffsets};
+ghost use Rattle.denial_records.specs.Kept.{piece_at, kept_offset, HasOffsets};
 
 use crate::LentTypes;
 use dname::{LentName, OutOfMemory, Pack, Packed, octets_from};
-use std::alloc::{AllocError, Global};
+use std::alloc::Global;
 use std::marker::Model;
 
 /// The strings of a kept record, seen as their list. Beside them lie the offsets at which those at places 1 to `N` begin, so
-/// that a string is read without those before it.
+/// that a string is read without those before it. An offset that has no place in 32 bits is the greatest number of them, and
+/// the strings behind it are gone through.
 #[derive(Debug, Drop)]
 pub(crate) struct KeptStrings<const N: usize> {
     offsets: [u32; N],
@@ -28,12 +30,12 @@ impl<const N: usize> Model for KeptStrings<N> {
 }
 
 impl<const N: usize> KeptStrings<N> {
-    /// The strings of the pack. Offsets that have no place in 32 bits count as want of memory.
-    pub(crate) fn of(pack: Pack) -> Result<KeptStrings<N>, OutOfMemory>
-        ensures { IfOk result (λ strings. strings ≡ pack) }
+    /// The strings of the pack.
+    pub(crate) fn of(pack: Pack) -> KeptStrings<N>
+        ensures { result ≡ pack }
     {
-        let offsets = offsets_in(&pack)?;
-        Ok(KeptStrings { offsets, pack })
+        let offsets = offsets_in(&pack);
+        KeptStrings { offsets, pack }
     }
 
     /// Equal strings.
@@ -56,7 +58,11 @@ impl<const N: usize> KeptStrings<N> {
         if count == 0 {
             return Packed::of(octets);
         }
-        Packed::of(octets_from(octets, self.offsets[count - 1] as usize))
+        let offset = self.offsets[count - 1];
+        if offset == u32::MAX {
+            return Packed::of(octets).behind(count);
+        }
+        Packed::of(octets_from(octets, offset as usize))
     }
 
     /// The string at place `i`.
@@ -93,28 +99,30 @@ impl<const N: usize> KeptStrings<N> {
 }
 
 // Where the strings behind the first, the second and so on begin.
-fn offsets_in<const N: usize>(pack: &Pack) -> Result<[u32; N], OutOfMemory>
-    ensures { IfOk result (λ offsets. HasOffsets N offsets pack.now) }
+fn offsets_in<const N: usize>(pack: &Pack) -> [u32; N]
+    ensures { HasOffsets N result pack.now }
 {
     let mut offsets = [0; N];
     let mut rest = pack.packed();
     let mut offset = 0;
     'strings: for i in 0..N {
         if let Some(piece) = rest.next() {
-            offset = offset_behind(offset, piece)?;
+            offset = offset_behind(offset, piece);
         }
         offsets[i] = offset;
     }
-    Ok(offsets)
+    offsets
 }
 
 // Where the string behind one that begins at the offset begins.
-fn offset_behind(offset: u32, piece: &[u8]) -> Result<u32, OutOfMemory>
-    ensures { IfOk result (λ behind. behind ≡ offset + (3 + length piece.now)) }
+fn offset_behind(offset: u32, piece: &[u8]) -> u32
+    ensures { result
+        ≡ kept_offset (offset + (length (head_of (length piece.now)) + length piece.now)) }
 {
-    let size = piece.len();
-    if size > 0xFF_FFFF {
-        return Err(AllocError);
+    let behind = u64::from(offset) + Pack::room_of(piece) as u64;
+    if behind < u64::from(u32::MAX) {
+        behind as u32
+    } else {
+        u32::MAX
     }
-    offset.checked_add(3 + size as u32).ok_or(AllocError)
 }

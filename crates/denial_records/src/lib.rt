@@ -19,8 +19,6 @@ mod record;
 mod record_list;
 mod rrsig;
 mod set_rec;
-#[cfg(test)]
-mod tests;
 mod time_left;
 mod type_set;
 mod verdict;

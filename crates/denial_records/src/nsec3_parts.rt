@@ -106,6 +106,3 @@ fn hash_at(octets: &[u8], at: usize) -> [u8; HASH_OCTETS]
     hash.copy_from_slice(octets_between(octets, at, at + HASH_OCTETS));
     hash
 }
-
-#[cfg(test)]
-mod tests;

@@ -53,6 +53,3 @@ impl NsecParts {
         }
     }
 }
-
-#[cfg(test)]
-mod tests;

@@ -73,6 +73,3 @@ impl RecordList {
         Arc::try_clone(&self.records[i])
     }
 }
-
-#[cfg(test)]
-mod tests;

@@ -69,6 +69,3 @@ impl Rrsig {
         }
     }
 }
-
-#[cfg(test)]
-mod tests;

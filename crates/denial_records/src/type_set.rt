@@ -196,6 +196,3 @@ fn has_bit(bitmap: &[u8], bit: usize) -> bool
         None => false,
     }
 }
-
-#[cfg(test)]
-mod tests;

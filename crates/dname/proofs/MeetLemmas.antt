@@ -12,7 +12,7 @@ use Rattle.dname.specs.Name.{Label, IsLabel, IsName, IsUnder, IsCommon, wire_of,
 use Rattle.dname.specs.Order.{canonical_same}
 use Rattle.dname.specs.Digest.{first_label}
 use Rattle.dname.proofs.DigestLemmas.{past_apex}
-use Rattle.dname.proofs.CommonLemmas.{under_is_longer}
+use Rattle.dname.proofs.UnderLemmas.{under_is_longer}
 use Rattle.dname.proofs.OrderLemmas.{canonical_cmp-append}
 
 abbrev pub IsSome_taken : List Label → Type 0

@@ -1,11 +1,13 @@
--- Canonical order, label by label from the left.
-use Rattle.std.proofs.Common.{◌≡◌, List, [], ◌∷◌, ◌++◌, length, reverse, refl, sym, ◌∙◌, ap, arith}
+-- Canonical order, label by label from the left, and of two names not both ways.
+use Rattle.std.proofs.Common.{◌≡◌, ◌≢◌, List, [], ◌∷◌, ◌++◌, length, reverse, refl, sym, ◌∙◌, ap, arith}
 use Rattle.std.specs.declared.cmp.Ordering.{Ordering}
 use Rattle.std.specs.declared.cmp.Ordering.TheVariants.{Less, Equal, Greater}
 use Rattle.std.specs.Ordering.{ordering_then}
 use Rattle.std.specs.Cmp.Lexicographic.{slice_cmp}
 use Rattle.std.proofs.lemmas.List.{reverse-append, length-reverse}
 use Rattle.dname.specs.Name.{Label, label_cmp, canonical_cmp}
+use Rattle.dname.specs.Order.{canonical_total}
+use Rattle.dname.proofs.ArcLemmas.{not_both_ways}
 
 then-assoc : (a b c : Ordering) → ordering_then (ordering_then a b) c ≡ ordering_then a (ordering_then b c)
 then-assoc Less b c = refl
@@ -25,3 +27,7 @@ pub canonical_cmp-append : (front front' rest rest' : List Label) → length res
 canonical_cmp-append front front' rest rest' long =
     rw (reverse-append front rest, reverse-append front' rest')
     (slice_cmp-append label_cmp (reverse rest) (reverse rest') (reverse front) (reverse front') (length-reverse rest ∙ long ∙ sym (length-reverse rest')))
+
+-- of two names each isn't before the other
+pub not_before : (x y : List Label) → canonical_cmp x y ≡ Less → canonical_cmp y x ≢ Less
+not_before x y less back = not_both_ways canonical_cmp canonical_total x y less back

@@ -1,6 +1,7 @@
 pub mod Arc
 pub mod Digest
 pub mod Name
+pub mod NameData
 pub mod Order
 pub mod Pack
 pub mod Read

@@ -1,9 +1,8 @@
 -- No public clause cites this module: the laws of canonical order that `Ord` asks for. It is total, and equal exactly on
 -- equal names.
-use Rattle.std.specs.Prelude.{◌≡◌, Bool, true, false, List, reverse, nat_eq}
-use Rattle.std.proofs.Common.{refl, sym, ◌∙◌, ap, subst}
-use Rattle.std.specs.declared.cmp.Ordering.{Ordering}
-use Rattle.std.specs.declared.cmp.Ordering.TheVariants.{Less, Equal, Greater}
+use Rattle.std.specs.Prelude.{◌≡◌, List, reverse, nat_eq}
+use Rattle.std.proofs.Common.{sym, ◌∙◌, ap, subst}
+use Rattle.std.specs.declared.cmp.Ordering.TheVariants.{Equal}
 use Rattle.std.specs.Bool.{Decides}
 use Rattle.std.specs.Ordering.{eq_by_cmp, is_eq, as_partial_cmp}
 use Rattle.std.specs.Cmp.{IsTotalOrder, IsPartialOrder, on_total, partial_order_from_total, partial_order_from_own_ties}
@@ -12,6 +11,7 @@ use Rattle.std.specs.FinMap.{slice_cmp-IsAntisymmetric, nat_cmp-IsAntisymmetric}
 use Rattle.std.proofs.lemmas.Cmp.{tied_itself}
 use Rattle.std.proofs.lemmas.Bool.Decides.{same_from_decides}
 use Rattle.std.proofs.lemmas.List.{reverse-reverse}
+use Rattle.facts.proofs.Orderings.{equal_from}
 use Rattle.dname.specs.Name.{Label, canonical_cmp}
 
 -- one of two names comes first, or they are equal; and what comes before comes before all that follows
@@ -28,21 +28,8 @@ canonical_equal x y tie =
 pub canonical_same : (x y : List Label) → x ≡ y → canonical_cmp x y ≡ Equal
 canonical_same x y same = subst (λ z. canonical_cmp x z ≡ Equal) same (tied_itself canonical_total x)
 
-ties : (r : Ordering) → is_eq r ≡ true → r ≡ Equal
-ties Equal h = refl
-ties Less h = ap (λ b. if_so b) h
-  where
-    if_so : Bool → Ordering
-    if_so true = Equal
-    if_so false = Less
-ties Greater h = ap (λ b. if_so b) h
-  where
-    if_so : Bool → Ordering
-    if_so true = Equal
-    if_so false = Greater
-
 cmp_decides : (x y : List Label) → Decides (eq_by_cmp canonical_cmp x y) (x ≡ y)
-cmp_decides x y = (λ h. canonical_equal x y (ties (canonical_cmp x y) h), λ same. ap is_eq (canonical_same x y same))
+cmp_decides x y = (λ h. canonical_equal x y (equal_from (canonical_cmp x y) h), λ same. ap is_eq (canonical_same x y same))
 
 -- `==` is that tie
 pub canonical_ties : (x y : List Label) → pointwise (pointwise nat_eq) x y ≡ eq_by_cmp canonical_cmp x y

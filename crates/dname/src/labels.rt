@@ -66,15 +66,15 @@ impl<'a> Labels<'a> {
 
 /// Where two names meet: their longest common ancestor, and of each name the label in front of it, empty for none.
 #[derive(Drop)]
-pub(crate) struct Meeting<'a> {
+pub(crate) struct Meeting<'a, 'b> {
     pub(crate) rest: Labels<'a>,
     pub(crate) label: &'a [u8],
-    pub(crate) other: &'a [u8],
+    pub(crate) other: &'b [u8],
 }
 
 // Each name loses labels from the left, the one with more octets left first, until the same octets are left of both.
 #[inline(always)]
-pub(crate) fn meet<'a>(mut name: Labels<'a>, mut other: Labels<'a>) -> Meeting<'a>
+pub(crate) fn meet<'a, 'b>(mut name: Labels<'a>, mut other: Labels<'b>) -> Meeting<'a, 'b>
     ensures common { IsCommon name.entry other.entry result.rest }
     ensures order { label_cmp result.label.now result.other.now
         ≡ canonical_cmp name.entry other.entry }

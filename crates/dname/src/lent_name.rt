@@ -1,6 +1,6 @@
 ghost use Rattle.std.specs.Prelude.{◌≡◌, ◌↔◌, IsTrue};
 ghost use Rattle.std.specs.Cmp.Lexicographic.{pointwise};
-ghost use Rattle.dname.specs.Name.{wire_of, labels_of, IsName, IsWire, IsUnder, canonical_cmp};
+ghost use Rattle.dname.specs.Name.{wire_of, labels_of, IsName, IsWire, IsUnder, IsCommon, canonical_cmp};
 
 use crate::Name;
 use crate::labels::{Labels, ends_in, meet};
@@ -54,6 +54,13 @@ impl<'a> LentName<'a> {
         ensures { IsTrue result ↔ IsUnder self.now other.now }
     {
         ends_in(self.all_labels(), other.all_labels())
+    }
+
+    /// The longest common ancestor, possibly one of the two, lent as the name is.
+    pub fn common(&self, other: &LentName<'_>) -> LentName<'a>
+        ensures { IsCommon self.now other.now result }
+    {
+        LentName::of(meet(self.all_labels(), other.all_labels()).rest.wire())
     }
 
     fn all_labels(&self) -> Labels<'a>

@@ -4,6 +4,7 @@
 //! Its specs, in reading order:
 //! - `specs/Name.antt`: what a name is, its wire form, above and below, canonical order
 //! - `specs/Read.antt`: what octets say of a name at their front, and each fault
+//! - `specs/NameData.antt`: the name that octets are, read whole
 //! - `specs/Pack.antt`: strings of octets that lie one behind another
 //! - `specs/Arc.antt`: arcs of the ring that an order makes of its values
 //! - `specs/Digest.antt`: a number that keeps the order of the names under one apex
@@ -17,7 +18,7 @@ mod item_list;
 mod labels;
 mod lent_name;
 mod name;
-mod name_builder;
+mod name_data;
 mod name_fault;
 mod octets;
 mod octets_list;
@@ -36,7 +37,7 @@ pub use boxed_name::BoxedName;
 pub use item_list::ItemList;
 pub use lent_name::LentName;
 pub use name::Name;
-pub use name_builder::{NameBuilder, NameTooLong};
+pub use name_data::{a_name_is_read_whole, name_in, one_name_in};
 pub use name_fault::NameFault;
 pub use octets::{Octets, OutOfMemory};
 pub use octets_list::OctetsList;

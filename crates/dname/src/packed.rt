@@ -1,6 +1,7 @@
-ghost use Rattle.std.specs.Prelude.{◌≡◌, ◌≢◌, ◌<◌, [], ◌∷◌, length, drop, slice_get, Some, MatchOption, IsTrue, ◌↔◌};
-ghost use Rattle.dname.specs.Pack.{pieces_of, IsPacked, BeginsWithPiece};
+ghost use Rattle.std.specs.Prelude.{◌≡◌, ◌≢◌, ◌≤◌, ◌<◌, [], ◌∷◌, length, drop, slice_get, Some, MatchOption, IsTrue, ◌↔◌};
+ghost use Rattle.dname.specs.Pack.{pieces_of, head_size, size_at, IsPacked, BeginsWithPiece};
 
+use crate::pieces::word_at;
 use crate::slices::octets_from;
 use std::marker::Model;
 
@@ -102,13 +103,26 @@ impl<'a> Packed<'a> {
     }
 }
 
-// The string that three octets of length begin, and what follows it.
+// The string at the front, and what follows it.
 fn split_piece(octets: &[u8]) -> (&[u8], &[u8])
     requires packed { IsPacked octets.now }
     requires some { pieces_of octets.now ≢ [] }
     ensures { BeginsWithPiece octets.now result.0.now result.1.now }
 {
+    let (size, rest) = split_head(octets);
+    rest.split_at(size)
+}
+
+// The length at the front, and what follows it.
+fn split_head(octets: &[u8]) -> (usize, &[u8])
+    requires some { 1 ≤ length octets.now }
+    requires head { head_size octets.now ≤ length octets.now }
+    ensures size { result.0 ≡ size_at octets.now }
+    ensures rest { result.1.now ≡ drop (head_size octets.now) octets.now }
+{
+    if octets[0] == 0xFF {
+        return (word_at(octets, 1) as usize, octets_from(octets, 9));
+    }
     let high = usize::from(octets[0]) * 256 + usize::from(octets[1]);
-    let size = high * 256 + usize::from(octets[2]);
-    octets_from(octets, 3).split_at(size)
+    (high * 256 + usize::from(octets[2]), octets_from(octets, 3))
 }

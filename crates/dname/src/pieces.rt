@@ -97,7 +97,7 @@ fn short_cmp(octets: &[u8], others: &[u8], both: usize) -> Ordering
 }
 
 #[inline(always)]
-fn word_at(octets: &[u8], at: usize) -> u64
+pub(crate) fn word_at(octets: &[u8], at: usize) -> u64
     requires { at + 8 ≤ length octets.now }
     ensures { result ≡ big_endian 0 (take 8 (drop at octets.now)) }
 {

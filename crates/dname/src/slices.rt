@@ -35,17 +35,3 @@ pub fn u32_at(octets: &[u8], at: usize) -> u32
 {
     BigEndian::read_u32(octets_from(octets, at))
 }
-
-#[cfg(test)]
-mod tests {
-    use super::*;
-
-    #[test]
-    fn octets_and_numbers_stand_at_their_offsets(rt: HostRuntime) {
-        let octets = b"\x01\x02\x03\x04\x05\x06".as_slice();
-        assert_eq!(rt; octets_from(octets, 4), b"\x05\x06".as_slice());
-        assert_eq!(rt; octets_between(octets, 1, 3), b"\x02\x03".as_slice());
-        assert_eq!(rt; u16_at(octets, 4), 0x0506);
-        assert_eq!(rt; u32_at(octets, 1), 0x0203_0405);
-    }
-}

@@ -120,8 +120,8 @@ impl StoredOctets {
 
     /// Puts both last, or neither.
     pub(crate) fn append(&mut self, head: &[u8], piece: &[u8]) -> Result<(), OutOfMemory>
-        requires head { length head.now ≡ 3 }
-        requires piece { length piece.now < 2 ^ 24 }
+        requires head { length head.now ≤ 9 }
+        requires piece { length piece.now < 2 ^ 63 }
         ensures ok { OnOk result (self.new ≡ self.old ++ (head.now ++ piece.now)) }
         ensures refused { OnErr result (self.new ≡ self.old) }
     {
@@ -144,8 +144,8 @@ impl StoredOctets {
 
 // Puts both last, or neither.
 fn extend(long: &mut Vec<u8>, head: &[u8], piece: &[u8]) -> Result<(), OutOfMemory>
-    requires head { length head.now ≡ 3 }
-    requires piece { length piece.now < 2 ^ 24 }
+    requires head { length head.now ≤ 9 }
+    requires piece { length piece.now < 2 ^ 63 }
     ensures ok { OnOk result (long.new.items ≡ long.old.items ++ (head.now ++ piece.now)) }
     ensures refused { OnErr result (long.new.items ≡ long.old.items) }
 {
@@ -157,8 +157,8 @@ fn extend(long: &mut Vec<u8>, head: &[u8], piece: &[u8]) -> Result<(), OutOfMemo
 // The three one behind another, with room for no more.
 fn joined(alloc: Global, kept: &[u8], head: &[u8], piece: &[u8]) -> Result<Vec<u8>, OutOfMemory>
     requires kept { length kept.now ≤ 200 }
-    requires head { length head.now ≡ 3 }
-    requires piece { length piece.now < 2 ^ 24 }
+    requires head { length head.now ≤ 9 }
+    requires piece { length piece.now < 2 ^ 63 }
     ensures { IfOk result (λ long. long.items ≡ kept.now ++ (head.now ++ piece.now)) }
 {
     let mut long = Vec::with_capacity(alloc, kept.len() + head.len() + piece.len())?;

@@ -56,14 +56,6 @@ impl Wire {
         &self.octets[..usize::from(self.len)]
     }
 
-    /// Lets the last octet go.
-    pub(crate) fn pop(&mut self)
-        requires { 1 ≤ length self.old }
-        ensures { self.new ≡ take (length self.old - 1) self.old }
-    {
-        self.len -= 1;
-    }
-
     pub(crate) fn push(&mut self, octet: u8)
         requires { length self.old < 255 }
         ensures { self.new ≡ self.old ++ octet ∷ [] }

@@ -1,17 +1,9 @@
-//! `dnsreplay`: frames of queries and upstream answers in, frames of what becomes of them out; or datagrams on loopback. `run`
-//! carries the headline; read `specs/Run.antt`, `Serve` and `Status`, then `Words` of `command_line`, and then the specs of
-//! `replay_meaning` and `server`.
+//! `dnsreplay`: frames of queries and upstream answers in, frames of what becomes of them out; or datagrams on loopback. `run` of
+//! `running`, which `main` calls, carries the headline.
 #![tactic(auto)]
 
-mod reading;
-mod replay;
-mod run;
-mod selfrun;
-mod status;
-mod summary;
-
-use crate::status::Status;
 use outside_core::{OpenGate, StreamSink, StreamSource, SystemClock, UdpHarbor};
+use running::{Status, run};
 use std::process::ExitCode;
 use std::{env, io};
 
@@ -21,7 +13,7 @@ fn main(rt: HostRuntime) -> ExitCode {
     let mut harbor = UdpHarbor::over(&rt);
     let clock = SystemClock::over(&rt);
     let status = match words_of(&rt) {
-        Ok(words) => run::run(
+        Ok(words) => run(
             &rt,
             rt.alloc(),
             &words,

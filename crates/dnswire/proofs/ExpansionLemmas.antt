@@ -1,5 +1,5 @@
 -- Names in a message written out run by run, and what is kept of them.
-use Rattle.std.proofs.Common.{◌≡◌, ℕ, ◌+◌, ◌-◌, ◌^◌, ◌<◌, ◌≤◌, List, [], ◌∷◌, ◌++◌, length, take, drop, set, get_or, refl, sym, ◌∙◌, ap, subst, arith, length-append, append_assoc}
+use Rattle.std.proofs.Common.{◌≡◌, ℕ, ◌+◌, ◌-◌, ◌<◌, ◌≤◌, List, [], ◌∷◌, ◌++◌, length, take, drop, set, get_or, refl, sym, ◌∙◌, ap, subst, arith, length-append, append_assoc}
 use Rattle.std.proofs.lemmas.List.{take_at, drop_at, drop-drop, drop-take, length-take-le, length-drop, get_or-set_same, get_or-set_other}
 use Rattle.std.specs.List.{All}
 use Rattle.std.proofs.lemmas.List.Elements.{All-nil, All-cons}
@@ -164,7 +164,6 @@ kept_next message kept at size next place labels k stands fits points =
     let whole : octets_in kept place ≡ written labels ++ wire_of s.0 = w.wire ∙ ap wire_of s.1 ∙ wire-append labels s.0 in
     record {
       within = omega (arith, k.within, fits);
-      small = subst (λ n. n < 2 ^ 32) (omega (arith, fits)) k.small;
       octets = (
         a.stop,
         record {

@@ -131,7 +131,7 @@ one_sections message at answer answer' authority authority' additional additiona
     let third = one q' additional additional' end end' k (subst (λ at. StandInTurn (IsRr message) at additional end) second.ends c) c' in
     record { answers = first.items; authorities = second.items; additionals = third.items }
 
-one_message : (octets : List ℕ) (m m' : Message) → IsMessage octets m → IsMessage octets m' → m ≡ m'
+pub one_message : (octets : List ℕ) (m m' : Message) → IsMessage octets m → IsMessage octets m' → m ≡ m'
 one_message octets m m' a b =
     let same = one_question octets a.header b.header m.name m'.name a.fields b.fields a.question b.question in
     let counts : (f : Header → ℕ) → f a.header ≡ f b.header = λ f. ap f same.headers in
@@ -161,7 +161,7 @@ among_whole octets m fault a f =
 short_fields : (octets : List ℕ) (at : ℕ) (fields : QuestionFields) → AreQuestionFields octets at fields → length octets < at + QUESTION_FIELDS_OCTETS → ⊥
 short_fields octets at fields are short = omega (arith, short, are.end_is, are.within)
 
-no_message : (octets : List ℕ) (m : Message) (fault : WireFault) → IsFaultOf octets fault → IsMessage octets m → ⊥
+pub no_message : (octets : List ℕ) (m : Message) (fault : WireFault) → IsFaultOf octets fault → IsMessage octets m → ⊥
 no_message octets m fault (no_header short is) a = omega (arith, short, a.question.named.head.whole)
 no_message octets m fault (not_one header head many is) a =
     many (ap (λ h. h.questions) (one_header octets header a.header head a.question.named.head) ∙ a.question.named.one)
@@ -219,7 +219,7 @@ after_question octets fault fault' header name fields question f (among header' 
     let same = one_question octets header' header name' name fields' fields question' question in
     one_fault_among octets fields.end f'.before f.before f'.here f.here fault fault' (subst (λ (q : QuestionFields). StandInTurn (IsRr octets) q.end f'.before f'.here) same.fields_same f'.reads) f.reads f'.faulty f.faulty
 
-one_fault : (octets : List ℕ) (fault fault' : WireFault) → IsFaultOf octets fault → IsFaultOf octets fault' → fault ≡ fault'
+pub one_fault : (octets : List ℕ) (fault fault' : WireFault) → IsFaultOf octets fault → IsFaultOf octets fault' → fault ≡ fault'
 one_fault octets fault fault' a (no_header short is) = after_no_header octets fault short a ∙ sym is
 one_fault octets fault fault' a (not_one header head many is) = after_not_one octets fault header head many a ∙ sym is
 one_fault octets fault fault' a (no_name header head one nameless is) = after_no_name octets fault header head one nameless a ∙ sym is

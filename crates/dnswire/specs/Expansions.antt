@@ -1,5 +1,5 @@
 -- No public clause cites this module. Names in a message written out once, and kept by the offsets to which pointers go.
-use Rattle.std.specs.Prelude.{◌≡◌, ℕ, ◌+◌, ◌^◌, ◌<◌, ◌≤◌, List, ◌++◌, length, take, drop, get_or}
+use Rattle.std.specs.Prelude.{◌≡◌, ℕ, ◌+◌, ◌≤◌, List, ◌++◌, length, take, drop, get_or}
 use Rattle.dname.specs.Name.{Label, wire_of}
 use Rattle.dnswire.specs.Data.{IsWrittenOut}
 use Rattle.dnswire.specs.MessageName.{Reads}
@@ -23,7 +23,7 @@ pub record Expands (message : List ℕ) (from to : ℕ) (octets : List ℕ) : Ty
 
 -- nothing is kept
 abbrev pub nowhere : Place
-nowhere = record { start = 4294967295; size = 0 }
+nowhere = record { start = 0; size = 0 }
 
 abbrev pub octets_in : List ℕ → Place → List ℕ
 octets_in kept place = take place.size (drop place.start kept)
@@ -31,7 +31,6 @@ octets_in kept place = take place.size (drop place.start kept)
 -- the place has octets, and they are what is read from the offset on
 pub record IsKept (message kept : List ℕ) (at : ℕ) (place : Place) : Type 0 where
   pub within : place.start + place.size ≤ length kept
-  pub small : place.start + place.size < 2 ^ 32
   pub octets : HasOctets message at (octets_in kept place)
 
 -- by the offset, the places of what is kept; one without octets is none

@@ -1,10 +1,11 @@
 -- The header of a message and its flags (RFC 1035, section 4.1.1). Numbers are big-endian.
-use Rattle.std.specs.Prelude.{◌≡◌, ℕ, ◌/◌, ◌%◌, ◌≤◌, Bool, nat_eq, List, length, drop}
+use Rattle.std.specs.Prelude.{◌≡◌, ℕ, ◌/◌, ◌%◌, ◌≤◌, Bool, ◌&&◌, nat_eq, List, length, drop}
 use Rattle.byteorder.specs.Endian.{big_number}
-use Rattle.dnswire.specs.declared.flags.TheConstants.{QR, RD, AD, CD}
+use Rattle.dnswire.specs.declared.flags.TheConstants.{QR, TC, RD, AD, CD}
 use Rattle.dnswire.specs.declared.header.Header.{Header}
 use Rattle.dnswire.specs.declared.header.TheConstants.{HEADER_OCTETS}
 use Rattle.dnswire.specs.declared.head.Head.{Head}
+use Rattle.dnswire.specs.declared.header_flags.TheConstants.{STANDARD_QUERY}
 
 -- the octets begin with this header: ID, flags, and the numbers of questions and of the records of the three sections
 pub record IsHeader (octets : List ℕ) (header : Header) : Type 0 where
@@ -26,6 +27,14 @@ is_response flags = is_set QR flags
 -- the four bits after QR
 abbrev pub opcode_of : ℕ → ℕ
 opcode_of flags = flags / 0x800 % 16
+
+-- a response to a standard query
+abbrev pub is_answer : ℕ → Bool
+is_answer flags = is_response flags && nat_eq (opcode_of flags) STANDARD_QUERY
+
+-- the message is truncated
+abbrev pub has_tc : ℕ → Bool
+has_tc flags = is_set TC flags
 
 -- recursion is desired
 abbrev pub has_rd : ℕ → Bool

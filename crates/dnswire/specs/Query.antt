@@ -9,7 +9,8 @@ use Rattle.dnswire.specs.RrHead.{RrHead, IsRrHead}
 use Rattle.dnswire.specs.declared.edns.Edns.{Edns}
 use Rattle.dnswire.specs.declared.edns.TheConstants.{DO, LEAST_PAYLOAD}
 use Rattle.dnswire.specs.declared.header.Header.{Header}
-use Rattle.dnswire.specs.declared.header.TheConstants.{HEADER_OCTETS, STANDARD_QUERY}
+use Rattle.dnswire.specs.declared.header.TheConstants.{HEADER_OCTETS}
+use Rattle.dnswire.specs.declared.header_flags.TheConstants.{STANDARD_QUERY}
 use Rattle.dnswire.specs.declared.question.Question.{Question}
 use Rattle.dnswire.specs.declared.question_fields.QuestionFields.{QuestionFields}
 use Rattle.dnswire.specs.declared.query_read.QueryRead.{QueryRead}

@@ -183,6 +183,3 @@ fn append_octets(
     octets.append(octets_between(message, at, at + count))?;
     Ok(Some(at + count))
 }
-
-#[cfg(test)]
-mod tests;

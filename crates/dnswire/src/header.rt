@@ -1,16 +1,12 @@
 ghost use Rattle.std.specs.Prelude.{◌≡◌, ◌≤◌, ◌<◌, length, IfSome, IsNone, Some};
-ghost use Rattle.dnswire.specs.Header.{IsHeader, is_set, is_response, opcode_of, has_rd, has_ad, has_cd, low_rcode, head_of};
+ghost use Rattle.dnswire.specs.Header.{IsHeader, head_of};
 ghost use Rattle.dnswire.specs.declared.header.Header.{Header};
 
-use crate::Head;
-use crate::flags::{AD, CD, QR, RD};
+use crate::{Head, HeaderFlags};
 use dname::u16_at;
 
 /// The octets of a message's header (RFC 1035, section 4.1.1).
 pub(crate) const HEADER_OCTETS: usize = 12;
-
-/// The opcode of a standard query (RFC 1035, section 4.1.1).
-pub(crate) const STANDARD_QUERY: u8 = 0;
 
 /// A message's header (RFC 1035, section 4.1.1).
 #[derive(Clone, Copy, Debug, PartialEq, Eq)]
@@ -44,59 +40,22 @@ impl Header {
         })
     }
 
-    pub(crate) fn is_response(self) -> bool
-        ensures { result ≡ is_response self.flags }
+    pub(crate) fn flags(self) -> HeaderFlags
+        ensures { result ≡ self.flags }
     {
-        is_set(self.flags, QR)
-    }
-
-    pub(crate) fn opcode(self) -> u8
-        ensures { result ≡ opcode_of self.flags }
-    {
-        (self.flags / 0x800 % 16) as u8
-    }
-
-    pub(crate) fn has_rd(self) -> bool
-        ensures { result ≡ has_rd self.flags }
-    {
-        is_set(self.flags, RD)
-    }
-
-    pub(crate) fn has_ad(self) -> bool
-        ensures { result ≡ has_ad self.flags }
-    {
-        is_set(self.flags, AD)
-    }
-
-    pub(crate) fn has_cd(self) -> bool
-        ensures { result ≡ has_cd self.flags }
-    {
-        is_set(self.flags, CD)
-    }
-
-    /// The low four bits of the RCODE.
-    pub(crate) fn low_rcode(self) -> u16
-        ensures { result ≡ low_rcode self.flags }
-    {
-        self.flags % 16
+        HeaderFlags::of(self.flags)
     }
 
     /// What a reply that tells a fault takes over.
     pub(crate) fn head(self) -> Head
         ensures { result ≡ head_of self }
     {
+        let flags = self.flags();
         Head {
             id: self.id,
-            opcode: self.opcode(),
-            rd: self.has_rd(),
-            cd: self.has_cd(),
+            opcode: flags.opcode(),
+            rd: flags.has_rd(),
+            cd: flags.has_cd(),
         }
     }
-}
-
-fn is_set(flags: u16, bit: u16) -> bool
-    requires { 0 < bit }
-    ensures { result ≡ is_set bit flags }
-{
-    flags / bit % 2 == 1
 }

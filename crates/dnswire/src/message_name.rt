@@ -83,6 +83,3 @@ pub(crate) fn is_root_at(message: &[u8], at: usize) -> bool
         None => false,
     }
 }
-
-#[cfg(test)]
-mod tests;

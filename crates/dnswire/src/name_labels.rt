@@ -4,11 +4,11 @@ ghost use Rattle.dnswire.specs.LabelsLeft.{first_of, AreNoneLeft, IsNextLabel, I
 ghost use Rattle.dnswire.specs.MessageName.{BeginsWithLabel, BeginsWithPointer};
 ghost use Rattle.dnswire.specs.NameLabels.{BeginsWithPiece, HasNoPiece, IsStep};
 
-use dname::octets_from;
+use dname::{MAX_WIRE, octets_from};
 use std::marker::Model;
 
-/// The octets of the longest wire form (RFC 1035, section 2.3.4).
-const MAX_WIRE: usize = 255;
+/// So many offsets can a pointer go to (RFC 1035, section 4.1.4).
+pub(crate) const POINTED_OFFSETS: usize = 0x4000;
 
 /// The labels of a name in a message that are still to come, the leftmost first. Pointers are followed (RFC 1035, section
 /// 4.1.4).

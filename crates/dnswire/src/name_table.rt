@@ -1,18 +1,16 @@
-ghost use Rattle.std.specs.Prelude.{[], ◌≡◌, ◌≤◌, ◌+◌, ◌^◌, ◌<◌, ℕ, List, ◌++◌, length, set, get_or, IfOk, IfSome, IfNone, Err};
+ghost use Rattle.std.specs.Prelude.{[], ◌≡◌, ◌≤◌, ◌+◌, ◌<◌, ℕ, List, ◌++◌, length, set, get_or, IfOk, IfSome, IfNone, Err};
 ghost use Rattle.dnswire.specs.Expansions.{HasOctets, IsKept, IsTableOf, octets_in, nowhere};
 ghost use Rattle.dname.specs.Name.{Label};
 ghost use Rattle.dnswire.specs.Runs.{HasNoRoom, IsRunAt, Stand};
 ghost use Rattle.dnswire.specs.declared.name_read.NotRead.{NotRead};
 
 use crate::label_run::Run;
+use crate::name_labels::POINTED_OFFSETS;
 use crate::name_read::{NotRead, append, append_from};
 use crate::run_sizes::run_by;
 use arrayvec::ArrayVec;
 use dname::{MAX_WIRE, octets_between};
 use std::alloc::{AllocError, Global};
-
-/// So many offsets can a pointer go to (RFC 1035, section 4.1.4).
-const POINTED_OFFSETS: usize = 0x4000;
 
 /// For so many octets an offset is room made at first, so that they are seldom moved.
 const OCTETS_AN_OFFSET: usize = 32;
@@ -30,14 +28,11 @@ pub(crate) struct NameTable {
 /// Where octets are kept; a place without octets is none.
 #[derive(Clone, Copy, Debug)]
 pub(crate) struct Place {
-    start: u32,
-    size: u32,
+    start: usize,
+    size: usize,
 }
 
-const NOWHERE: Place = Place {
-    start: u32::MAX,
-    size: 0,
-};
+const NOWHERE: Place = Place { start: 0, size: 0 };
 
 impl NameTable {
     /// The table that keeps nothing. It takes no memory.
@@ -84,8 +79,11 @@ impl NameTable {
         requires { place.start + place.size ≤ length self.now.octets.items }
         ensures { result.now ≡ octets_in self.now.octets.items place }
     {
-        let start = place.start as usize;
-        octets_between(self.octets.as_slice(), start, start + place.size as usize)
+        octets_between(
+            self.octets.as_slice(),
+            place.start,
+            place.start + place.size,
+        )
     }
 
     fn keep(&mut self, at: usize, place: Place)
@@ -101,21 +99,15 @@ impl NameTable {
         ensures octets { IfOk result (λ place.
             (place.start + place.size ≤ length self.new.octets.items)
             × (octets_in self.new.octets.items place ≡ piece.now)
-            × (place.size ≡ length piece.now)
-            × (place.start + place.size < 2 ^ 32)) }
+            × (place.size ≡ length piece.now)) }
         ensures table { (message : List ℕ) → IsTableOf message self.old
             → IsTableOf message self.new }
     {
         let start = self.octets.len();
         self.octets.extend_from_slice(piece)?;
-        let end = self.octets.len();
-        // At most 16,384 names of 255 octets are kept, so it always fits.
-        if end > u32::MAX as usize {
-            return Err(AllocError);
-        }
         Ok(Place {
-            start: start as u32,
-            size: (end - start) as u32,
+            start,
+            size: piece.len(),
         })
     }
 }
@@ -135,7 +127,7 @@ pub(crate) fn place_of(
     ensures table { IsTableOf message.now table.new }
 {
     let known = table.place_at(at);
-    if known.size as usize > room {
+    if known.size > room {
         return Err(NotRead::Faulty);
     }
     if known.size > 0 {
@@ -172,7 +164,7 @@ fn rest_at(
     let mut last_run = at;
     loop {
         let known = table.place_at(start);
-        if known.size as usize > room - octets.len() {
+        if known.size > room - octets.len() {
             return None;
         }
         if known.size > 0 {
@@ -207,7 +199,7 @@ fn remember(message: &[u8], at: usize, whole: Place, last_run: usize, table: &mu
         if start == last_run {
             return;
         }
-        let Some(run) = run_by(message, start, place.size as usize, &mut table.runs) else {
+        let Some(run) = run_by(message, start, place.size, &mut table.runs) else {
             return;
         };
         let Some(next) = run.next else {
@@ -215,8 +207,8 @@ fn remember(message: &[u8], at: usize, whole: Place, last_run: usize, table: &mu
         };
         start = next;
         place = Place {
-            start: place.start + run.size as u32,
-            size: place.size - run.size as u32,
+            start: place.start + run.size,
+            size: place.size - run.size,
         };
     }
 }

@@ -11,8 +11,10 @@ ghost use Rattle.dnswire.specs.declared.query_read.QueryRead.{QueryRead};
 ghost use Rattle.dnswire.specs.declared.question.Question.{Question};
 ghost use Rattle.dnswire.specs.declared.rr_fields.RrFields.{RrFields};
 
-use crate::header::{HEADER_OCTETS, Header, STANDARD_QUERY};
+use crate::header::{HEADER_OCTETS, Header};
+use crate::header_flags::STANDARD_QUERY;
 use crate::message_name::is_root_at;
+use crate::name_labels::POINTED_OFFSETS;
 use crate::name_skip::{NotPassed, skip_name};
 use crate::question::MAX_ASKED;
 use crate::question_fields::QuestionFields;
@@ -46,10 +48,11 @@ pub fn read_query(octets: &[u8]) -> QueryRead
     let Some(header) = Header::read(octets) else {
         return QueryRead::Dropped;
     };
-    if header.is_response() {
+    let flags = header.flags();
+    if flags.is_response() {
         return QueryRead::Dropped;
     }
-    if header.opcode() != STANDARD_QUERY {
+    if flags.opcode() != STANDARD_QUERY {
         return QueryRead::NotImp(header.head());
     }
     let Some((question, version)) = read_question(octets, header) else {
@@ -80,11 +83,12 @@ fn read_question(octets: &[u8], header: Header) -> Option<(Question, u8)>
     let Some(opt) = read_records(octets, fields.end, header) else {
         return None;
     };
+    let flags = header.flags();
     let question = Question {
         id: header.id,
-        rd: header.has_rd(),
-        ad: header.has_ad(),
-        cd: header.has_cd(),
+        rd: flags.has_rd(),
+        ad: flags.has_ad(),
+        cd: flags.has_cd(),
         name,
         asked: copy_of(octets_between(octets, HEADER_OCTETS, fields.end)),
         qtype: fields.qtype,
@@ -110,9 +114,6 @@ struct OptSaid {
     edns: Option<Edns>,
     version: u8,
 }
-
-/// So many offsets can a pointer go to (RFC 1035, section 4.1.4).
-const POINTED_OFFSETS: usize = 0x4000;
 
 // What the records after the question say; none where one can't be read, or there is a second OPT record in the additional
 // section or one of another owner than the root.
@@ -243,6 +244,3 @@ fn opt_said(opt: RrFields) -> OptSaid
         version: (opt.ttl / 0x1_0000 % 0x100) as u8,
     }
 }
-
-#[cfg(test)]
-mod tests;

@@ -1,13 +1,14 @@
 -- The names above a name, in turn.
-use Rattle.std.proofs.Common.{◌≡◌, ◌≢◌, ℕ, get_or, ◌+◌, ◌-◌, ◌≤◌, ◌↔◌, Bool, true, false, List, [], ◌∷◌, ◌++◌, length, drop, refl, sym, ◌∙◌, ap, subst, arith, length-append, length-drop, ◌⊎◌, inl, inr, ⊎_elim}
+use Rattle.std.proofs.Common.{◌≡◌, ◌≢◌, ℕ, get_or, ◌+◌, ◌-◌, ◌≤◌, ◌↔◌, Bool, true, false, List, [], ◌∷◌, ◌++◌, length, drop, refl, sym, ◌∙◌, ap, subst, arith, length-append, length-drop, ◌⊎◌, ⊎_elim}
 use Rattle.std.specs.Prelude.{if◌then◌else◌}
 use Rattle.std.specs.Bool.{Decides}
 use Rattle.std.specs.List.{Contains}
 use Rattle.std.proofs.lemmas.List.{drop_more}
-use Rattle.std.proofs.lemmas.List.Elements.{Contains-append_left, Contains-append_right, Contains-append_cases, Contains-push, Contains-push_cases}
+use Rattle.facts.proofs.Lists.{here, there, here_or_there, nothing_in}
 use Rattle.dname.specs.Name.{Label, IsUnder}
-use Rattle.encloser.specs.Encloser.{is_under, last_labels, IsNextCloser, ancestors}
-use Rattle.encloser.proofs.UnderLemmas.{under_decides, under_itself, under_through, under_longer, under_is_longer, under_drop, longer_is_under}
+use Rattle.dname.specs.Tests.{is_under}
+use Rattle.encloser.specs.Encloser.{last_labels, IsNextCloser, ancestors}
+use Rattle.dname.proofs.UnderLemmas.{under_decides, under_itself, under_through, under_longer, under_is_longer, under_drop, longer_is_under}
 
 -- ---- one ancestor after the other
 
@@ -37,23 +38,14 @@ fewer_labels name labels least enough few apart =
 
 -- ---- which names they are
 
-nowhere : {X : Type 0} (y : X) → Contains [] y → ⊥
-nowhere y in' = omega (arith, in'.1)
-
-first_or_later : {X : Type 0} (x : X) (xs : List X) (y : X) → Contains (x ∷ xs) y → (x ≡ y) ⊎ Contains xs y
-first_or_later x xs y in' = ⊎_elim
-    (λ one. ⊎_elim (λ none. absurd (nowhere y none)) (λ same. inl same) (Contains-push_cases [] x y one))
-    (λ more. inr more)
-    (Contains-append_cases (x ∷ []) xs y in')
-
 -- those of a name are its parent and the parent's, where the apex is above the parent
 module _ (label : Label) (rest apex : List Label) where
   parent_or_above : (other : List Label) → Contains (ancestors (label ∷ rest) apex) other → IsUnder rest apex × ((rest ≡ other) ⊎ Contains (ancestors rest apex) other)
   parent_or_above other = by (is_under rest apex) (under_decides rest apex)
     where
       by : (b : Bool) → Decides b (IsUnder rest apex) → Contains (if b then rest ∷ ancestors rest apex else []) other → IsUnder rest apex × ((rest ≡ other) ⊎ Contains (ancestors rest apex) other)
-      by true d in' = (d.0 refl, first_or_later rest (ancestors rest apex) other in')
-      by false d in' = absurd (nowhere other in')
+      by true d in' = (d.0 refl, here_or_there rest (ancestors rest apex) other in')
+      by false d in' = absurd (nothing_in other in')
 
   in_front : (front : List (List Label)) → ancestors (label ∷ rest) apex ≡ front → front ≢ [] → front ≡ rest ∷ ancestors rest apex
   in_front front = by (is_under rest apex)
@@ -63,7 +55,7 @@ module _ (label : Label) (rest apex : List Label) where
       by false is some = absurd (some (sym is))
 
 are_above : (name apex other : List Label) → Contains (ancestors name apex) other → IsUnder name other × (name ≢ other) × IsUnder other apex
-are_above [] apex other in' = absurd (nowhere other in')
+are_above [] apex other in' = absurd (nothing_in other in')
 are_above (label ∷ rest) apex other in' =
     let h = parent_or_above label rest apex other in' in
     ⊎_elim
@@ -78,8 +70,8 @@ above_are_in : (name apex other : List Label) → IsUnder name other → name �
 above_are_in name apex other under apart within = below name under.0 under.1 apart
   where
     parent : (label : Label) (rest front : List Label) → rest ≡ front ++ other → (rest ≢ other → Contains (ancestors rest apex) other) → Contains (rest ∷ ancestors rest apex) other
-    parent label rest [] is further = subst (λ r. Contains (r ∷ ancestors r apex) other) (sym is) (Contains-append_left (other ∷ []) (ancestors other apex) other (Contains-push [] other))
-    parent label rest (x ∷ front) is further = Contains-append_right (rest ∷ []) (ancestors rest apex) other (further (λ e. omega (arith, ap length is, ap length e, length-append front other)))
+    parent label rest [] is further = subst (λ r. Contains (r ∷ ancestors r apex) other) (sym is) (here other (ancestors other apex))
+    parent label rest (x ∷ front) is further = there rest (ancestors rest apex) other (further (λ e. omega (arith, ap length is, ap length e, length-append front other)))
 
     below : (name front : List Label) → name ≡ front ++ other → name ≢ other → Contains (ancestors name apex) other
     below name [] is apart = absurd (apart is)

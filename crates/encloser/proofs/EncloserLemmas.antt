@@ -7,8 +7,9 @@ use Rattle.std.proofs.lemmas.Bool.Decides.{Decides-or, not_from_Decides, leb_tel
 use Rattle.std.proofs.lemmas.List.Elements.{All-nil, All-cons, All-head, All-drop}
 use Rattle.std.proofs.lemmas.List.Prefix.{end_rest}
 use Rattle.dname.specs.Name.{Label, IsLabel, IsName, IsUnder, IsCommon, asterisk, wire_of}
-use Rattle.encloser.specs.Encloser.{is_under, IsCommonEncloser, longest_with, encloser_of, IsNextCloser, next_closer_of}
-use Rattle.encloser.proofs.UnderLemmas.{under_decides, under_itself, under_root, under_through, under_longer, under_step, longer_is_under, under_both}
+use Rattle.dname.specs.Tests.{is_under}
+use Rattle.encloser.specs.Encloser.{IsCommonEncloser, longest_with, encloser_of, IsNextCloser, next_closer_of}
+use Rattle.dname.proofs.UnderLemmas.{under_decides, under_itself, under_root, under_through, under_longer, under_is_longer, under_step, longer_is_under, under_both}
 
 -- ---- common enclosers
 
@@ -45,7 +46,7 @@ IsAsLong name owner next first second other =
     ((length first ≤ length other) × (length second ≤ length other)) × IsUnder name other × (IsUnder owner other ⊎ IsUnder next other)
 
 -- of the longest common ancestors, the longer
-pub longer_is : (name owner next first second longer : List Label) → IsCommon name owner first → IsCommon name next second → (length second ≤ length first → longer ≡ first) → (length first < length second → longer ≡ second) → IsCommonEncloser name owner next longer
+pub longer_is : (name owner next first second longer : List Label) → IsCommon name owner first → IsCommon name next second → (IsUnder first second → longer ≡ first) → ((IsUnder first second → ⊥) → longer ≡ second) → IsCommonEncloser name owner next longer
 longer_is name owner next first second longer common common' first_is second_is = record {
   above = it.1;
   shared = it.2;
@@ -57,8 +58,12 @@ longer_is name owner next first second longer common common' first_is second_is 
   where
     it : IsAsLong name owner next first second longer
     it = ⊎_elim
-        (λ (h : (leb (length second) (length first) ≡ true) × (length second ≤ length first)). subst (IsAsLong name owner next first second) (sym (first_is h.1)) ((omega arith, h.1), common.first, inl common.second))
-        (λ (h : (leb (length second) (length first) ≡ false) × (length first < length second)). subst (IsAsLong name owner next first second) (sym (second_is h.1)) ((omega (arith, h.1), omega arith), common'.first, inr common'.second))
+        (λ (h : (leb (length second) (length first) ≡ true) × (length second ≤ length first)).
+        let under = longer_is_under name first second common.first common'.first h.1 in
+        subst (IsAsLong name owner next first second) (sym (first_is under)) ((omega arith, h.1), common.first, inl common.second))
+        (λ (h : (leb (length second) (length first) ≡ false) × (length first < length second)).
+        let apart : IsUnder first second → ⊥ = λ under. omega (arith, h.1, under_is_longer first second under) in
+        subst (IsAsLong name owner next first second) (sym (second_is apart)) ((omega (arith, h.1), omega arith), common'.first, inr common'.second))
         (leb_tells (length second) (length first))
 
 -- ---- next closer names

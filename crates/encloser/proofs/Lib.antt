@@ -1,3 +1,2 @@
 pub mod AncestorLemmas
 pub mod EncloserLemmas
-pub mod UnderLemmas

@@ -1,12 +1,7 @@
 -- The names above a name: common enclosers, next closer names and ancestors.
-use Rattle.std.specs.Prelude.{◌≡◌, ◌⊎◌, ◌-◌, ℕ, Bool, ◌||◌, if◌then◌else◌, nat_eq, suc, List, [], ◌∷◌, length, drop}
-use Rattle.std.specs.List.{ends_with}
-use Rattle.std.specs.Cmp.Lexicographic.{pointwise}
+use Rattle.std.specs.Prelude.{◌≡◌, ◌⊎◌, ◌-◌, ℕ, Bool, ◌||◌, if◌then◌else◌, suc, List, [], ◌∷◌, length, drop}
 use Rattle.dname.specs.Name.{Label, IsUnder}
-
--- whether the name is at or below the other
-abbrev pub is_under : List Label → List Label → Bool
-is_under name other = ends_with (pointwise nat_eq) name other
+use Rattle.dname.specs.Tests.{is_under}
 
 -- a name's last labels, so many of them
 abbrev pub last_labels : List Label → ℕ → List Label

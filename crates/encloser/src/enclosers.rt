@@ -1,17 +1,18 @@
-ghost use Rattle.std.specs.Prelude.{◌≡◌, ◌≢◌, ◌<◌, ◌≤◌, ◌↔◌, ◌∷◌, length, IsSome, IfSome};
+ghost use Rattle.std.specs.Prelude.{◌≡◌, ◌≢◌, ◌≤◌, ◌↔◌, ◌∷◌, length, IsSome, IfSome};
 ghost use Rattle.dname.specs.Name.{wire_of, IsUnder, asterisk};
 ghost use Rattle.encloser.specs.Encloser.{IsCommonEncloser, encloser_of, IsNextCloser, next_closer_of};
 
-use dname::Name;
+use dname::{LentName, Name};
 
 /// The longest name that `name` is under, and `owner` or `next` too: the longer of two common ancestors. It is `name`
 /// itself where one of the two is under it. Where the two are the ends of an NSEC that covers `name`, and `name` doesn't
 /// exist, it is the closest encloser (RFC 4592, section 3.3.1).
-pub fn common_encloser(name: &Name, owner: &Name, next: &Name) -> Name
+pub fn common_encloser(name: &Name, owner: &LentName<'_>, next: &LentName<'_>) -> Name
     ensures longest { IsCommonEncloser name.now owner.now next.now result }
     ensures value { result ≡ encloser_of name.now owner.now next.now }
 {
-    longer(name.common(owner), name.common(next))
+    let lent = name.lent();
+    longer(lent.common(owner), lent.common(next)).name()
 }
 
 /// The name of one label more than `encloser` that `name` is at or below (RFC 5155, section 1.3).
@@ -33,13 +34,14 @@ pub fn wildcard_of(encloser: &Name) -> Option<Name>
     encloser.star()
 }
 
-fn longer(first: Name, second: Name) -> Name
-    ensures first { length second ≤ length first → result ≡ first }
-    ensures second { length first < length second → result ≡ second }
+// Of two names above one, the longer.
+fn longer<'a>(first: LentName<'a>, second: LentName<'a>) -> LentName<'a>
+    ensures first { IsUnder first.entry second.entry → result ≡ first.entry }
+    ensures second { (IsUnder first.entry second.entry → ⊥) → result ≡ second.entry }
 {
-    if first.labels() < second.labels() {
-        second
-    } else {
+    if first.is_under(&second) {
         first
+    } else {
+        second
     }
 }

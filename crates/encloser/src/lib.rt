@@ -1,4 +1,8 @@
-//! The names above a name: closest enclosers, their wildcards, next closer names and ancestors (RFC 4592, RFC 5155).
+//! The names above a name: closest enclosers, their wildcards, next closer names and ancestors (RFC 4592, RFC 5155). By them a
+//! cache reckons from an NSEC record which names a zone lacks, and where a wildcard would stand, and which names a search by
+//! hashes asks for. Laws, as functions with an empty body, say that each is one.
+//!
+//! Its specs, which public clauses cite, in reading order: `specs/Encloser.antt`.
 #![tactic(auto)]
 
 mod ancestors;

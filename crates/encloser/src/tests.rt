@@ -111,7 +111,7 @@ fn name(wire: &[u8]) -> Result<Name, NameFault> {
 fn enclosers_are_those_of_the_rfcs(rt: HostRuntime) -> Result<(), Fail> {
     for case in CASES.iter() {
         let (missing, owner, next) = (name(case.name)?, name(case.owner)?, name(case.next)?);
-        let encloser = common_encloser(&missing, &owner, &next);
+        let encloser = common_encloser(&missing, &owner.lent(), &next.lent());
         assert_eq!(rt; encloser, name(case.encloser)?);
         assert_eq!(rt; wildcard_of(&encloser), Some(name(case.wildcard)?));
         assert!(rt; missing.is_under(&encloser) && missing != encloser);

@@ -1,9 +1,10 @@
 -- No held record displaces another.
-use Rattle.std.proofs.Common.{◌≡◌, ℕ, Bool, true, false, not, ◌&&◌, ◌||◌, ◌==◌, true≢false, List, get_or, filter, refl, sym, ◌∙◌, arith}
+use Rattle.std.proofs.Common.{◌≡◌, ℕ, Bool, true, false, not, ◌&&◌, ◌||◌, ◌==◌, List, get_or, filter, refl, sym, ◌∙◌, arith}
 use Rattle.std.specs.Bool.{Decides}
-use Rattle.std.specs.Cmp.Lexicographic.{slice_cmp, pointwise_decides, bytes_decides}
+use Rattle.std.specs.Cmp.Lexicographic.{slice_cmp, bytes_decides}
+use Rattle.std.proofs.lemmas.Bool.{not-true}
 use Rattle.std.proofs.lemmas.Bool.Decides.{Decides-eqb, same_from_decides}
-use Rattle.std.proofs.lemmas.List.Elements.{All-get_or}
+use Rattle.std.proofs.lemmas.List.Elements.{All-get_or, filter_passes}
 use Rattle.std.proofs.lemmas.List.Kept.{AllPairs-filter}
 use Rattle.std.proofs.lemmas.List.Quantifiers.{all_pairs_push}
 use Rattle.std.specs.Ordering.{nat_cmp}
@@ -11,12 +12,12 @@ use Rattle.std.specs.Str.{bytes_eq}
 use Rattle.dname.specs.Name.{Label, canonical_cmp}
 use Rattle.dname.specs.Arc.{arc_has}
 use Rattle.dname.specs.Tests.{same_name}
+use Rattle.dname.proofs.SameLemmas.{same_name_decides}
 use Rattle.denial_records.specs.declared.batch.Batch.{Batch}
 use Rattle.denial_records.specs.declared.record.Record.{Record}
 use Rattle.denial_records.specs.declared.record.Record.TheVariants.{Set, Nsec, Nsec3}
 use Rattle.cache_meaning.specs.Held.{Held, chain_of, is_usable, displaces, held_where, held_with, held_after, held_of}
 use Rattle.held_laws.specs.HeldLaws.{IsApart, NoneDisplaces}
-use Rattle.held_laws.proofs.ListLemmas.{all_pass}
 use Rattle.held_laws.proofs.KeptLemmas.{fold_keeps, held_keeps}
 use Rattle.held_laws.proofs.UsableLemmas.{with_chain_keeps}
 
@@ -26,7 +27,7 @@ other_way : {X : Type 0} (test : X → X → Bool) → ((x y : X) → Decides (t
 other_way test decides x y = same_from_decides _ _ (decides x y) (λ h. sym ((decides y x).0 h), λ same. (decides y x).1 (sym same))
 
 names : (x y : List Label) → same_name x y ≡ same_name y x
-names = other_way same_name (pointwise_decides bytes_decides)
+names = other_way same_name same_name_decides
 
 numbers : (x y : ℕ) → (x == y) ≡ (y == x)
 numbers = other_way (λ x y. x == y) Decides-eqb
@@ -58,15 +59,11 @@ with_apart held new apart =
     with_chain_keeps NoneDisplaces (λ test records h. AllPairs-filter IsApart test records h) (chain_of new) _
     (all_pairs_push IsApart (filter stays held.records) new (AllPairs-filter IsApart stays held.records apart) (λ k d within.
     let old : Record = get_or (filter stays held.records) k d in
-    let is = not_true (displaces new old) (All-get_or (λ x. stays x ≡ true) (filter stays held.records) k d within (all_pass stays held.records)) in
+    let is = not-true (displaces new old) (All-get_or (λ x. stays x ≡ true) (filter stays held.records) k d within (filter_passes stays held.records)) in
     (displaces_either_way old new ∙ is, is)))
   where
     stays : Record → Bool
     stays old = not (displaces new old)
-
-    not_true : (b : Bool) → not b ≡ true → b ≡ false
-    not_true true h = absurd (true≢false (sym h))
-    not_true false h = refl
 
 pub after_apart : (held : Held) (batch : Batch) → NoneDisplaces held.records → NoneDisplaces (held_after held batch).records
 after_apart held batch apart =

@@ -7,6 +7,7 @@ use Rattle.std.specs.Cmp.Lexicographic.{slice_cmp}
 use Rattle.std.specs.FinMap.{slice_cmp-IsAntisymmetric, nat_cmp-IsAntisymmetric}
 use Rattle.std.specs.declared.cmp.Ordering.{Ordering}
 use Rattle.std.specs.declared.cmp.Ordering.TheVariants.{Less, Equal, Greater}
+use Rattle.std.proofs.lemmas.Bool.{and_from}
 use Rattle.std.proofs.lemmas.Bool.Decides.{Decides-eqb}
 use Rattle.std.proofs.lemmas.Cmp.{on_total, tied_itself, nat_list_cmp_total}
 use Rattle.std.proofs.lemmas.List.Elements.{All-contains, Contains-push, Contains-append_left, Contains-push_cases}
@@ -16,26 +17,26 @@ use Rattle.dname.specs.Arc.{arc_has}
 use Rattle.dname.specs.Name.{Label, canonical_cmp}
 use Rattle.dname.specs.Order.{canonical_total, canonical_equal, canonical_same}
 use Rattle.dname.specs.Tests.{same_name}
+use Rattle.dname.proofs.SameLemmas.{name_equal, name_itself, same_names}
 use Rattle.denial_records.specs.declared.record.Record.{Record}
 use Rattle.denial_records.specs.declared.record.Record.TheVariants.{Set, Nsec, Nsec3}
 use Rattle.cache_meaning.specs.Held.{ZoneChain, same_parameters, parameters_of, key_cmp, displaces}
+use Rattle.cache_meaning.proofs.ChainLemmas.{parameters_itself}
+use Rattle.facts.proofs.Filters.{kept, was_kept}
+use Rattle.facts.proofs.Lists.{here, there, here_or_there, nothing_in, same_head, same_tail}
+use Rattle.facts.proofs.Orderings.{both_equal}
+use Rattle.facts.proofs.Pairs.{pairs_head, pairs_tail}
 use Rattle.held_laws.specs.HeldLaws.{IsApart, NoneDisplaces}
 use Rattle.held_laws.specs.KeyOrder.{placed, sorted, zone_cmp, IsInKeyOrder, IsInZoneOrder}
-use Rattle.held_laws.proofs.ListLemmas.{filtered, there, here, here_or_there, nothing_in, kept, was_kept}
-use Rattle.held_laws.proofs.ListedLemmas.{name_equal, name_itself, parameters_itself}
+use Rattle.held_laws.proofs.ListLemmas.{filtered}
 use Rattle.held_laws.proofs.RankLemmas.{key_total}
-use Rattle.held_laws.proofs.SameLemmas.{one_of_key, all_true, same_names}
-use Rattle.held_laws.proofs.SortLemmas.{pairs_head, pairs_tail, sorted_members, sorted_length, sorted_count, sorted_filter, sorted_order, sorted_rises, rising_one}
+use Rattle.held_laws.proofs.SameLemmas.{one_of_key}
+use Rattle.held_laws.proofs.SortLemmas.{sorted_members, sorted_length, sorted_count, sorted_filter, sorted_order, sorted_rises, rising_one}
 
 -- ---- of two records with one key each displaces the other
 
-both_tie : (a b : Ordering) → ordering_then a b ≡ Equal → (a ≡ Equal) × (b ≡ Equal)
-both_tie Less b is = absurd (true≢false (ap is_lt is))
-both_tie Equal b is = (refl, is)
-both_tie Greater b is = absurd (true≢false (ap is_gt is))
-
 never : (a b : Ordering) → ordering_then a b ≡ Equal → b ≢ Equal → ⊥
-never a b is not = not (both_tie a b is).1
+never a b is not = not (both_equal a b is).1
 
 less_is_no_tie : Less ≢ Equal
 less_is_no_tie is = true≢false (ap is_lt is)
@@ -67,27 +68,27 @@ octets_equal = slice_cmp-IsAntisymmetric nat_cmp-IsAntisymmetric
 
 pub one_key_displaces : (one other : Record) → key_cmp one other ≡ Equal → displaces one other ≡ true
 one_key_displaces (Set one) (Set other) tie =
-    let zones = both_tie _ _ tie in
-    let owners = both_tie _ _ zones.1 in
-    all_true _ _ (names_tie one.zone other.zone zones.0) (all_true _ _ (names_tie one.owner other.owner owners.0)
+    let zones = both_equal _ _ tie in
+    let owners = both_equal _ _ zones.1 in
+    and_from _ _ (names_tie one.zone other.zone zones.0) (and_from _ _ (names_tie one.owner other.owner owners.0)
     ((Decides-eqb one.rtype other.rtype).1 (nat_cmp-IsAntisymmetric one.rtype other.rtype owners.1)))
 one_key_displaces (Set one) (Nsec other) tie = absurd (less_is_no_tie tie)
 one_key_displaces (Set one) (Nsec3 other) tie = absurd (less_is_no_tie tie)
 one_key_displaces (Nsec one) (Set other) tie = absurd (greater_is_no_tie tie)
 one_key_displaces (Nsec one) (Nsec other) tie =
-    let parts = both_tie _ _ tie in
-    all_true _ _ (names_tie one.zone other.zone parts.0)
+    let parts = both_equal _ _ tie in
+    and_from _ _ (names_tie one.zone other.zone parts.0)
     (arcs_from_one canonical_cmp canonical_total one.owner one.next other.owner other.next (canonical_equal one.owner other.owner parts.1))
 one_key_displaces (Nsec one) (Nsec3 other) tie = absurd (never _ _ tie less_is_no_tie)
 one_key_displaces (Nsec3 one) (Set other) tie = absurd (greater_is_no_tie tie)
 one_key_displaces (Nsec3 one) (Nsec other) tie = absurd (never _ _ tie greater_is_no_tie)
 one_key_displaces (Nsec3 one) (Nsec3 other) tie =
-    let zones = both_tie _ _ tie in
-    let numbers = both_tie _ _ zones.1 in
-    let salts = both_tie _ _ numbers.1 in
+    let zones = both_equal _ _ tie in
+    let numbers = both_equal _ _ zones.1 in
+    let salts = both_equal _ _ numbers.1 in
     let chains : parameters_of one ≡ parameters_of other =
     λ i. record { salt = octets_equal one.salt other.salt salts.0 i; iterations = nat_cmp-IsAntisymmetric one.iterations other.iterations numbers.0 i } in
-    all_true _ _ (names_tie one.zone other.zone zones.0) (all_true _ _ (subst (λ p. same_parameters (parameters_of one) p ≡ true) chains (parameters_itself (parameters_of one)))
+    and_from _ _ (names_tie one.zone other.zone zones.0) (and_from _ _ (subst (λ p. same_parameters (parameters_of one) p ≡ true) chains (parameters_itself (parameters_of one)))
     (arcs_from_one (slice_cmp nat_cmp) nat_list_cmp_total one.hash one.next other.hash other.next (octets_equal one.hash other.hash salts.1)))
 
 -- of records of which none displaces another, one has a key
@@ -179,12 +180,6 @@ neither_after Less Greater turned is are = absurd (true≢false are)
 neither_after Equal o' turned is are = refl
 neither_after Greater o' turned is are = absurd (true≢false is)
 
-heads : {X : Type 0} (x y : X) (xs ys : List X) → x ∷ xs ≡ y ∷ ys → x ≡ y
-heads x y xs ys same = cc
-
-tails : {X : Type 0} (x y : X) (xs ys : List X) → x ∷ xs ≡ y ∷ ys → xs ≡ ys
-tails x y xs ys same = cc
-
 -- two lists in the order of zones that list each zone alike are one
 pub grouped_one : (xs ys : List ZoneChain) → IsInZoneOrder xs → IsInZoneOrder ys → ListAlike xs ys → xs ≡ ys
 grouped_one [] [] up up' alike = refl
@@ -202,10 +197,10 @@ grouped_one (x ∷ xs) (y ∷ ys) up up' alike =
     kept_first c cs same = ap (λ b. cond b (c ∷ filter (in_zone x.zone) cs) (filter (in_zone x.zone) cs)) (same_names c.zone x.zone same)
 
     first : x ≡ y
-    first = heads x y (filter (in_zone x.zone) xs) (filter (in_zone x.zone) ys) (sym (kept_first x xs refl) ∙ alike x.zone ∙ kept_first y ys (sym zones))
+    first = same_head x y (filter (in_zone x.zone) xs) (filter (in_zone x.zone) ys) (sym (kept_first x xs refl) ∙ alike x.zone ∙ kept_first y ys (sym zones))
 
     rest : (b : Bool) (l l' : List ZoneChain) → cond b (x ∷ l) l ≡ cond b (y ∷ l') l' → l ≡ l'
-    rest true l l' same = tails x y l l' same
+    rest true l l' same = same_tail x y l l' same
     rest false l l' same = same
 
     later : ListAlike xs ys

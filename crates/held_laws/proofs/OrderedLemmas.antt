@@ -1,16 +1,17 @@
 -- The order of keys keeps what is held, after each batch too.
-use Rattle.std.proofs.Common.{◌≡◌, ◌≤◌, Bool, true, false, true≢false, List, length, refl, sym, ◌∙◌, subst, arith, [], ◌∷◌, ◌++◌, All, get_or, filter}
+use Rattle.std.proofs.Common.{◌≡◌, ◌≤◌, Bool, false, List, length, refl, sym, ◌∙◌, subst, arith, [], ◌∷◌, ◌++◌, All, get_or, filter}
 use Rattle.std.specs.Ordering.{is_gt}
 use Rattle.std.proofs.lemmas.List.Kept.{AllPairs-filter}
 use Rattle.denial_records.specs.declared.batch.Batch.{Batch}
 use Rattle.cache_meaning.specs.Held.{Held, ZoneChain, key_cmp, same_zone_chain, nothing_held, most_records, held_after, held_of}
 use Rattle.cache_meaning.specs.Zones.{TwoChains}
+use Rattle.cache_meaning.proofs.ChainLemmas.{other_way}
 use Rattle.held_laws.specs.HeldLaws.{IsUsableAt, IsApart, NoneDisplaces, EachListedOnce, EachChainHasARecord, EachRecordIsListed, IsReordered}
 use Rattle.held_laws.specs.KeyOrder.{sorted, zone_cmp, IsInKeyOrder, IsInZoneOrder, in_key_order, kept_after, kept_of}
 use Rattle.held_laws.proofs.ApartLemmas.{after_apart}
 use Rattle.held_laws.proofs.KeptLemmas.{fold_keeps, two_chains}
 use Rattle.held_laws.proofs.KeyOrderLemmas.{sorted_in_key_order, sorted_alike, length_alike, grouped_is, grouped_keeps, grouped_in_zone_order, grouped_alike}
-use Rattle.held_laws.proofs.ListedLemmas.{equal, itself, all_are_listed}
+use Rattle.held_laws.proofs.ListedLemmas.{all_are_listed}
 use Rattle.held_laws.proofs.OnceLemmas.{after_once}
 use Rattle.held_laws.proofs.RankLemmas.{all_within}
 use Rattle.held_laws.proofs.ReorderLemmas.{alike_filtered, Alike, fold_both, list_alike, reordered, same_listed, after_alike}
@@ -26,15 +27,8 @@ key_order_same held = reordered held (in_key_order held) (sorted_members key_cmp
 pub apart_in_key_order : (held : Held) → NoneDisplaces held.records → NoneDisplaces (in_key_order held).records
 apart_in_key_order held = sorted_pairs key_cmp IsApart (λ one other apart. (apart.1, apart.0)) held.records
 
-either_way : (one other : ZoneChain) → same_zone_chain one other ≡ false → same_zone_chain other one ≡ false
-either_way one other apart = by (same_zone_chain other one) refl
-  where
-    by : (b : Bool) → same_zone_chain other one ≡ b → b ≡ false
-    by true is = absurd (true≢false (sym (subst (λ (c : ZoneChain). same_zone_chain c other ≡ true) (equal other one is) (itself other)) ∙ apart))
-    by false is = refl
-
 pub once_in_key_order : (held : Held) → EachListedOnce held.chains → EachListedOnce (in_key_order held).chains
-once_in_key_order held = sorted_pairs zone_cmp (λ one other. same_zone_chain one other ≡ false) either_way held.chains
+once_in_key_order held = sorted_pairs zone_cmp (λ one other. same_zone_chain one other ≡ false) (λ one other apart. other_way other one ∙ apart) held.chains
 
 pub two_in_key_order : (held : Held) → TwoChains held → TwoChains (in_key_order held)
 two_in_key_order held two zone = subst (λ l. length l ≤ 2) ((key_order_same held).chains zone) (two zone)
@@ -55,7 +49,7 @@ grouped_filtered p xs =
 
 -- ---- after each batch
 
-through : (held other third : Held) → IsReordered held other → IsReordered other third → IsReordered held third
+pub through : (held other third : Held) → IsReordered held other → IsReordered other third → IsReordered held third
 through held other third order order' = record {
   records = λ item. (λ has. (order'.records item).0 ((order.records item).0 has), λ has. (order.records item).1 ((order'.records item).1 has));
   chains = λ zone. order.chains zone ∙ order'.chains zone;

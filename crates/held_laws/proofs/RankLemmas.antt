@@ -1,5 +1,5 @@
 -- Which of two records goes first is an order, and so no more are held than the limit.
-use Rattle.std.proofs.Common.{◌≡◌, ℕ, ◌≤◌, true, false, true≢false, List, [], length, fold, refl, sym, ◌∙◌, ap, subst, arith}
+use Rattle.std.proofs.Common.{◌≡◌, ℕ, ◌≤◌, true, false, List, [], length, fold, refl, sym, ◌∙◌, ap, subst, arith}
 use Rattle.std.specs.Ordering.{nat_cmp, is_lt, ordering_then, then_cmp, on}
 use Rattle.std.specs.Cmp.{IsTotalOrder}
 use Rattle.std.specs.Cmp.Lexicographic.{slice_cmp}
@@ -12,6 +12,7 @@ use Rattle.denial_records.specs.declared.batch.Batch.{Batch}
 use Rattle.denial_records.specs.declared.record.Record.{Record}
 use Rattle.denial_records.specs.declared.record.Record.TheVariants.{Set, Nsec, Nsec3}
 use Rattle.cache_meaning.specs.Held.{Held, zone_of, expiry_of, key_cmp, goes_before, most_records, is_usable, held_where, held_with, within_limit, held_of}
+use Rattle.facts.proofs.Orderings.{less_from}
 use Rattle.held_laws.proofs.KeptLemmas.{held_keeps}
 use Rattle.held_laws.proofs.LimitLemmas.{limit_holds}
 
@@ -90,17 +91,12 @@ going_total = then_total (on_total expiry_of nat_cmp_total) parts_total
 goes_by : (one other : Record) → goes_before one other ≡ is_lt (going_cmp one other)
 goes_by one other = ap (λ o. is_lt (ordering_then (nat_cmp (expiry_of one) (expiry_of other)) o)) (key_parts one other)
 
-less : (o : Ordering) → is_lt o ≡ true → o ≡ Less
-less Less is = refl
-less Equal is = absurd (true≢false (sym is))
-less Greater is = absurd (true≢false (sym is))
-
 not_before_itself : (one : Record) → goes_before one one ≡ false
 not_before_itself one = goes_by one one ∙ ap is_lt (tied_itself going_total one)
 
 before_through : (x y z : Record) → goes_before x y ≡ true → goes_before y z ≡ true → goes_before x z ≡ true
 before_through x y z is are =
-    goes_by x z ∙ ap is_lt (going_total.trans x y z (less _ (sym (goes_by x y) ∙ is)) (less _ (sym (goes_by y z) ∙ are)))
+    goes_by x z ∙ ap is_lt (going_total.trans x y z (less_from _ (sym (goes_by x y) ∙ is)) (less_from _ (sym (goes_by y z) ∙ are)))
 
 limit_kept : (held : Held) → length (within_limit held).records ≤ most_records
 limit_kept held = limit_holds goes_before not_before_itself before_through most_records held.records

@@ -4,12 +4,13 @@ use Rattle.std.specs.List.{list_any}
 use Rattle.std.proofs.lemmas.List.Elements.{filter_agree}
 use Rattle.std.proofs.lemmas.List.Kept.{AllPairs-filter}
 use Rattle.dname.specs.Name.{Label}
+use Rattle.dname.proofs.SameLemmas.{name_equal, name_itself}
 use Rattle.denial_records.specs.declared.batch.Batch.{Batch}
 use Rattle.denial_records.specs.declared.record.Record.{Record}
 use Rattle.cache_meaning.specs.Held.{Held, ZoneChain, Chain, same_zone_chain, chain_of, is_of_chain, is_usable, displaces, third_of, goes_before, goes, most_records, held_where, without_third, with_new_chain, with_chain, held_with, within_limit, held_after}
+use Rattle.facts.proofs.Filters.{kept, was_kept, filters_commute}
 use Rattle.held_laws.specs.HeldLaws.{IsApart, NoneDisplaces, IsReordered}
-use Rattle.held_laws.proofs.ListLemmas.{SameMembers, filtered, pushed, kept, was_kept}
-use Rattle.held_laws.proofs.ListedLemmas.{name_equal, name_itself}
+use Rattle.held_laws.proofs.ListLemmas.{SameMembers, filtered, pushed}
 use Rattle.held_laws.proofs.SameLemmas.{same_any}
 use Rattle.held_laws.proofs.ApartLemmas.{with_apart, after_apart}
 use Rattle.held_laws.proofs.KeyOrderLemmas.{in_zone, ListAlike, count_alike, length_alike}
@@ -42,19 +43,9 @@ in_both xs ys alike chain has =
 pub same_listed : (xs ys : List ZoneChain) → ListAlike xs ys → SameMembers xs ys
 same_listed xs ys alike chain = (in_both xs ys alike chain, in_both ys xs (λ zone. sym (alike zone)) chain)
 
-pub filter_twice : {X : Type 0} (p q : X → Bool) (xs : List X) → filter p (filter q xs) ≡ filter q (filter p xs)
-filter_twice p q [] = refl
-filter_twice {X} p q (x ∷ xs) = by (p x) (q x) refl refl (filter_twice p q xs)
-  where
-    by : (b d : Bool) → p x ≡ b → q x ≡ d → filter p (filter q xs) ≡ filter q (filter p xs) → filter p (cond d (x ∷ filter q xs) (filter q xs)) ≡ filter q (cond b (x ∷ filter p xs) (filter p xs))
-    by true true is are h = rw (is, are) (ap (λ (l : List X). x ∷ l) h)
-    by true false is are h = rw are h
-    by false true is are h = rw is h
-    by false false is are h = h
-
 pub alike_filtered : (p q : ZoneChain → Bool) → ((chain : ZoneChain) → p chain ≡ q chain) → (xs ys : List ZoneChain) → ListAlike xs ys → ListAlike (filter p xs) (filter q ys)
 alike_filtered p q agree xs ys alike zone =
-    filter_twice (in_zone zone) p xs ∙ ap (filter p) (alike zone) ∙ filter_agree p q agree (filter (in_zone zone) ys) ∙ filter_twice q (in_zone zone) ys
+    filters_commute (in_zone zone) p xs ∙ ap (filter p) (alike zone) ∙ filter_agree p q agree (filter (in_zone zone) ys) ∙ filters_commute q (in_zone zone) ys
 
 alike_with : (xs ys : List ZoneChain) → ListAlike xs ys → (new : ZoneChain) → ListAlike (new ∷ xs) (new ∷ ys)
 alike_with xs ys alike new zone = ap (λ (l : List ZoneChain). cond (in_zone zone new) (new ∷ l) l) (alike zone)

@@ -1,19 +1,21 @@
 -- What is looked up is the same for another order of the records.
-use Rattle.std.proofs.Common.{◌≡◌, ◌⊎◌, ◌↔◌, ℕ, inl, inr, Bool, true, false, true≢false, ◌&&◌, suc, zero, List, [], ◌∷◌, cond, All, Contains, find, Option, Some, None, refl, sym, ◌∙◌, ap, subst, arith}
+use Rattle.std.proofs.Common.{◌≡◌, ◌⊎◌, ◌↔◌, ℕ, inl, inr, Bool, true, false, true≢false, suc, zero, List, [], ◌∷◌, cond, All, Contains, find, Option, Some, None, refl, sym, ◌∙◌, ap, subst, arith}
 use Rattle.std.specs.List.{list_any}
 use Rattle.std.specs.Option.{option_or}
 use Rattle.std.specs.Ordering.{nat_cmp}
 use Rattle.std.specs.Cmp.{IsTotalOrder}
 use Rattle.std.specs.Cmp.Lexicographic.{slice_cmp}
 use Rattle.std.specs.declared.cmp.Ordering.{Ordering}
+use Rattle.std.proofs.lemmas.Bool.{and_parts, and_from}
 use Rattle.std.proofs.lemmas.Bool.Decides.{Decides-eqb}
 use Rattle.std.proofs.lemmas.Cmp.{nat_list_cmp_total}
 use Rattle.std.proofs.lemmas.Grind.{common_steps}
 use Rattle.std.proofs.lemmas.List.Elements.{All-contains}
+use Rattle.std.proofs.lemmas.Option.{none-some, cond_some}
 use Rattle.dname.specs.Arc.{arc_has, arcs_meet}
 use Rattle.dname.specs.Name.{Label, canonical_cmp}
 use Rattle.dname.specs.Order.{canonical_total}
-use Rattle.dname.specs.Tests.{same_name}
+use Rattle.dname.proofs.SameLemmas.{name_equal, same_names}
 use Rattle.denial_records.specs.declared.set_rec.SetRec.{SetRec}
 use Rattle.denial_records.specs.declared.nsec_rec.NsecRec.{NsecRec}
 use Rattle.denial_records.specs.declared.nsec3_rec.Nsec3Rec.{Nsec3Rec}
@@ -21,15 +23,16 @@ use Rattle.denial_records.specs.declared.record.Record.{Record}
 use Rattle.denial_records.specs.declared.record.Record.TheVariants.{Set, Nsec, Nsec3}
 use Rattle.cache_meaning.specs.Held.{Held, HashParameters, same_parameters, parameters_of, displaces}
 use Rattle.cache_meaning.specs.Zones.{zone_for, candidates, first_of, as_set_at, as_nsec_at, as_nsec3_at, set_at, nsec_at, nsec3_at}
+use Rattle.cache_meaning.proofs.ChainLemmas.{parameters_equal, parameters_itself}
+use Rattle.facts.proofs.Lists.{here, there, here_or_there, nothing_in}
 use Rattle.held_laws.specs.HeldLaws.{IsApart, NoneDisplaces, SetsOnce, NsecsOnce, Nsec3sOnce, IsReordered}
-use Rattle.held_laws.proofs.ListLemmas.{here, there, here_or_there, nothing_in, found, is_found}
-use Rattle.held_laws.proofs.ListedLemmas.{both, name_equal, name_itself, parameters_equal, parameters_itself, none_some, some_same}
+use Rattle.held_laws.proofs.ListLemmas.{found, is_found}
 
 -- ---- the first that a choice gives
 
 module _ {A B : Type 0} (choose : A → Option B) where
   pub one_found : (xs : List A) (b : B) → first_of choose xs ≡ Some b → (x : A) × Contains xs x × (choose x ≡ Some b)
-  one_found [] b is = absurd (none_some is)
+  one_found [] b is = absurd (none-some _ is)
   one_found (x ∷ xs) b is = by (choose x) refl is (one_found xs b)
     where
       by : (o : Option B) → choose x ≡ o → option_or o (first_of choose xs) ≡ Some b → (first_of choose xs ≡ Some b → (y : A) × Contains xs y × (choose y ≡ Some b)) → (y : A) × Contains (x ∷ xs) y × (choose y ≡ Some b)
@@ -43,7 +46,7 @@ module _ {A B : Type 0} (choose : A → Option B) where
       by : (o : Option B) → choose y ≡ o → option_or o (first_of choose xs) ≡ None → (y ≡ x) ⊎ Contains xs x → (first_of choose xs ≡ None → Contains xs x → choose x ≡ None) → choose x ≡ None
       by None it h (inl same) rest = ap choose (sym same) ∙ it
       by None it h (inr later) rest = rest h later
-      by (Some c) it h has rest = absurd (none_some (sym h))
+      by (Some c) it h has rest = absurd (none-some _ (sym h))
 
   pub same_first : (xs ys : List A) → ((x y : A) (a b : B) → Contains xs x → Contains xs y → choose x ≡ Some a → choose y ≡ Some b → a ≡ b) → ((x : A) → Contains xs x ↔ Contains ys x) → first_of choose xs ≡ first_of choose ys
   same_first xs ys one same = by (first_of choose xs) (first_of choose ys) refl refl
@@ -52,10 +55,10 @@ module _ {A B : Type 0} (choose : A → Option B) where
       by None None is are = refl
       by None (Some b) is are =
           let y = one_found ys b are in
-          absurd (none_some (sym (none_found xs is y.0 ((same y.0).1 y.1)) ∙ y.2))
+          absurd (none-some _ (sym (none_found xs is y.0 ((same y.0).1 y.1)) ∙ y.2))
       by (Some a) None is are =
           let x = one_found xs a is in
-          absurd (none_some (sym (none_found ys are x.0 ((same x.0).0 x.1)) ∙ x.2))
+          absurd (none-some _ (sym (none_found ys are x.0 ((same x.0).0 x.1)) ∙ x.2))
       by (Some a) (Some b) is are =
           let x = one_found xs a is in
           let y = one_found ys b are in
@@ -84,41 +87,31 @@ arcs_of_one_key cmp total a b a' b' k has has' = grind (arith, common_steps, tot
 
 -- ---- what the choices give
 
-some_if : {A : Type 0} (b : Bool) (x y : A) → cond b (Some x) None ≡ Some y → (b ≡ true) × (x ≡ y)
-some_if true x y is = (refl, some_same is)
-some_if false x y is = absurd (none_some is)
-
 set_chosen : (zone owner : List Label) (rtype : ℕ) (x : Record) (a : SetRec) → as_set_at zone owner rtype x ≡ Some a → (x ≡ Set a) × (a.zone ≡ zone) × (a.owner ≡ owner) × (a.rtype ≡ rtype)
 set_chosen zone owner rtype (Set set) a is =
-    let chosen = some_if _ set a is in
-    let first = both _ _ chosen.0 in
-    let second = both _ _ first.1 in
+    let chosen = cond_some _ set a is in
+    let first = and_parts _ _ chosen.0 in
+    let second = and_parts _ _ first.1 in
     (ap (λ s. Set s) chosen.1, ap (λ s. s.zone) (sym chosen.1) ∙ name_equal _ _ first.0, ap (λ s. s.owner) (sym chosen.1) ∙ name_equal _ _ second.0, ap (λ s. s.rtype) (sym chosen.1) ∙ (Decides-eqb _ _).0 second.1)
-set_chosen zone owner rtype (Nsec nsec) a is = absurd (none_some is)
-set_chosen zone owner rtype (Nsec3 nsec3) a is = absurd (none_some is)
+set_chosen zone owner rtype (Nsec nsec) a is = absurd (none-some _ is)
+set_chosen zone owner rtype (Nsec3 nsec3) a is = absurd (none-some _ is)
 
 nsec_chosen : (zone name : List Label) (x : Record) (a : NsecRec) → as_nsec_at zone name x ≡ Some a → (x ≡ Nsec a) × (a.zone ≡ zone) × (arc_has canonical_cmp a.owner a.next name ≡ true)
-nsec_chosen zone name (Set set) a is = absurd (none_some is)
+nsec_chosen zone name (Set set) a is = absurd (none-some _ is)
 nsec_chosen zone name (Nsec nsec) a is =
-    let chosen = some_if _ nsec a is in
-    let parts = both _ _ chosen.0 in
+    let chosen = cond_some _ nsec a is in
+    let parts = and_parts _ _ chosen.0 in
     (ap (λ s. Nsec s) chosen.1, ap (λ s. s.zone) (sym chosen.1) ∙ name_equal _ _ parts.0, subst (λ s. arc_has canonical_cmp s.owner s.next name ≡ true) chosen.1 parts.1)
-nsec_chosen zone name (Nsec3 nsec3) a is = absurd (none_some is)
+nsec_chosen zone name (Nsec3 nsec3) a is = absurd (none-some _ is)
 
 nsec3_chosen : (zone : List Label) (parameters : HashParameters) (hash : List ℕ) (x : Record) (a : Nsec3Rec) → as_nsec3_at zone parameters hash x ≡ Some a → (x ≡ Nsec3 a) × (a.zone ≡ zone) × (parameters_of a ≡ parameters) × (arc_has (slice_cmp nat_cmp) a.hash a.next hash ≡ true)
-nsec3_chosen zone parameters hash (Set set) a is = absurd (none_some is)
-nsec3_chosen zone parameters hash (Nsec nsec) a is = absurd (none_some is)
+nsec3_chosen zone parameters hash (Set set) a is = absurd (none-some _ is)
+nsec3_chosen zone parameters hash (Nsec nsec) a is = absurd (none-some _ is)
 nsec3_chosen zone parameters hash (Nsec3 nsec3) a is =
-    let chosen = some_if _ nsec3 a is in
-    let first = both _ _ chosen.0 in
-    let second = both _ _ first.1 in
+    let chosen = cond_some _ nsec3 a is in
+    let first = and_parts _ _ chosen.0 in
+    let second = and_parts _ _ first.1 in
     (ap (λ s. Nsec3 s) chosen.1, ap (λ s. s.zone) (sym chosen.1) ∙ name_equal _ _ first.0, ap parameters_of (sym chosen.1) ∙ parameters_equal _ _ second.0, subst (λ s. arc_has (slice_cmp nat_cmp) s.hash s.next hash ≡ true) chosen.1 second.1)
-
-pub all_true : (a b : Bool) → a ≡ true → b ≡ true → (a && b) ≡ true
-all_true a b is are = rw (is, are) refl
-
-pub same_names : (x y : List Label) → x ≡ y → same_name x y ≡ true
-same_names x y same = subst (λ z. same_name x z ≡ true) same (name_itself x)
 
 abbrev set_of : Record → SetRec → SetRec
 set_of (Set set) other = set
@@ -139,18 +132,18 @@ nsec3_of (Nsec3 nsec3) other = nsec3
 
 pub sets_once : (records : List Record) → NoneDisplaces records → SetsOnce records
 sets_once records apart one other has has' zones owners types =
-    let meet : displaces (Set one) (Set other) ≡ true = all_true _ _ (same_names _ _ zones) (all_true _ _ (same_names _ _ owners) ((Decides-eqb _ _).1 types)) in
+    let meet : displaces (Set one) (Set other) ≡ true = and_from _ _ (same_names _ _ zones) (and_from _ _ (same_names _ _ owners) ((Decides-eqb _ _).1 types)) in
     ap (λ r. set_of r one) (one_of_key records apart (Set one) (Set other) has has' meet)
 
 pub nsecs_once : (records : List Record) → NoneDisplaces records → NsecsOnce records
 nsecs_once records apart one other has has' zones arcs =
-    let meet : displaces (Nsec one) (Nsec other) ≡ true = all_true _ _ (same_names _ _ zones) arcs in
+    let meet : displaces (Nsec one) (Nsec other) ≡ true = and_from _ _ (same_names _ _ zones) arcs in
     ap (λ r. nsec_of r one) (one_of_key records apart (Nsec one) (Nsec other) has has' meet)
 
 pub nsec3s_once : (records : List Record) → NoneDisplaces records → Nsec3sOnce records
 nsec3s_once records apart one other has has' zones chains arcs =
     let same : same_parameters (parameters_of one) (parameters_of other) ≡ true = subst (λ p. same_parameters (parameters_of one) p ≡ true) chains (parameters_itself (parameters_of one)) in
-    let meet : displaces (Nsec3 one) (Nsec3 other) ≡ true = all_true _ _ (same_names _ _ zones) (all_true _ _ same arcs) in
+    let meet : displaces (Nsec3 one) (Nsec3 other) ≡ true = and_from _ _ (same_names _ _ zones) (and_from _ _ same arcs) in
     ap (λ r. nsec3_of r one) (one_of_key records apart (Nsec3 one) (Nsec3 other) has has' meet)
 
 -- ---- the laws

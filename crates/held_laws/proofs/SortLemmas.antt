@@ -1,5 +1,5 @@
 -- What a list has that is sorted by an order, and when two lists are one.
-use Rattle.std.proofs.Common.{◌≡◌, ◌≢◌, ◌⊎◌, ◌↔◌, zero, suc, inl, inr, Bool, true, false, true≢false, List, [], ◌∷◌, length, cond, All, Contains, filter, count_by, refl, sym, ◌∙◌, ap, subst, arith}
+use Rattle.std.proofs.Common.{◌≡◌, ◌≢◌, ◌⊎◌, ◌↔◌, inl, inr, Bool, true, false, true≢false, List, [], ◌∷◌, length, cond, All, Contains, filter, count_by, refl, sym, ◌∙◌, ap, subst, arith}
 use Rattle.std.specs.List.{AllPairs}
 use Rattle.std.specs.List.Sorted.{IsPermutation}
 use Rattle.std.specs.Ordering.{is_gt, ordering_reverse}
@@ -10,15 +10,10 @@ use Rattle.std.proofs.lemmas.Cmp.{upto, tied_back}
 use Rattle.std.proofs.lemmas.List.Elements.{All-nil, All-cons, All-head, All-tail, All-weaker, All-contains}
 use Rattle.std.proofs.lemmas.List.Kept.{AllPairs-cons}
 use Rattle.std.proofs.lemmas.List.Sorted.{IsPermutation-refl, IsPermutation-sym, IsPermutation-cons, IsPermutation-trans, IsPermutation-middle, All-permutation, Contains-permutation, length_permutation, sum_by-IsPermutation}
+use Rattle.dname.proofs.ArcLemmas.{not_both_ways}
+use Rattle.facts.proofs.Lists.{here, there, here_or_there, nothing_in}
+use Rattle.facts.proofs.Pairs.{pairs_head, pairs_tail}
 use Rattle.held_laws.specs.KeyOrder.{placed, sorted}
-use Rattle.held_laws.proofs.ListLemmas.{here, there, here_or_there, nothing_in}
-
-module _ {A : Type 0} (R : A → A → Type 0) where
-  pub pairs_head : (x : A) (xs : List A) → AllPairs R (x ∷ xs) → All (R x) xs
-  pairs_head x xs pairs = λ j d within. pairs zero (suc j) d (omega arith) (omega arith)
-
-  pub pairs_tail : (x : A) (xs : List A) → AllPairs R (x ∷ xs) → AllPairs R xs
-  pairs_tail x xs pairs = λ i j d below within. pairs (suc i) (suc j) d (omega arith) (omega arith)
 
 module _ {A : Type 0} (cmp : A → A → Ordering) where
   -- ---- the same items
@@ -129,9 +124,6 @@ module _ {A : Type 0} (cmp : A → A → Ordering) where
         rises Equal not_after no_tie = absurd (no_tie refl)
         rises Greater not_after no_tie = absurd (true≢false not_after)
 
-    not_both : (x y : A) → cmp x y ≡ Less → cmp y x ≡ Less → ⊥
-    not_both x y is are = true≢false (sym (ap is_gt (sym is ∙ total.antisymm x y ∙ ap ordering_reverse are)))
-
     -- two rising lists of the same items are one
     pub rising_one : (xs ys : List A) → AllPairs (λ x y. cmp x y ≡ Less) xs → AllPairs (λ x y. cmp x y ≡ Less) ys → ((x : A) → Contains xs x ↔ Contains ys x) → xs ≡ ys
     rising_one [] [] up up' same = refl
@@ -149,7 +141,7 @@ module _ {A : Type 0} (cmp : A → A → Ordering) where
             by : (y ≡ x) ⊎ Contains ys x → (x ≡ y) ⊎ Contains xs y → x ≡ y
             by (inl is) other = sym is
             by (inr has) (inl is) = is
-            by (inr has) (inr has') = absurd (not_both x y (All-contains (Before x) xs y (pairs_head Before x xs up) has') (All-contains (Before y) ys x (pairs_head Before y ys up') has))
+            by (inr has) (inr has') = absurd (not_both_ways cmp total x y (All-contains (Before x) xs y (pairs_head Before x xs up) has') (All-contains (Before y) ys x (pairs_head Before y ys up') has))
 
         later : (a : A) (more : List A) (b : A) (others : List A) → a ≡ b → AllPairs Before (a ∷ more) → (z : A) → (Contains (a ∷ more) z → Contains (b ∷ others) z) → Contains more z → Contains others z
         later a more b others one rises z to has = by (here_or_there b others z (to (there a more z has)))
@@ -158,4 +150,4 @@ module _ {A : Type 0} (cmp : A → A → Ordering) where
             by (inr h) = h
             by (inl is) =
                 let less : cmp a a ≡ Less = subst (Before a) (sym (one ∙ is)) (All-contains (Before a) more z (pairs_head Before a more rises) has) in
-                absurd (not_both a a less less)
+                absurd (not_both_ways cmp total a a less less)

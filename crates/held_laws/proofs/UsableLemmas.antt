@@ -1,13 +1,12 @@
 -- No record that is held after a batch has expired at its moment.
 use Rattle.std.proofs.Common.{Bool, true, false, List, [], ◌∷◌, ◌++◌, cond, not, All, filter, fold, Option, Some, None, sym, subst}
 use Rattle.std.specs.List.{list_any}
-use Rattle.std.proofs.lemmas.List.Elements.{All-filter, All-push, All-head, All-tail}
+use Rattle.std.proofs.lemmas.List.Elements.{All-filter, All-push, All-head, All-tail, filter_passes}
 use Rattle.std.proofs.lemmas.List.Sums.{fold-append}
 use Rattle.denial_records.specs.declared.batch.Batch.{Batch}
 use Rattle.denial_records.specs.declared.record.Record.{Record}
 use Rattle.cache_meaning.specs.Held.{Held, ZoneChain, chain_of, same_zone_chain, is_usable, displaces, held_where, without_third, with_new_chain, with_chain, held_with, held_after, nothing_held, held_of}
 use Rattle.held_laws.specs.HeldLaws.{IsUsableAt}
-use Rattle.held_laws.proofs.ListLemmas.{all_pass}
 
 -- where each filter of the records keeps P, so does a chain that comes
 pub with_chain_keeps : (P : List Record → Type 0) → ((test : Record → Bool) (records : List Record) → P records → P (filter test records)) → (its : Option ZoneChain) (held : Held) → P held.records → P (with_chain its held).records
@@ -35,7 +34,7 @@ module _ (P : Record → Type 0) where
 after_usable : (held : Held) (batch : Batch) → All (IsUsableAt batch.now) batch.records → All (IsUsableAt batch.now) (held_after held batch).records
 after_usable held batch each =
     All-filter _ (IsUsableAt batch.now) _
-    (all_with (IsUsableAt batch.now) batch.records (held_where (is_usable batch.now) held) (all_pass (is_usable batch.now) held.records) each)
+    (all_with (IsUsableAt batch.now) batch.records (held_where (is_usable batch.now) held) (filter_passes (is_usable batch.now) held.records) each)
 
 pub last_usable : (batches : List Batch) (batch : Batch) → All (IsUsableAt batch.now) batch.records → All (IsUsableAt batch.now) (held_of (batches ++ batch ∷ [])).records
 last_usable batches batch each =

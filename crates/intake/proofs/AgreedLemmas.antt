@@ -6,6 +6,7 @@ use Rattle.std.proofs.lemmas.List.{map-append, length-append}
 use Rattle.std.proofs.lemmas.List.Elements.{All-append}
 use Rattle.std.proofs.lemmas.List.Sums.{fold-append}
 use Rattle.std.proofs.lemmas.Slice.Zip.{all_zipped_more}
+use Rattle.facts.proofs.Lists.{all_one}
 use Rattle.dname.specs.Name.{Label}
 use Rattle.dname.proofs.ReadLemmas.{one_name}
 use Rattle.denial_records.specs.Rrsig.{IsRrsig}
@@ -55,9 +56,6 @@ agree_same octets now signer signer' labels labels' original_ttl original_ttl' l
     )
 
 -- ---- one signature after the other
-
-all_one : {X : Type 0} (P : X → Type 0) (x : X) → P x → All P (x ∷ [])
-all_one P x holds k d below = let e : 0 ≡ k = omega arith in subst (λ n. P (get_or (x ∷ []) n d)) e holds
 
 seconds_small : (expiration now : ℕ) → seconds_to expiration now < 2 ^ 32
 seconds_small expiration now = omega arith

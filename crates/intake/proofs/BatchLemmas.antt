@@ -6,7 +6,7 @@ use Rattle.dname.specs.Name.{Label}
 use Rattle.dnswire.specs.Message.{IsFaultOf}
 use Rattle.dnswire.specs.declared.message.Message.{Message}
 use Rattle.dnswire.specs.declared.wire_fault.WireFault.{WireFault}
-use Rattle.intake.proofs.MessageLemmas.{one_message, no_message, one_fault}
+use Rattle.dnswire.proofs.MessageLemmas.{one_message, no_message, one_fault}
 use Rattle.nsec3_hash.specs.Base32Hex.{text_of}
 use Rattle.nsec3_hash.proofs.TextLemmas.{same_from_text_of}
 use Rattle.denial_records.specs.declared.batch.Batch.{Batch}

@@ -14,7 +14,8 @@ use Rattle.dnswire.specs.InTurn.{StandInTurn}
 use Rattle.dnswire.specs.declared.rr.Rr.{Rr}
 use Rattle.dnswire.specs.declared.message.Message.{Message}
 use Rattle.denial_records.specs.declared.record.Record.{Record}
-use Rattle.intake.specs.Group.{Group, groups_of, group_of, each_once, is_together, is_rrsig}
+use Rattle.dname.specs.Tests.{each_once}
+use Rattle.intake.specs.Group.{Group, groups_of, group_of, is_together, is_rrsig}
 use Rattle.intake.specs.Batch.{IsTakenAs, Brings}
 use Rattle.intake.specs.Pile.{HasFixedPart, IsPileOf, piles_in}
 use Rattle.intake.specs.declared.pile.Pile.{Pile}

@@ -1,7 +1,7 @@
 -- The piles of all records are those of the groups.
 use Rattle.std.proofs.Common.{◌≡◌, ℕ, ◌^◌, ◌≤◌, min, Bool, true, false, not, ◌&&◌, ◌||◌, ◌==◌, if◌then◌else◌, List, [], ◌∷◌, ◌++◌, map, nat_lt, inl, inr, arith, refl, sym, ◌∙◌, ap, subst}
 use Rattle.std.specs.List.{AllZip, filter, fold, list_any}
-use Rattle.std.proofs.lemmas.Bool.{cases_lt, lt-ltb, le-ltb}
+use Rattle.std.proofs.lemmas.Bool.{cases_lt, lt-ltb, le-ltb, not-true}
 use Rattle.std.specs.Cmp.Lexicographic.{pointwise_decides, bytes_decides}
 use Rattle.std.proofs.lemmas.Bool.Decides.{same_from_decides, Decides-eqb}
 use Rattle.std.proofs.lemmas.List.{append_assoc, append-nil, map-append}
@@ -9,7 +9,8 @@ use Rattle.std.proofs.lemmas.List.Elements.{filter-append}
 use Rattle.std.proofs.lemmas.List.Sums.{fold-append}
 use Rattle.dname.specs.declared.types.TheConstants.{RRSIG_TYPE, IN_CLASS}
 use Rattle.dnswire.specs.declared.rr.Rr.{Rr}
-use Rattle.intake.specs.Group.{each_once, same_name, same_octets, is_together, is_rrsig, covered_type, expiration_of, seconds_to, is_ahead, covers, group_of, groups_of}
+use Rattle.dname.specs.Tests.{each_once, same_name, same_octets}
+use Rattle.intake.specs.Group.{is_together, is_rrsig, covered_type, expiration_of, seconds_to, is_ahead, covers, group_of, groups_of}
 use Rattle.intake.specs.Signed.{counted_ttl, least_of}
 use Rattle.intake.specs.Pile.{begun, joined, with_signature, has_key, changed_first, key_of, covered_key, with_record, with_data, with_covering, is_live, piles_in, least_ttl, IsPileOf}
 use Rattle.intake.specs.declared.key.Key.{Key}
@@ -288,15 +289,11 @@ zip_map : {X A B : Type 0} (P : X → Type 0) (R : A → B → Type 0) (f : X �
 zip_map P R f g holds [] each = tt
 zip_map P R f g holds (x ∷ xs) each = (holds x each.0, zip_map P R f g holds xs each.1)
 
-not_true_from : (b : Bool) → not b ≡ true → b ≡ false
-not_true_from true h = cc
-not_true_from false h = refl
-
 -- each group has its pile
 pub groups_piled : (now : ℕ) (rrs : List Rr) → AllZip IsPileOf (groups_of now rrs) (piles_in now rrs)
 groups_piled now rrs =
     subst (AllZip IsPileOf (groups_of now rrs)) (sym (all_piles now rrs))
     (zip_map (λ rr. not (is_rrsig rr) ≡ true) IsPileOf (group_of now rrs) (signed_at (data_of rrs) (filter (is_live now) rrs))
-    (λ rr h. pile_is now rrs rr (not_true_from (is_rrsig rr) h))
+    (λ rr h. pile_is now rrs rr (not-true (is_rrsig rr) h))
     (each_once is_together (data_of rrs))
     (each_once_each (λ rr. not (is_rrsig rr) ≡ true) is_together (data_of rrs) (each_passes (λ rr. not (is_rrsig rr)) rrs)))

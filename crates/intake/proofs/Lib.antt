@@ -9,4 +9,3 @@ pub mod NameLemmas
 pub mod BatchLemmas
 pub mod BringLemmas
 pub mod FaultLemmas
-pub mod MessageLemmas

@@ -8,7 +8,7 @@ use Rattle.std.specs.Cmp.Lexicographic.{slice_cmp, bytes_decides}
 use Rattle.std.proofs.lemmas.List.{take_more, append_assoc, append-nil, take_all}
 use Rattle.std.proofs.lemmas.List.Folds.{list_any-append}
 use Rattle.std.proofs.lemmas.Map.Text.{is_eq-slice_cmp}
-use Rattle.intake.specs.Group.{each_once, same_octets}
+use Rattle.dname.specs.Tests.{each_once, same_octets}
 use Rattle.intake.specs.Once.{news, news_after}
 use Rattle.intake.proofs.OnceLemmas.{IsByKey, alike-sym, once_more, new_in}
 

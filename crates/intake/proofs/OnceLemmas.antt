@@ -5,7 +5,7 @@ use Rattle.std.specs.Bool.{Decides}
 use Rattle.std.proofs.lemmas.Bool.Decides.{same_from_decides}
 use Rattle.std.proofs.lemmas.List.Elements.{filter-append}
 use Rattle.std.proofs.lemmas.Map.Views.{any-filter_same}
-use Rattle.intake.specs.Group.{each_once}
+use Rattle.dname.specs.Tests.{each_once}
 
 pub record IsByKey {X K : Type 0} (alike : X → X → Bool) (key : X → K) : Type 0 where
   pub decides : (x y : X) → Decides (alike x y) (key x ≡ key y)

@@ -16,7 +16,8 @@ use Rattle.denial_records.specs.declared.record.Record.{Record}
 use Rattle.denial_records.specs.declared.record.Record.TheVariants.{Set, Nsec, Nsec3}
 use Rattle.denial_records.proofs.TypeSetLemmas.{one_meaning}
 use Rattle.dname.specs.declared.types.TheConstants.{IN_CLASS}
-use Rattle.intake.specs.Group.{Group, each_once, same_octets}
+use Rattle.dname.specs.Tests.{each_once, same_octets}
+use Rattle.intake.specs.Group.{Group}
 use Rattle.intake.specs.Signed.{Agree, counted_ttl, least_of, life_of}
 use Rattle.intake.specs.Stored.{is_own_type, is_denial_type, limit_of, owner_labels, signed_name, IsInside, IsHashedOwner, IsKept, IsStored, IsStoredNsec, IsStoredNsec3}
 use Rattle.intake.specs.Pile.{least_ttl, IsPileOf}

@@ -3,6 +3,7 @@ use Rattle.std.proofs.Common.{◌≡◌, ℕ, zero, suc, ◌+◌, ◌<◌, ◌�
 use Rattle.std.specs.List.{list_any}
 use Rattle.std.specs.Option.{option_map}
 use Rattle.std.specs.Bool.{Decides}
+use Rattle.std.proofs.lemmas.Bool.{and_from, and_parts}
 use Rattle.std.specs.Cmp.{unsigned_ties}
 use Rattle.std.proofs.lemmas.Bool.Decides.{same_from_decides, Decides-eqb}
 use Rattle.std.specs.Cmp.Lexicographic.{pointwise_decides, bytes_decides}
@@ -13,7 +14,7 @@ use Rattle.std.specs.BTreeMap.{get, Updates}
 use Rattle.std.proofs.lemmas.List.{length-set, length_push}
 use Rattle.dname.specs.Name.{canonical_cmp}
 use Rattle.dname.specs.Order.{canonical_ties}
-use Rattle.intake.specs.Group.{same_name}
+use Rattle.dname.specs.Tests.{same_name}
 use Rattle.intake.specs.Pile.{IsTable, HasPlaces, place_of, changed_first, has_key, key_of_pile, key_cmp}
 use Rattle.intake.specs.declared.key.Key.{Key}
 use Rattle.intake.specs.declared.pile.Pile.{Pile}
@@ -137,14 +138,6 @@ pub table_with : (table : Table) (i : ℕ) (pile pile' : Pile) (piles : List Pil
 table_with table i pile pile' piles is below at same set-is many key =
     is.places (let sizes = ap length set-is ∙ length-set table.piles.items i pile' in omega (arith, many, sizes)) key ∙ sym (place_set (has_key key) table.piles.items i pile pile' below at (same key)) ∙ ap (place_of (has_key key)) (sym set-is)
 
-and_parts : (a b : Bool) → (a && b) ≡ true → (a ≡ true) × (b ≡ true)
-and_parts true b h = (refl, h)
-and_parts false b h = absurd (cc)
-
-both_true : (a b : Bool) → a ≡ true → b ≡ true → (a && b) ≡ true
-both_true true b p q = q
-both_true false b p q = cc
-
 same_parts : (a a' : List (List ℕ)) (b b' c c' : ℕ) → a ≡ a' → b ≡ b' → c ≡ c'
     → (let x : Key = record { owner = a; class = b; rtype = c } in let y : Key = record { owner = a'; class = b'; rtype = c' } in x ≡ y)
 same_parts a a' b b' c c' p q r = cc
@@ -163,9 +156,9 @@ key_decides a b = (same, λ is. subst (λ (k : Key). same_key a k ≡ true) is i
 
     itself : same_key a a ≡ true
     itself =
-        both_true (same_name a.owner a.owner) ((a.class == a.class) && (a.rtype == a.rtype))
+        and_from (same_name a.owner a.owner) ((a.class == a.class) && (a.rtype == a.rtype))
         ((pointwise_decides bytes_decides a.owner a.owner).1 refl)
-        (both_true (a.class == a.class) (a.rtype == a.rtype) ((Decides-eqb a.class a.class).1 refl) ((Decides-eqb a.rtype a.rtype).1 refl))
+        (and_from (a.class == a.class) (a.rtype == a.rtype) ((Decides-eqb a.class a.class).1 refl) ((Decides-eqb a.rtype a.rtype).1 refl))
 
 pub same_key-sym : (a b : Key) → same_key a b ≡ same_key b a
 same_key-sym a b = same_from_decides (same_key a b) (same_key b a) (key_decides a b) (λ h. sym ((key_decides b a).0 h), λ e. (key_decides b a).1 (sym e))
@@ -256,7 +249,7 @@ none_at_all test (x ∷ xs) (suc i) none past =
     ∙ ap (option_map (λ place. suc place)) (none_at_all test xs i none.1 (omega (arith, past)))
 
 and_holds : (x y z : Bool) → y ≡ true → z ≡ true → x ≡ (x && (y && z))
-and_holds true y z h i = sym (both_true y z h i)
+and_holds true y z h i = sym (and_from y z h i)
 and_holds false y z h i = refl
 
 pub has_all : (key : Key) (pile : Pile) (owners : Bool) → key.rtype ≡ pile.rtype → key.class ≡ pile.class → owners ≡ same_name key.owner pile.owner → owners ≡ has_key key pile

@@ -1,6 +1,7 @@
 -- A table that takes in records one after the other, and then the signatures.
 use Rattle.std.proofs.Common.{◌≡◌, ℕ, ◌<◌, ◌≤◌, Bool, true, false, ◌&&◌, if◌then◌else◌, List, [], ◌∷◌, ◌++◌, length, get_or, refl, sym, ◌∙◌, ap, subst}
 use Rattle.std.specs.List.{All, filter, fold}
+use Rattle.std.proofs.lemmas.Bool.{false_from_ne_true}
 use Rattle.std.proofs.lemmas.Bool.Decides.{Decides-eqb}
 use Rattle.std.proofs.lemmas.List.{append_assoc, append-nil}
 use Rattle.std.proofs.lemmas.List.Elements.{filter-append, filter_passes, All-filter}
@@ -22,10 +23,6 @@ pub record HasTakenIn (now : ℕ) (piles : List Pile) (live : List Rr) (done : L
 
 pub taken_none : (now : ℕ) (table : Table) (signatures : List Rr) → IsTable table → HasTakenIn now table.piles.items signatures [] table signatures
 taken_none now table signatures is = record { is_table = is; piles_are = refl; live_are = sym (append-nil signatures) }
-
-pub false_from : (b : Bool) → (b ≡ true → ⊥) → b ≡ false
-false_from true h = absurd (h refl)
-false_from false h = refl
 
 first_false : (a b : Bool) → a ≡ false → (a && b) ≡ false
 first_false true b h = cc
@@ -56,7 +53,7 @@ live_no now live done signatures rr is dead =
 pub taken_data : (now : ℕ) (piles : List Pile) (live done : List Rr) (table table' : Table) (signatures : List Rr) (rr : Rr) → HasTakenIn now piles live done table signatures
     → (rr.rtype ≡ 46 → ⊥) → IsTable table' → table'.piles.items ≡ with_record table.piles.items rr → HasTakenIn now piles live (done ++ rr ∷ []) table' signatures
 taken_data now piles live done table table' signatures rr taken other is' added =
-    let no_rrsig : is_rrsig rr ≡ false = false_from (is_rrsig rr) (λ h. other ((Decides-eqb rr.rtype 46).0 h)) in
+    let no_rrsig : is_rrsig rr ≡ false = false_from_ne_true (is_rrsig rr) (λ h. other ((Decides-eqb rr.rtype 46).0 h)) in
     record {
       is_table = is';
       piles_are =

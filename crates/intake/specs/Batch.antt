@@ -1,9 +1,8 @@
 -- What the octets of an upstream's answer give at a moment: a batch of records, or a refusal.
-use Rattle.std.specs.Prelude.{◌≡◌, ℕ, ◌≤◌, Bool, not, ◌&&◌, ◌||◌, ◌==◌, if◌then◌else◌, List, [], ◌++◌, length, count_by, flat_map, Option, Some, None, Result, Ok, Err, is_none}
+use Rattle.std.specs.Prelude.{◌≡◌, ℕ, ◌≤◌, not, ◌||◌, ◌==◌, if◌then◌else◌, List, [], ◌++◌, length, count_by, flat_map, Option, Some, None, Result, Ok, Err, is_none}
 use Rattle.std.specs.List.{AllZip}
 use Rattle.std.specs.Option.{option_to_list}
-use Rattle.dnswire.specs.declared.flags.TheConstants.{TC}
-use Rattle.dnswire.specs.Header.{is_set, is_response, opcode_of, has_ad}
+use Rattle.dnswire.specs.Header.{is_answer, has_tc, has_ad}
 use Rattle.dnswire.specs.Message.{IsMessage, IsFaultOf}
 use Rattle.dnswire.specs.declared.message.Message.{Message}
 use Rattle.denial_records.specs.declared.batch.Batch.{Batch}
@@ -16,20 +15,12 @@ use Rattle.intake.specs.declared.intake_fault.IntakeFault.TheVariants.{Malformed
 
 -- ---- the header
 
--- the message was cut (RFC 1035, section 4.1.1)
-abbrev pub is_truncated : ℕ → Bool
-is_truncated flags = is_set TC flags
-
--- an answer of a standard query
-abbrev pub is_answer : ℕ → Bool
-is_answer flags = is_response flags && (opcode_of flags == 0)
-
 -- the first fault of a message's header: AD says that the answer was validated (RFC 4035, section 3.2.3), and what has
 -- records to store is RCODE 0, or 3 for a name error
 abbrev pub header_fault : Message → Option IntakeFault
 header_fault message =
     if not (is_answer message.flags) then Some NotResponse
-    else if is_truncated message.flags then Some Truncated
+    else if has_tc message.flags then Some Truncated
     else if not ((message.rcode == 0) || (message.rcode == 3)) then Some (Rcode message.rcode)
     else if not (has_ad message.flags) then Some NotAuthentic
     else None

@@ -1,13 +1,13 @@
 -- The records of a message that belong together, and the signatures that cover them.
-use Rattle.std.specs.Prelude.{ℕ, ◌+◌, ◌-◌, ◌%◌, ◌^◌, Bool, not, ◌&&◌, ◌==◌, nat_eq, nat_lt, List, [], ◌∷◌, drop, map, filter}
-use Rattle.std.specs.Cmp.Lexicographic.{pointwise}
+use Rattle.std.specs.Prelude.{ℕ, ◌+◌, ◌-◌, ◌%◌, ◌^◌, Bool, not, ◌&&◌, ◌==◌, nat_lt, List, drop, map, filter}
 use Rattle.byteorder.specs.Endian.{big_number}
 use Rattle.dname.specs.Name.{Label}
+use Rattle.dname.specs.Tests.{same_name, same_octets, each_once}
 use Rattle.dname.specs.declared.types.TheConstants.{RRSIG_TYPE, IN_CLASS}
 use Rattle.dnswire.specs.declared.rr.Rr.{Rr}
 
 -- the records of one owner name, class and type: the TTL of each, their data, each once, and the data of the RRSIG
--- records that cover them, each once
+-- records that cover them, each once; data is compared octet by octet, with its letters as they came
 pub record Group : Type 0 where
   pub owner : List Label
   pub class : ℕ
@@ -15,18 +15,6 @@ pub record Group : Type 0 where
   pub ttls : List ℕ
   pub items : List (List ℕ)
   pub signatures : List (List ℕ)
-
--- the first of those that are alike, in order
-abbrev pub each_once : {X : Type 0} → (X → X → Bool) → List X → List X
-each_once alike [] = []
-each_once alike (x ∷ xs) = x ∷ filter (λ y. not (alike x y)) (each_once alike xs)
-
-abbrev pub same_name : List Label → List Label → Bool
-same_name = pointwise (pointwise nat_eq)
-
--- data is equal octet by octet, with its letters as they came
-abbrev pub same_octets : List ℕ → List ℕ → Bool
-same_octets = pointwise nat_eq
 
 -- an RRset has one owner name, class and type (RFC 2181, section 5)
 abbrev pub is_together : Rr → Rr → Bool

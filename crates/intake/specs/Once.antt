@@ -1,7 +1,7 @@
--- Which of some octets are new as they come.
+-- No public clause cites this module. Which of some octets are new as they come.
 use Rattle.std.specs.Prelude.{ℕ, Bool, not, List, [], ◌∷◌, ◌++◌}
 use Rattle.std.specs.List.{list_any}
-use Rattle.intake.specs.Group.{same_octets}
+use Rattle.dname.specs.Tests.{same_octets}
 
 -- of each whether no earlier one is equal, those included that came before
 abbrev pub news_after : List (List ℕ) → List (List ℕ) → List Bool

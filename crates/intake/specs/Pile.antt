@@ -1,5 +1,5 @@
--- Records put together as they come: piles in order of first appearance, each with the records of a group, equal data as
--- often as it comes.
+-- No public clause cites this module. Records put together as they come: piles in order of first appearance, each with the
+-- records of a group, equal data as often as it comes.
 use Rattle.std.specs.Prelude.{◌≡◌, ℕ, suc, ◌≤◌, ◌<◌, ◌^◌, min, Bool, ◌&&◌, ◌==◌, if◌then◌else◌, List, [], ◌∷◌, ◌++◌, length, filter, fold, map, Option, Some, None}
 use Rattle.std.specs.Option.{option_map}
 use Rattle.std.specs.List.{list_any}
@@ -7,7 +7,8 @@ use Rattle.std.specs.BTreeMap.{BTreeMap, get}
 use Rattle.std.specs.declared.cmp.Ordering.{Ordering}
 use Rattle.dname.specs.declared.types.TheConstants.{RRSIG_TYPE, IN_CLASS}
 use Rattle.dnswire.specs.declared.rr.Rr.{Rr}
-use Rattle.intake.specs.Group.{Group, each_once, same_name, same_octets, is_rrsig, covered_type, expiration_of, seconds_to, is_ahead}
+use Rattle.dname.specs.Tests.{each_once, same_name, same_octets}
+use Rattle.intake.specs.Group.{Group, is_rrsig, covered_type, expiration_of, seconds_to, is_ahead}
 use Rattle.intake.specs.Signed.{counted_ttl, least_of}
 use Rattle.intake.specs.declared.key.Key.{Key}
 use Rattle.intake.specs.declared.pile.Pile.{Pile}

@@ -1,4 +1,4 @@
--- A group with what its signatures say, and when it is kept.
+-- No public clause cites this module. A group with what its signatures say, and when it is kept.
 use Rattle.std.specs.Prelude.{◌≡◌, ℕ, ◌<◌, ◌≤◌, ◌^◌, min, List, length, IsTrue, Option}
 use Rattle.dname.specs.declared.types.TheConstants.{IN_CLASS}
 use Rattle.denial_records.specs.Rrsig.{IsRrsig}

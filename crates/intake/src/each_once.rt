@@ -1,5 +1,5 @@
 ghost use Rattle.std.specs.Prelude.{◌≡◌, map, IfOk};
-ghost use Rattle.intake.specs.Group.{each_once, same_octets};
+ghost use Rattle.dname.specs.Tests.{each_once, same_octets};
 ghost use Rattle.intake.specs.Once.{news};
 
 use dname::{Octets, OctetsList, OutOfMemory};

@@ -68,10 +68,3 @@ fn taken_of(alloc: Global, message: Message, now: u32) -> Result<Taken, OutOfMem
         skipped,
     })
 }
-
-#[cfg(test)]
-mod draft;
-#[cfg(test)]
-mod rules;
-#[cfg(test)]
-mod tests;

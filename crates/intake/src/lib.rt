@@ -1,4 +1,9 @@
-//! Intake: which records of an upstream answer are stored, and for how long.
+//! Intake: which records of an upstream's answer a cache stores, and for how long. The answer is read, its header looked at,
+//! and its records are put together in RRsets with the signatures that cover them; each of these groups is stored as one
+//! record, or skipped.
+//!
+//! Specs, in reading order: `Batch`, which public clauses cite, with what it stands on, `Group`, `Signed` and `Stored`;
+//! `WireFault`, how a reader's fault is told; and for the inner steps `Pile`, `Once` and `SignedGroup`.
 #![tactic(auto)]
 
 mod agreed;

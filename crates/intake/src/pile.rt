@@ -2,7 +2,7 @@ ghost use Rattle.std.specs.Prelude.{◌≡◌, OnOk};
 ghost use Rattle.intake.specs.Signed.{counted_ttl};
 ghost use Rattle.intake.specs.Pile.{has_key, key_of_pile, joined, with_signature};
 
-use crate::key::Key;
+use crate::key::{Key, LentKey};
 use dname::{BoxedName, Octets, OctetsList, OutOfMemory};
 
 /// The records of a group as they are collected, equal data as often as it comes.
@@ -19,7 +19,7 @@ pub(crate) struct Pile {
 
 impl Pile {
     /// Whether its records have that key. The type, which differs most, is looked at first.
-    pub(crate) fn has(&self, key: &Key) -> bool
+    pub(crate) fn has(&self, key: &LentKey<'_>) -> bool
         ensures { result ≡ has_key key.now self.now }
     {
         if key.rtype != self.rtype {
@@ -28,7 +28,7 @@ impl Pile {
         if key.class != self.class {
             return false;
         }
-        key.owner == *self.owner.name()
+        *key.owner == *self.owner.name()
     }
 
     /// The key of its records.

@@ -1,7 +1,7 @@
 ghost use Rattle.std.specs.Prelude.{◌≡◌, ◌≤◌, [], ◌∷◌, ◌++◌, List, length, IfOk, OnOk, None};
 ghost use Rattle.intake.specs.Pile.{IsTable, HasPlaces, place_of, has_key, begun, key_of, with_record, signed};
 
-use crate::key::Key;
+use crate::key::{Key, LentKey};
 use crate::pile::{Pile, counted_ttl};
 use dname::{Octets, OctetsList, OutOfMemory};
 use dnswire::Rr;
@@ -37,14 +37,10 @@ impl Table {
         ensures table { OnOk result (IsTable self.new) }
         ensures piles { OnOk result (self.new.piles.items ≡ with_record self.old.piles.items rr) }
     {
-        let key = Key {
-            owner: rr.owner.name().copy(),
-            class: rr.class,
-            rtype: rr.rtype,
-        };
-        match self.place(&key) {
+        let place = self.place(&key_of(&rr));
+        match place {
             Some(at) => self.piles[at].join(rr.ttl, rr.octets),
-            None => self.begin(alloc, key, rr),
+            None => self.begin(alloc, rr),
         }
     }
 
@@ -55,32 +51,31 @@ impl Table {
         ensures piles { OnOk result (self.new.piles.items
             ≡ signed key.now octets self.old.piles.items) }
     {
-        match self.place(key) {
+        match self.place(&key.lent()) {
             Some(at) => self.piles[at].sign(octets),
             None => Ok(()),
         }
     }
 
     // The place of the key's pile.
-    fn place(&self, key: &Key) -> Option<usize>
+    fn place(&self, key: &LentKey<'_>) -> Option<usize>
         requires { IsTable self.now }
         ensures { result ≡ place_of (has_key key.now) self.now.piles.items }
     {
         if self.piles.len() <= FEW {
             first_of(self.piles.as_slice(), key)
         } else {
-            self.places.get(key).copied()
+            self.places.get(&key.owned()).copied()
         }
     }
 
     // Begins a pile with the first record of its key.
-    fn begin(&mut self, alloc: Global, key: Key, rr: Rr) -> Result<(), OutOfMemory>
+    fn begin(&mut self, alloc: Global, rr: Rr) -> Result<(), OutOfMemory>
         requires table { IsTable self.old }
-        requires key { key ≡ key_of rr }
-        requires new { place_of (has_key key) self.old.piles.items ≡ None }
+        requires new { place_of (has_key (key_of rr)) self.old.piles.items ≡ None }
         ensures table { OnOk result (IsTable self.new) }
         ensures piles { OnOk result (self.new.piles.items ≡ self.old.piles.items
-            ++ begun key rr.ttl rr.octets ∷ []) }
+            ++ begun (key_of rr) rr.ttl rr.octets ∷ []) }
     {
         let mut items = OctetsList::empty(alloc);
         items.push(rr.octets)?;
@@ -94,7 +89,7 @@ impl Table {
         };
         if self.piles.len() >= FEW {
             self.make_places(alloc)?;
-            self.places.insert(key, self.piles.len())?;
+            self.places.insert(pile.key(), self.piles.len())?;
         }
         self.piles.push(pile)?;
         Ok(())
@@ -114,8 +109,18 @@ impl Table {
     }
 }
 
+fn key_of(rr: &Rr) -> LentKey<'_>
+    ensures { result ≡ key_of rr.now }
+{
+    LentKey {
+        owner: rr.owner.name(),
+        class: rr.class,
+        rtype: rr.rtype,
+    }
+}
+
 // The place of the first pile of that key.
-fn first_of(piles: &[Pile], key: &Key) -> Option<usize>
+fn first_of(piles: &[Pile], key: &LentKey<'_>) -> Option<usize>
     ensures { result ≡ place_of (has_key key.now) piles.now }
 {
     for at in 0..piles.len() {

@@ -1,8 +1,8 @@
 -- Until its signatures expire, intake takes all groups of a made message.
 use Rattle.std.proofs.Common.{◌≡◌, Bool, true, false, not, ℕ, ◌-◌, ◌^◌, ◌<◌, ◌≤◌, min, fold, List, [], ◌∷◌, length, drop, refl, sym, ◌∙◌, ap, subst, arith}
 use Rattle.std.specs.Prelude.{◌==◌}
-use Rattle.std.specs.List.{All, AllZip, Contains, filter}
-use Rattle.std.proofs.lemmas.Bool.{and_from, cond-false}
+use Rattle.std.specs.List.{All, AllZip, Contains}
+use Rattle.std.proofs.lemmas.Bool.{and_from}
 use Rattle.std.proofs.lemmas.Bool.Decides.{Decides-eqb, Decides-ltb}
 use Rattle.std.proofs.lemmas.List.Elements.{All-nil, All-cons, All-head, All-tail, All-weaker}
 use Rattle.byteorder.specs.Endian.{big_number}
@@ -12,34 +12,33 @@ use Rattle.dname.specs.declared.types.TheConstants.{IN_CLASS, RRSIG_TYPE}
 use Rattle.dnswire.specs.declared.rr.Rr.{Rr}
 use Rattle.denial_records.specs.Rrsig.{IsRrsig}
 use Rattle.denial_records.specs.declared.rrsig.Rrsig.{Rrsig}
-use Rattle.zone_meaning.proofs.ZoneTests.{here, later, nowhere, same_name_decides}
 use Rattle.std.specs.Cmp.Lexicographic.{bytes_decides}
-use Rattle.intake.specs.Group.{each_once, same_octets, same_name, is_rrsig, is_ahead, seconds_to, covered_type, covers}
+use Rattle.facts.proofs.Filters.{filter_none}
+use Rattle.facts.proofs.Lists.{here, there, nothing_in}
+use Rattle.dname.proofs.SameLemmas.{same_name_decides}
+use Rattle.dname.specs.Tests.{each_once, same_name, same_octets}
+use Rattle.intake.specs.Group.{is_rrsig, is_ahead, seconds_to, covered_type, covers}
 use Rattle.intake.specs.Signed.{Says}
 use Rattle.intake.specs.Stored.{owner_labels}
 use Rattle.zone_maker.specs.Made.{made_example}
 use Rattle.zone_maker.specs.Messages.{signature_data}
 use Rattle.made_laws.proofs.WrittenLemmas.{rr_of}
-use Rattle.made_laws.proofs.ContainLemmas.{all_once}
+use Rattle.soundness.proofs.OnceLemmas.{all_once}
 use Rattle.made_laws.proofs.TakenLemmas.{apex_spelled, IsSignedBy}
 
 -- ---- lists
 
-filter_gone : {X : Type 0} (p : X → Bool) (xs : List X) → All (λ x. p x ≡ false) xs → filter p xs ≡ []
-filter_gone p [] all = refl
-filter_gone p (x ∷ xs) all = cond-false (p x) (x ∷ filter p xs) (filter p xs) (All-head (λ y. p y ≡ false) x xs all) ∙ filter_gone p xs (All-tail (λ y. p y ≡ false) x xs all)
-
 -- of equal octets one is kept
 pub once_alone : (xs : List (List ℕ)) (x : List ℕ) → All (λ y. y ≡ x) xs → Contains xs x → each_once same_octets xs ≡ x ∷ []
-once_alone [] x all in' = absurd (nowhere x in')
+once_alone [] x all in' = absurd (nothing_in x in')
 once_alone (y ∷ ys) x all in' =
     let first : y ≡ x = All-head (λ z. z ≡ x) y ys all in
     let same : (z : List ℕ) → z ≡ x → not (same_octets y z) ≡ false = λ z is. ap not ((bytes_decides y z).1 (first ∙ sym is)) in
     let rest = All-weaker (λ z. z ≡ x) (λ z. not (same_octets y z) ≡ false) same (each_once same_octets ys) (all_once same_octets (λ z. z ≡ x) ys (All-tail (λ z. z ≡ x) y ys all)) in
-    ap (λ l. y ∷ l) (filter_gone (λ z. not (same_octets y z)) (each_once same_octets ys) rest) ∙ ap (λ z. z ∷ []) first
+    ap (λ l. y ∷ l) (filter_none (λ z. not (same_octets y z)) (each_once same_octets ys) rest) ∙ ap (λ z. z ∷ []) first
 
 pub some_once : {X : Type 0} (alike : X → X → Bool) (xs : List X) (x : X) → Contains xs x → 1 ≤ length (each_once alike xs)
-some_once alike [] x in' = absurd (nowhere x in')
+some_once alike [] x in' = absurd (nothing_in x in')
 some_once alike (y ∷ ys) x in' = omega arith
 
 pub least_alive : (limit : ℕ) (xs : List ℕ) → 0 < limit → All (λ n. 0 < n) xs → 0 < fold min limit xs
@@ -96,7 +95,7 @@ module _ (now : ℕ) (early : now < 2000000000) where
   all_said rr [] by = record { each = []; read = tt; same = All-nil _; live = All-nil _; long = refl }
   all_said rr (s ∷ signatures) by =
       let one = by s (here s signatures) in
-      let rest = all_said rr signatures (λ x in'. by x (later s signatures x in')) in
+      let rest = all_said rr signatures (λ x in'. by x (there s signatures x in')) in
       let said : Rrsig = rrsig_of rr.owner one.covered in
       record {
         each = said ∷ rest.each;

@@ -2,9 +2,11 @@
 use Rattle.std.proofs.Common.{◌≡◌, Bool, true, false, ℕ, zero, suc, ◌+◌, ◌^◌, ◌<◌, ◌≤◌, if◌then◌else◌, ⊎_elim, List, [], ◌∷◌, ◌++◌, length, map, IsTrue, refl, sym, ◌∙◌, ap, subst, arith}
 use Rattle.std.specs.Prelude.{nat_lt}
 use Rattle.std.specs.List.{All, Contains, filter}
-use Rattle.std.proofs.lemmas.Bool.{cond-false}
+use Rattle.std.proofs.lemmas.Bool.{cond-false, le-ltb}
 use Rattle.std.proofs.lemmas.List.{drop_at}
 use Rattle.std.proofs.lemmas.List.Elements.{All-cons, All-append, All-contains, All-map, Contains-get_or}
+use Rattle.facts.proofs.Filters.{was_kept, kept as passes_there}
+use Rattle.facts.proofs.Maps.{into_map}
 use Rattle.dname.specs.Name.{Label, IsUnder, wire_of}
 use Rattle.dname.specs.declared.types.TheConstants.{NSEC_TYPE, RRSIG_TYPE}
 use Rattle.dnswire.specs.declared.rr.Rr.{Rr}
@@ -15,19 +17,20 @@ use Rattle.denial_records.specs.declared.set_rec.SetRec.{SetRec}
 use Rattle.denial_records.specs.declared.nsec_rec.NsecRec.{NsecRec}
 use Rattle.denial_records.specs.declared.record.Record.{Record}
 use Rattle.denial_records.specs.declared.record.Record.TheVariants.{Set, Nsec}
-use Rattle.intake.specs.Group.{Group, same_octets, is_together, is_rrsig, seconds_to, covers, group_of}
+use Rattle.dname.specs.Tests.{same_octets}
+use Rattle.intake.specs.Group.{Group, is_together, is_rrsig, seconds_to, covers, group_of}
 use Rattle.intake.specs.Signed.{counted_ttl, life_of}
 use Rattle.intake.specs.Stored.{is_kept_type, is_denial_type, owner_labels, limit_of, IsInside, IsKept, IsStored}
 use Rattle.intake.proofs.GroupLemmas.{together}
 use Rattle.zone_maker.specs.Made.{made_example, Turn, Host, Above, Cut, Wild, turn_at, name_at, owner_in, made_owner, next_owner}
 use Rattle.zone_maker.specs.Messages.{signature_data, first_of, type_map, nsec_data}
 use Rattle.made_laws.specs.MadeNsec.{types_at}
-use Rattle.made_laws.proofs.OrderLemmas.{label_at, owner_under}
+use Rattle.zone_maker.proofs.NameLemmas.{label_at}
+use Rattle.made_laws.proofs.OrderLemmas.{owner_under}
 use Rattle.made_laws.proofs.TrueLemmas.{next_by}
 use Rattle.made_laws.proofs.WrittenLemmas.{rr_of}
 use Rattle.made_laws.proofs.PlainLemmas.{plain_next}
-use Rattle.made_laws.proofs.ContainLemmas.{in_filter, into_filter, into_map}
-use Rattle.made_laws.proofs.TakenLemmas.{IsOne, is_map, not_signing, not_fewer, group_signature, same_data}
+use Rattle.made_laws.proofs.TakenLemmas.{IsOne, is_map, not_signing, group_signature, same_data}
 use Rattle.made_laws.proofs.TakenLemmas.IsOne.{signing, of_soa, of_nsec, of_wildcard}
 use Rattle.made_laws.proofs.GivenLemmas.{once_alone, some_once, least_alive, AreSaid, all_said, signature_covers}
 
@@ -77,7 +80,7 @@ module _ (seed names k now : ℕ) (early : now < 2000000000) (rrs : List Rr) (al
 
     alike : (other : Rr) → Contains (filter (is_together (rr_of owner rtype rdata)) rrs) other → (Contains rrs other) × (rtype ≡ other.rtype)
     alike other in' =
-        let kept = in_filter (is_together (rr_of owner rtype rdata)) rrs other in' in
+        let kept = was_kept (is_together (rr_of owner rtype rdata)) rrs other in' in
         let keys = (together.decides (rr_of owner rtype rdata) other).0 kept.1 in
         (kept.0, λ i. (keys i).rtype)
 
@@ -85,7 +88,7 @@ module _ (seed names k now : ℕ) (early : now < 2000000000) (rrs : List Rr) (al
     not_rrsig = not_signing (rr_of owner rtype rdata) is.plain
 
     own : Contains (filter (is_together (rr_of owner rtype rdata)) rrs) (rr_of owner rtype rdata)
-    own = into_filter (is_together (rr_of owner rtype rdata)) rrs (rr_of owner rtype rdata) is.there ((together.decides (rr_of owner rtype rdata) (rr_of owner rtype rdata)).1 refl)
+    own = passes_there (is_together (rr_of owner rtype rdata)) rrs (rr_of owner rtype rdata) is.there ((together.decides (rr_of owner rtype rdata) (rr_of owner rtype rdata)).1 refl)
 
     pub one_datum : group.items ≡ rdata ∷ []
     one_datum = once_alone (map (λ (x : Rr). x.octets) (filter (is_together (rr_of owner rtype rdata)) rrs)) rdata
@@ -109,7 +112,7 @@ module _ (seed names k now : ℕ) (early : now < 2000000000) (rrs : List Rr) (al
     some_signature =
         let signature : Rr = rr_of owner RRSIG_TYPE (signature_data owner rtype) in
         some_once same_octets (map (λ (x : Rr). x.octets) covering) signature.octets
-        (into_map (λ (x : Rr). x.octets) covering signature (into_filter (covers now (rr_of owner rtype rdata)) rrs signature is.signature (signature_covers now early owner rtype rdata is.small)))
+        (into_map (λ (x : Rr). x.octets) covering signature (passes_there (covers now (rr_of owner rtype rdata)) rrs signature is.signature (signature_covers now early owner rtype rdata is.small)))
 
     lasting : (limit : ℕ) → 0 < limit → 0 < life_of group limit 3600 (map (λ (s : Rrsig). seconds_to s.expiration now) said.each)
     lasting limit some = least_alive limit (map counted_ttl group.ttls ++ 3600 ∷ map (λ (s : Rrsig). seconds_to s.expiration now) said.each) some
@@ -134,7 +137,7 @@ module _ (seed names k now : ℕ) (early : now < 2000000000) (rrs : List Rr) (al
       few_labels = omega arith;
       enough_labels = is.enough;
       own_name = λ own. refl;
-      owner_is = sym (cond-false (nat_lt (owner_labels owner) (owner_labels owner)) _ owner (not_fewer (owner_labels owner)));
+      owner_is = sym (cond-false (nat_lt (owner_labels owner) (owner_labels owner)) _ owner (le-ltb (owner_labels owner) (owner_labels owner) (omega arith)));
       single = λ one. ap length one_datum;
       life_is = refl;
       alive = lasting (limit_of rtype) (limit_some (is_denial_type rtype));

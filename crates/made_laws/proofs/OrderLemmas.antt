@@ -1,5 +1,5 @@
 -- Names with six decimal digits stand in the order of their numbers.
-use Rattle.std.proofs.Common.{◌≡◌, ◌≢◌, ℕ, zero, suc, ◌/◌, ◌<◌, ◌≤◌, List, [], ◌∷◌, ◌++◌, length, reverse, refl, ◌∙◌, ap, arith}
+use Rattle.std.proofs.Common.{◌≡◌, ◌≢◌, ℕ, zero, suc, ◌/◌, ◌<◌, ◌≤◌, List, [], ◌∷◌, length, reverse, refl, ◌∙◌, ap, arith}
 use Rattle.std.specs.Prelude.{codes}
 use Rattle.std.specs.declared.cmp.Ordering.{Ordering}
 use Rattle.std.specs.declared.cmp.Ordering.TheVariants.{Less, Equal, Greater}
@@ -9,6 +9,7 @@ use Rattle.std.proofs.lemmas.Cmp.{ranked}
 use Rattle.dname.specs.Name.{Label, IsUnder, asterisk, label_cmp, canonical_cmp}
 use Rattle.dname.proofs.TogetherLemmas.{above_is_first}
 use Rattle.zone_maker.specs.Made.{made_example, digit, six_digits, Turn, Host, Above, Cut, Wild, turn_at, owner_in, made_owner}
+use Rattle.zone_maker.proofs.NameLemmas.{label_at}
 
 -- ---- numbers
 
@@ -22,19 +23,19 @@ level a b xs ys upper least rest = by (nat_cmp (digit a) (digit b)) (ranked (dig
     by Greater more = absurd (omega (arith, upper, least, more))
 
 -- the last digits
-abbrev pub one_digit : ℕ → List ℕ
+abbrev one_digit : ℕ → List ℕ
 one_digit i = digit i ∷ []
 
-abbrev pub two_digits : ℕ → List ℕ
+abbrev two_digits : ℕ → List ℕ
 two_digits i = digit (i / 10) ∷ one_digit i
 
-abbrev pub three_digits : ℕ → List ℕ
+abbrev three_digits : ℕ → List ℕ
 three_digits i = digit (i / 100) ∷ two_digits i
 
-abbrev pub four_digits : ℕ → List ℕ
+abbrev four_digits : ℕ → List ℕ
 four_digits i = digit (i / 1000) ∷ three_digits i
 
-abbrev pub five_digits : ℕ → List ℕ
+abbrev five_digits : ℕ → List ℕ
 five_digits i = digit (i / 10000) ∷ four_digits i
 
 pub digits_in_order : (i j : ℕ) → i < j → j < 1000000 → slice_cmp nat_cmp (six_digits i) (six_digits j) ≡ Less
@@ -47,10 +48,6 @@ digits_in_order i j less small =
     level i j [] [] e (omega (arith, less)) (λ e. absurd (omega (arith, e, less))))))))
 
 -- ---- names
-
--- the first label of name number i
-abbrev pub label_at : ℕ → Label
-label_at i = codes "n" ++ six_digits i
 
 pub labels_in_order : (i j : ℕ) → i < j → j < 1000000 → label_cmp (label_at i) (label_at j) ≡ Less
 labels_in_order i j less small = digits_in_order i j less small

@@ -7,10 +7,10 @@ use Rattle.std.proofs.lemmas.Bool.{cases_lt}
 use Rattle.dname.specs.Name.{Label, IsUnder, asterisk, label_cmp, canonical_cmp}
 use Rattle.dname.proofs.ArcLemmas.{not_before_itself}
 use Rattle.dname.specs.Order.{canonical_total}
-use Rattle.dname.proofs.CommonLemmas.{under_is_longer}
-use Rattle.zone_meaning.proofs.ZoneTests.{under_step}
+use Rattle.dname.proofs.UnderLemmas.{under_is_longer, under_step}
 use Rattle.zone_maker.specs.Made.{made_example, name_at, Turn, Host, Above, Cut, Wild, turn_at, owner_in, made_owner}
-use Rattle.made_laws.proofs.OrderLemmas.{label_at, labels_in_order, owners_rise}
+use Rattle.zone_maker.proofs.NameLemmas.{label_at}
+use Rattle.made_laws.proofs.OrderLemmas.{labels_in_order, owners_rise}
 use Rattle.made_laws.proofs.RingLemmas.{one_number}
 
 -- each owner has one number

@@ -2,11 +2,11 @@
 use Rattle.std.proofs.Common.{◌≡◌, ℕ, zero, suc, ◌<◌, ◌≤◌, ◌⊎◌, inl, inr, ⊎_elim, List, ◌∷◌, map, refl, sym, ◌∙◌, ap, subst, arith}
 use Rattle.std.specs.List.{Contains, range_with_len}
 use Rattle.std.proofs.lemmas.List.FromFn.{length-map-range_with_len, get_or-map-range_with_len}
+use Rattle.facts.proofs.Lists.{here, there, here_or_there}
 use Rattle.dname.specs.Name.{Label, IsUnder, wire_of}
 use Rattle.dname.specs.declared.types.TheConstants.{DNAME_TYPE, NS_TYPE, SOA_TYPE}
 use Rattle.zone_meaning.specs.Zone.{ZoneRecord, HasType, IsBar, IsBelow, IsCut, IsLive, IsOwner}
 use Rattle.zone_meaning.specs.ZoneTable.{zone_record}
-use Rattle.zone_meaning.proofs.ZoneTests.{here, later, first_or_later}
 use Rattle.zone_maker.specs.Made.{made_example, name_server, name_at, Turn, Host, Above, Cut, Wild, turn_at, owner_in, type_in, data_in, record_in, soa_data, made_zone, made_owner}
 use Rattle.made_laws.proofs.OwnerLemmas.{none_below_cut}
 
@@ -43,20 +43,20 @@ made_record seed names r in' = ⊎_elim
     (λ (second : servers_record ≡ r). servers (sym second))
     (λ (others : Contains (named_records seed names) r).
     let at = at_number (λ i. record_in (turn_at i) seed i) names r others in named at.0 at.1 (sym at.2))
-    (first_or_later servers_record (named_records seed names) r more))
-    (first_or_later soa_record (servers_record ∷ named_records seed names) r in')
+    (here_or_there servers_record (named_records seed names) r more))
+    (here_or_there soa_record (servers_record ∷ named_records seed names) r in')
 
 pub has_soa : (seed names : ℕ) → Contains (made_zone seed names).records soa_record
 has_soa seed names = here soa_record (servers_record ∷ named_records seed names)
 
 pub has_servers : (seed names : ℕ) → Contains (made_zone seed names).records servers_record
-has_servers seed names = later soa_record (servers_record ∷ named_records seed names) servers_record (here servers_record (named_records seed names))
+has_servers seed names = there soa_record (servers_record ∷ named_records seed names) servers_record (here servers_record (named_records seed names))
 
 pub has_named : (seed names i : ℕ) → i < names → Contains (made_zone seed names).records (record_in (turn_at i) seed i)
 has_named seed names i short =
     let r : ZoneRecord = record_in (turn_at i) seed i in
-    later soa_record (servers_record ∷ named_records seed names) r
-    (later servers_record (named_records seed names) r (number_at (λ i. record_in (turn_at i) seed i) names i short))
+    there soa_record (servers_record ∷ named_records seed names) r
+    (there servers_record (named_records seed names) r (number_at (λ i. record_in (turn_at i) seed i) names i short))
 
 -- ---- cuts
 

@@ -1,16 +1,20 @@
 -- What intake takes from a made message is true of the made zone.
-use Rattle.std.proofs.Common.{◌≡◌, Bool, true, false, not, ℕ, zero, suc, ◌+◌, ◌≤◌, List, [], ◌∷◌, ◌++◌, length, map, drop, Ok, refl, sym, ◌∙◌, ap, subst, arith}
+use Rattle.std.proofs.Common.{◌≡◌, true, false, not, ℕ, zero, suc, ◌+◌, ◌≤◌, List, [], ◌∷◌, ◌++◌, length, map, drop, Ok, refl, sym, ◌∙◌, ap, subst, arith}
 use Rattle.std.specs.Prelude.{◌==◌, nat_lt}
 use Rattle.std.specs.List.{All, Contains, filter, flat_map}
 use Rattle.std.specs.Option.{option_to_list}
-use Rattle.std.proofs.lemmas.Bool.{and_parts, cond-false}
-use Rattle.std.proofs.lemmas.Bool.Decides.{Decides-eqb, nat_tests}
+use Rattle.std.proofs.lemmas.Bool.{and_parts, cond-false, not-true, le-ltb}
+use Rattle.std.proofs.lemmas.Bool.Decides.{Decides-eqb}
 use Rattle.std.proofs.lemmas.List.{drop_at}
 use Rattle.std.proofs.lemmas.List.Elements.{All-nil, All-cons, All-append, All-contains, All-map, All-weaker, Contains-get_or}
+use Rattle.facts.proofs.Filters.{was_kept, kept}
+use Rattle.facts.proofs.Lists.{all_by_member, here}
+use Rattle.facts.proofs.Maps.{from_map, into_map}
 use Rattle.dname.specs.Name.{Label, wire_of}
 use Rattle.dname.specs.Read.{Spells}
 use Rattle.dname.specs.declared.types.TheConstants.{A_TYPE, NSEC_TYPE, NSEC3_TYPE, RRSIG_TYPE, SOA_TYPE}
 use Rattle.dname.proofs.ReadLemmas.{one_name}
+use Rattle.dname.proofs.SameLemmas.{same_name_decides}
 use Rattle.dnswire.specs.declared.rr.Rr.{Rr}
 use Rattle.dnswire.specs.declared.message.Message.{Message}
 use Rattle.denial_records.specs.Rrsig.{IsRrsig}
@@ -25,15 +29,15 @@ use Rattle.denial_records.specs.declared.record.Record.{Record}
 use Rattle.denial_records.specs.declared.record.Record.TheVariants.{Set, Nsec, Nsec3}
 use Rattle.zone_meaning.specs.Zone.{Zone}
 use Rattle.zone_meaning.specs.Consistent.{SetPart, NsecPart, IsConsistentSet, IsConsistentNsec}
-use Rattle.zone_meaning.proofs.ZoneTests.{all_by_member, here, same_name_decides}
 use Rattle.soundness.specs.True.{set_part, nsec_part, IsTrueOf, IsClashFreeFor}
-use Rattle.intake.specs.Group.{Group, each_once, same_name, same_octets, is_together, is_rrsig, covers, group_of, groups_of}
+use Rattle.dname.specs.Tests.{each_once, same_name, same_octets}
+use Rattle.intake.specs.Group.{Group, is_together, is_rrsig, covers, group_of, groups_of}
 use Rattle.intake.specs.Signed.{Says}
 use Rattle.intake.specs.Stored.{owner_labels, signed_name, is_denial_type, IsKept, IsStored, IsStoredSet, IsStoredNsec}
 use Rattle.intake.specs.Batch.{IsTakenAs, Gives}
 use Rattle.intake.specs.declared.taken.Taken.{Taken}
 use Rattle.intake.proofs.GroupLemmas.{together}
-use Rattle.intake.proofs.MessageLemmas.{one_message}
+use Rattle.dnswire.proofs.MessageLemmas.{one_message}
 use Rattle.intake.proofs.StoredLemmas.{nsec_same}
 use Rattle.zone_maker.specs.Made.{made_example, Turn, Host, Above, Cut, Wild, turn_at, type_in, data_in, address_at, soa_data, made_zone, made_owner, next_owner}
 use Rattle.zone_maker.specs.Messages.{signature_data, first_in, first_of, type_map, nsec_data, message_at, messages_of}
@@ -43,7 +47,7 @@ use Rattle.made_laws.proofs.TrueLemmas.{HasOnly, nsec_true, soa_true, named_true
 use Rattle.made_laws.proofs.WrittenLemmas.{rr_of, rr_in}
 use Rattle.made_laws.proofs.PlainLemmas.{plain_apex, plain_next}
 use Rattle.made_laws.proofs.SectionLemmas.{answer_for, answer_at, authority_at, made_message, made_reads}
-use Rattle.made_laws.proofs.ContainLemmas.{in_filter, into_filter, in_map, into_map, in_once, one_kept, in_pairs, first_pair}
+use Rattle.made_laws.proofs.ContainLemmas.{in_once, one_kept, in_pairs, first_pair}
 
 -- ---- the records of a made message
 
@@ -127,15 +131,12 @@ pub record IsSignedBy (rr : Rr) (signature : List ℕ) : Type 0 where
 -- each signature of a group is of its owner
 pub group_signature : (seed names k now : ℕ) (rrs : List Rr) (rr : Rr) → All (IsOne seed names k) rrs → (signature : List ℕ) → Contains (group_of now rrs rr).signatures signature → IsSignedBy rr signature
 group_signature seed names k now rrs rr all signature in' =
-    let from = in_map (λ (x : Rr). x.octets) (filter (covers now rr) rrs) signature (in_once same_octets (map (λ (x : Rr). x.octets) (filter (covers now rr) rrs)) signature in') in
-    let kept = in_filter (covers now rr) rrs from.0 from.1 in
+    let from = from_map (λ (x : Rr). x.octets) (filter (covers now rr) rrs) signature (in_once same_octets (map (λ (x : Rr). x.octets) (filter (covers now rr) rrs)) signature in') in
+    let kept = was_kept (covers now rr) rrs from.0 from.1 in
     let tests = and_parts (is_rrsig from.0) _ kept.1 in
     let owners = (and_parts (same_name rr.owner from.0.owner) _ (and_parts (from.0.class == 1) _ tests.1).1).0 in
     let signs = is_signing seed names k from.0 (All-contains (IsOne seed names k) rrs from.0 all kept.0) tests.0 in
     record { covered = signs.0; is = sym from.2 ∙ signs.1 ∙ ap (λ o. signature_data o signs.0) (sym ((same_name_decides rr.owner from.0.owner).0 owners)) }
-
-pub not_fewer : (n : ℕ) → nat_lt n n ≡ false
-not_fewer n = grind (arith, nat_tests)
 
 -- a group that is kept is the zone's, and as it stands there
 pub kept_as : (seed names k now : ℕ) (rrs : List Rr) (rr : Rr) → All (IsOne seed names k) rrs → (zone owner : List Label) (life : ℕ) → IsKept now (group_of now rrs rr) zone owner life → (zone ≡ made_example) × (owner ≡ rr.owner)
@@ -146,7 +147,7 @@ kept_as seed names k now rrs rr all zone owner life kept =
     let said = signature_says rr.owner signature.covered one.1 (subst (λ s. IsRrsig s one.1) signature.is one.3) in
     let labels : kept.labels ≡ owner_labels rr.owner = sym one.4.labels_are ∙ said.1 in (
       sym one.4.signer_is ∙ said.0,
-      kept.owner_is ∙ ap (signed_name rr.owner) labels ∙ cond-false (nat_lt (owner_labels rr.owner) (owner_labels rr.owner)) _ rr.owner (not_fewer (owner_labels rr.owner)),
+      kept.owner_is ∙ ap (signed_name rr.owner) labels ∙ cond-false (nat_lt (owner_labels rr.owner) (owner_labels rr.owner)) _ rr.owner (le-ltb (owner_labels rr.owner) (owner_labels rr.owner) (omega arith)),
     )
 
 -- ---- data
@@ -184,7 +185,7 @@ group_data seed names k now rrs rr all in' plain octets = (
 
     same : (other : Rr) → Contains (filter (is_together rr) rrs) other → other.octets ≡ rr.octets
     same other there =
-        let kept = in_filter (is_together rr) rrs other there in
+        let kept = was_kept (is_together rr) rrs other there in
         let keys = (together.decides rr other).0 kept.1 in
         same_data seed names k rr other one (All-contains (IsOne seed names k) rrs other all kept.0) (not_signing rr plain) (λ i. (keys i).rtype)
 
@@ -192,7 +193,7 @@ group_data seed names k now rrs rr all in' plain octets = (
     each = All-map (λ o. o ≡ rr.octets) (λ (x : Rr). x.octets) (filter (is_together rr) rrs) (λ n d short. same _ (Contains-get_or (filter (is_together rr) rrs) n d short))
 
     own : Contains (found_in rrs rr) rr.octets
-    own = into_map (λ (x : Rr). x.octets) (filter (is_together rr) rrs) rr (into_filter (is_together rr) rrs rr in' ((together.decides rr rr).1 refl))
+    own = into_map (λ (x : Rr). x.octets) (filter (is_together rr) rrs) rr (kept (is_together rr) rrs rr in' ((together.decides rr rr).1 refl))
 
 -- ---- what a group is stored as
 
@@ -293,13 +294,9 @@ module _ (seed names k now : ℕ) (few : names ≤ 1000000) (small : k ≤ names
   -- each group is that of one of the records
   pub group_from : (group : Group) → Contains (groups_of now rrs) group → (rr : Rr) × Contains rrs rr × (is_rrsig rr ≡ false) × (group_of now rrs rr ≡ group)
   group_from group in' =
-      let from = in_map (group_of now rrs) (each_once is_together (filter (λ rr. not (is_rrsig rr)) rrs)) group in' in
-      let there = in_filter (λ rr. not (is_rrsig rr)) rrs from.0 (in_once is_together (filter (λ rr. not (is_rrsig rr)) rrs) from.0 from.1) in
-      (from.0, there.0, false_from_not (is_rrsig from.0) there.1, from.2)
-    where
-      false_from_not : (b : Bool) → not b ≡ true → b ≡ false
-      false_from_not true e = cc
-      false_from_not false e = refl
+      let from = from_map (group_of now rrs) (each_once is_together (filter (λ rr. not (is_rrsig rr)) rrs)) group in' in
+      let there = was_kept (λ rr. not (is_rrsig rr)) rrs from.0 (in_once is_together (filter (λ rr. not (is_rrsig rr)) rrs) from.0 from.1) in
+      (from.0, there.0, not-true (is_rrsig from.0) there.1, from.2)
 
 -- each record that intake takes from a made message is true of the zone
 pub taken_plain : (seed names k now : ℕ) (taken : Taken) → names ≤ 1000000 → k ≤ names → Gives (message_at seed names k) now (Ok taken) → All (IsPlainlyTrue (made_zone seed names)) taken.batch.records

@@ -5,6 +5,7 @@ use Rattle.std.specs.Prelude.{◌==◌}
 use Rattle.std.specs.declared.cmp.Ordering.TheVariants.{Less}
 use Rattle.std.proofs.lemmas.Bool.{cases_eq, cases_lt, cond-true, cond-false, ne_eqb}
 use Rattle.std.proofs.lemmas.Bool.Decides.{Decides-eqb}
+use Rattle.facts.proofs.Lists.{here, there, here_or_there, nothing_in}
 use Rattle.dname.specs.Name.{Label, canonical_cmp}
 use Rattle.dname.specs.Arc.{IsInside}
 use Rattle.dname.specs.Order.{canonical_total}
@@ -12,10 +13,10 @@ use Rattle.dname.specs.declared.types.TheConstants.{NS_TYPE, NSEC_TYPE, RRSIG_TY
 use Rattle.zone_meaning.specs.Zone.{ZoneRecord, HasData, HasType, IsCut, IsLive, IsProofType}
 use Rattle.zone_meaning.specs.ZoneTable.{zone_record}
 use Rattle.zone_meaning.specs.Consistent.{IsConsistentSet, IsConsistentNsec}
-use Rattle.zone_meaning.proofs.ZoneTests.{here, later, first_or_later, nowhere}
 use Rattle.zone_maker.specs.Made.{made_example, name_at, Cut, turn_at, owner_in, type_in, data_in, soa_data, made_zone, made_owner, next_owner}
 use Rattle.made_laws.specs.MadeNsec.{types_at, nsec_at}
-use Rattle.made_laws.proofs.OrderLemmas.{label_at, owner_is_no_apex, owners_rise}
+use Rattle.zone_maker.proofs.NameLemmas.{label_at}
+use Rattle.made_laws.proofs.OrderLemmas.{owner_is_no_apex, owners_rise}
 use Rattle.made_laws.proofs.RingLemmas.{none_before_next, none_after_last}
 use Rattle.made_laws.proofs.OwnerLemmas.{one_owner}
 use Rattle.made_laws.proofs.RecordLemmas.{IsMade, made_record, has_soa, has_servers, has_named, cut_has_number, live_at, live_has_number}
@@ -30,7 +31,7 @@ type_there : (seed names k rtype : ℕ) → names ≤ 1000000 → k ≤ names �
 type_there seed names zero rtype few small has = by (made_record seed names (zone_record made_example rtype has.0) has.1)
   where
     by : IsMade seed names (zone_record made_example rtype has.0) → Contains (types_at 0) rtype
-    by (soa e) = one_of (types_at 0) rtype SOA_TYPE (ap (λ (r : ZoneRecord). r.rtype) e) (later NS_TYPE (SOA_TYPE ∷ RRSIG_TYPE ∷ NSEC_TYPE ∷ []) SOA_TYPE (here SOA_TYPE (RRSIG_TYPE ∷ NSEC_TYPE ∷ [])))
+    by (soa e) = one_of (types_at 0) rtype SOA_TYPE (ap (λ (r : ZoneRecord). r.rtype) e) (there NS_TYPE (SOA_TYPE ∷ RRSIG_TYPE ∷ NSEC_TYPE ∷ []) SOA_TYPE (here SOA_TYPE (RRSIG_TYPE ∷ NSEC_TYPE ∷ [])))
     by (servers e) = one_of (types_at 0) rtype NS_TYPE (ap (λ (r : ZoneRecord). r.rtype) e) (here NS_TYPE (SOA_TYPE ∷ RRSIG_TYPE ∷ NSEC_TYPE ∷ []))
     by (named i short e) = absurd (owner_is_no_apex (turn_at i) (label_at i) (sym (ap (λ (r : ZoneRecord). r.owner) e)))
 type_there seed names (suc i) rtype few small has = by (made_record seed names (zone_record (made_owner (suc i)) rtype has.0) has.1)
@@ -48,9 +49,9 @@ proof_types rtype in' = ⊎_elim
     (λ (first : RRSIG_TYPE ≡ rtype). inl (sym first))
     (λ (more : Contains (NSEC_TYPE ∷ []) rtype). ⊎_elim
     (λ (second : NSEC_TYPE ≡ rtype). inr (inl (sym second)))
-    (λ (none : Contains [] rtype). absurd (nowhere rtype none))
-    (first_or_later NSEC_TYPE [] rtype more))
-    (first_or_later RRSIG_TYPE (NSEC_TYPE ∷ []) rtype in')
+    (λ (none : Contains [] rtype). absurd (nothing_in rtype none))
+    (here_or_there NSEC_TYPE [] rtype more))
+    (here_or_there RRSIG_TYPE (NSEC_TYPE ∷ []) rtype in')
 
 there_type : (seed names k rtype : ℕ) → k ≤ names → (IsProofType rtype → ⊥) → Contains (types_at k) rtype → HasType (made_zone seed names) (made_owner k) rtype
 there_type seed names zero rtype small ordinary in' = ⊎_elim
@@ -58,12 +59,12 @@ there_type seed names zero rtype small ordinary in' = ⊎_elim
     (λ (more : Contains (SOA_TYPE ∷ RRSIG_TYPE ∷ NSEC_TYPE ∷ []) rtype). ⊎_elim
     (λ (second : SOA_TYPE ≡ rtype). subst (λ t. HasType (made_zone seed names) made_example t) second (_, has_soa seed names))
     (λ (others : Contains (RRSIG_TYPE ∷ NSEC_TYPE ∷ []) rtype). absurd (ordinary (proof_types rtype others)))
-    (first_or_later SOA_TYPE (RRSIG_TYPE ∷ NSEC_TYPE ∷ []) rtype more))
-    (first_or_later NS_TYPE (SOA_TYPE ∷ RRSIG_TYPE ∷ NSEC_TYPE ∷ []) rtype in')
+    (here_or_there SOA_TYPE (RRSIG_TYPE ∷ NSEC_TYPE ∷ []) rtype more))
+    (here_or_there NS_TYPE (SOA_TYPE ∷ RRSIG_TYPE ∷ NSEC_TYPE ∷ []) rtype in')
 there_type seed names (suc i) rtype small ordinary in' = ⊎_elim
     (λ (first : type_in (turn_at i) ≡ rtype). subst (λ t. HasType (made_zone seed names) (made_owner (suc i)) t) first (_, has_named seed names i (omega (arith, small))))
     (λ (others : Contains (RRSIG_TYPE ∷ NSEC_TYPE ∷ []) rtype). absurd (ordinary (proof_types rtype others)))
-    (first_or_later (type_in (turn_at i)) (RRSIG_TYPE ∷ NSEC_TYPE ∷ []) rtype in')
+    (here_or_there (type_in (turn_at i)) (RRSIG_TYPE ∷ NSEC_TYPE ∷ []) rtype in')
 
 -- ---- NSEC records
 
@@ -110,7 +111,7 @@ abbrev pub HasOnly : List (List ℕ) → List ℕ → Type 0
 HasOnly items data' = (octets : List ℕ) → Contains items octets ↔ (octets ≡ data')
 
 not_empty : (items : List (List ℕ)) (data' : List ℕ) → HasOnly items data' → items ≢ []
-not_empty items data' only none = nowhere data' (subst (λ (xs : List (List ℕ)). Contains xs data') none ((only data').1 refl))
+not_empty items data' only none = nothing_in data' (subst (λ (xs : List (List ℕ)). Contains xs data') none ((only data').1 refl))
 
 pub soa_true : (seed names : ℕ) (items : List (List ℕ)) → names ≤ 1000000 → HasOnly items soa_data → IsConsistentSet (made_zone seed names) (record { zone = made_example; owner = made_example; rtype = SOA_TYPE; items = items })
 soa_true seed names items few only = record {

@@ -4,12 +4,14 @@ use Rattle.std.specs.List.{AllZip, Contains, filter, flat_map}
 use Rattle.std.specs.Option.{option_to_list}
 use Rattle.std.proofs.lemmas.List.{length-map}
 use Rattle.std.proofs.lemmas.List.Elements.{All-contains, Contains-append_left, Contains-append_right}
+use Rattle.facts.proofs.Filters.{kept}
+use Rattle.facts.proofs.Lists.{here, there}
 use Rattle.dname.specs.Name.{Label}
 use Rattle.dname.specs.declared.types.TheConstants.{A_TYPE, DS_TYPE, NSEC_TYPE, RRSIG_TYPE, SOA_TYPE}
 use Rattle.dnswire.specs.declared.rr.Rr.{Rr}
 use Rattle.denial_records.specs.declared.record.Record.{Record}
-use Rattle.zone_meaning.proofs.ZoneTests.{here, later}
-use Rattle.intake.specs.Group.{Group, each_once, is_together, is_rrsig, group_of, groups_of}
+use Rattle.dname.specs.Tests.{each_once}
+use Rattle.intake.specs.Group.{Group, is_together, is_rrsig, group_of, groups_of}
 use Rattle.intake.specs.Stored.{IsStored}
 use Rattle.intake.specs.Batch.{IsTakenAs, Gives}
 use Rattle.intake.specs.declared.taken.Taken.{Taken}
@@ -17,7 +19,6 @@ use Rattle.zone_maker.specs.Made.{made_example, Wild, turn_at, address_at, soa_d
 use Rattle.zone_maker.specs.Messages.{signature_data, nsec_data, message_at}
 use Rattle.made_laws.proofs.WrittenLemmas.{rr_of, rr_in}
 use Rattle.made_laws.proofs.SectionLemmas.{answer_for, answer_at, made_message, made_reads}
-use Rattle.made_laws.proofs.ContainLemmas.{into_filter}
 use Rattle.made_laws.proofs.TakenLemmas.{IsOne, each_one, not_signing, group_from}
 use Rattle.made_laws.proofs.TakenLemmas.IsOne.{signing, of_soa, of_nsec, of_wildcard}
 use Rattle.made_laws.proofs.GivenLemmas.{some_once}
@@ -35,7 +36,7 @@ all_stored : (now : ℕ) (groups : List Group) → ((g : Group) → Contains gro
 all_stored now [] by = record { taken = []; each = tt; none_skipped = refl; all_there = refl }
 all_stored now (g ∷ groups) by =
     let one = by g (here g groups) in
-    let rest = all_stored now groups (λ other in'. by other (later g groups other in')) in
+    let rest = all_stored now groups (λ other in'. by other (there g groups other in')) in
     record { taken = Some one.0 ∷ rest.taken; each = (one.1, rest.each); none_skipped = rest.none_skipped; all_there = omega (arith, rest.all_there) }
 
 -- ---- the records of a made message
@@ -71,7 +72,7 @@ module _ (seed names k now : ℕ) (small : k ≤ names) (early : now < 200000000
   soa_signed : IsSignedHere made_example SOA_TYPE soa_data
   soa_signed = record {
     there = soa_there;
-    signature = in_authority soa_signature (later soa_rr (soa_signature ∷ nsec_rr ∷ nsec_signature ∷ []) soa_signature (here soa_signature (nsec_rr ∷ nsec_signature ∷ [])));
+    signature = in_authority soa_signature (there soa_rr (soa_signature ∷ nsec_rr ∷ nsec_signature ∷ []) soa_signature (here soa_signature (nsec_rr ∷ nsec_signature ∷ [])));
     small = omega arith;
     plain = refl;
     kept_type = refl;
@@ -81,8 +82,8 @@ module _ (seed names k now : ℕ) (small : k ≤ names) (early : now < 200000000
 
   nsec_signed : IsSignedHere (made_owner k) NSEC_TYPE (nsec_data names k)
   nsec_signed = record {
-    there = in_authority nsec_rr (later soa_rr (soa_signature ∷ nsec_rr ∷ nsec_signature ∷ []) nsec_rr (later soa_signature (nsec_rr ∷ nsec_signature ∷ []) nsec_rr (here nsec_rr (nsec_signature ∷ []))));
-    signature = in_authority nsec_signature (later soa_rr (soa_signature ∷ nsec_rr ∷ nsec_signature ∷ []) nsec_signature (later soa_signature (nsec_rr ∷ nsec_signature ∷ []) nsec_signature (later nsec_rr (nsec_signature ∷ []) nsec_signature (here nsec_signature []))));
+    there = in_authority nsec_rr (there soa_rr (soa_signature ∷ nsec_rr ∷ nsec_signature ∷ []) nsec_rr (there soa_signature (nsec_rr ∷ nsec_signature ∷ []) nsec_rr (here nsec_rr (nsec_signature ∷ []))));
+    signature = in_authority nsec_signature (there soa_rr (soa_signature ∷ nsec_rr ∷ nsec_signature ∷ []) nsec_signature (there soa_signature (nsec_rr ∷ nsec_signature ∷ []) nsec_signature (there nsec_rr (nsec_signature ∷ []) nsec_signature (here nsec_signature []))));
     small = omega arith;
     plain = refl;
     kept_type = refl;
@@ -101,7 +102,7 @@ module _ (seed names k now : ℕ) (small : k ≤ names) (early : now < 200000000
       let s : Rr = rr_of (made_owner (suc i)) RRSIG_TYPE (signature_data (made_owner (suc i)) A_TYPE) in
       record {
         there = in_answer i w is at (here w (s ∷ []));
-        signature = in_answer i s is at (later w (s ∷ []) s (here s []));
+        signature = in_answer i s is at (there w (s ∷ []) s (here s []));
         small = omega arith;
         plain = refl;
         kept_type = refl;
@@ -128,7 +129,7 @@ module _ (seed names k now : ℕ) (small : k ≤ names) (early : now < 200000000
   some_group : 1 ≤ length (groups_of now records)
   some_group =
       let plain : List Rr = filter (λ rr. not (is_rrsig rr)) records in
-      omega (arith, length-map (each_once is_together plain) (group_of now records), some_once is_together plain soa_rr (into_filter (λ rr. not (is_rrsig rr)) records soa_rr soa_there refl))
+      omega (arith, length-map (each_once is_together plain) (group_of now records), some_once is_together plain soa_rr (kept (λ rr. not (is_rrsig rr)) records soa_rr soa_there refl))
 
   -- all is taken, and nothing skipped
   pub all_taken : names ≤ 1000000 → (taken : Taken) × Gives (message_at seed names k) now (Ok taken) × (taken.skipped ≡ 0)

@@ -11,8 +11,11 @@ use Rattle.std.proofs.lemmas.List.{length-append}
 use Rattle.std.proofs.lemmas.List.Elements.{Contains-append_left, Contains-append_right, Contains-append_cases, Contains-get_or}
 use Rattle.std.proofs.lemmas.List.Filters.{length-filter_both}
 use Rattle.ordered_list.specs.Order.{IsInOrder, entry_at, with_entry, without_entry}
-use Rattle.ordered_list.proofs.FilterLemmas.{here, there, here_or_there, kept, was_kept, find_is_first, find_none, find_some, filter_all}
-use Rattle.ordered_list.proofs.OrderLemmas.{equal_from, one_of_rank, with_in_order, filter_in_order}
+use Rattle.facts.proofs.Lists.{here, there, here_or_there}
+use Rattle.facts.proofs.Filters.{kept, was_kept, filter_all}
+use Rattle.facts.proofs.Orderings.{equal_from}
+use Rattle.ordered_list.proofs.FilterLemmas.{find_is_first, find_none, find_some}
+use Rattle.ordered_list.proofs.OrderLemmas.{one_of_rank, with_in_order, filter_in_order}
 use Rattle.ordered_list.proofs.PlaceLemmas.{parts, few_level}
 
 not_equal_if_less : (r : Ordering) → is_lt r ≡ true → r ≢ Equal

@@ -11,22 +11,8 @@ use Rattle.std.proofs.lemmas.Grind.{common_steps}
 use Rattle.std.proofs.lemmas.List.{get_or_default}
 use Rattle.std.proofs.lemmas.List.Elements.{All-append, All-cons, All-contains, All-filter, All-head, All-tail, filter_passes}
 use Rattle.ordered_list.specs.Order.{IsInOrder, with_entry}
-use Rattle.ordered_list.proofs.FilterLemmas.{here, there, here_or_there, nothing_in}
-
-pub less_from : (r : Ordering) → is_lt r ≡ true → r ≡ Less
-less_from Less h = refl
-less_from Equal h = cc
-less_from Greater h = cc
-
-pub equal_from : (r : Ordering) → is_eq r ≡ true → r ≡ Equal
-equal_from Less h = cc
-equal_from Equal h = refl
-equal_from Greater h = cc
-
-pub greater_from : (r : Ordering) → is_gt r ≡ true → r ≡ Greater
-greater_from Less h = cc
-greater_from Equal h = cc
-greater_from Greater h = refl
+use Rattle.facts.proofs.Lists.{here, there, here_or_there, nothing_in}
+use Rattle.facts.proofs.Orderings.{less_from, greater_from}
 
 module _ {X : Type 0} (cmp : X → X → Ordering) where
   pub below_rest : (x : X) (xs : List X) → IsInOrder cmp (x ∷ xs) → All (λ y. cmp x y ≡ Less) xs

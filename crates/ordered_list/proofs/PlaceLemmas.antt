@@ -11,8 +11,10 @@ use Rattle.std.proofs.lemmas.List.Sums.{prefix_len_passes}
 use Rattle.std.proofs.lemmas.Bool.{cases_lt}
 use Rattle.std.proofs.lemmas.Grind.{common_steps}
 use Rattle.ordered_list.specs.Order.{IsInOrder, IsRank, with_entry, without_entry}
-use Rattle.ordered_list.proofs.FilterLemmas.{filter_all, filter_none, find_is_first}
-use Rattle.ordered_list.proofs.OrderLemmas.{rest_in_order, above_behind, partitioned, less_from}
+use Rattle.facts.proofs.Filters.{filter_all, filter_none}
+use Rattle.facts.proofs.Orderings.{less_from}
+use Rattle.ordered_list.proofs.FilterLemmas.{find_is_first}
+use Rattle.ordered_list.proofs.OrderLemmas.{rest_in_order, above_behind, partitioned}
 
 module _ {X : Type 0} (cmp : X → X → Ordering) (total : IsTotalOrder cmp) (like : X) where
   abbrev below : X → Bool

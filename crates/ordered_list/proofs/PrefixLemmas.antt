@@ -2,7 +2,7 @@
 use Rattle.std.proofs.Common.{◌≡◌, zero, suc, ◌+◌, Bool, true, false, true≢false, not, List, [], ◌∷◌, get_or, take, drop, All, filter, refl, sym, ap, ◌∙◌, arith}
 use Rattle.std.specs.List.{prefix_len}
 use Rattle.std.specs.List.Sorted.{IsPartitionedBy}
-use Rattle.ordered_list.proofs.FilterLemmas.{filter_all, filter_none}
+use Rattle.facts.proofs.Filters.{filter_all, filter_none}
 
 module _ {X : Type 0} (p : X → Bool) where
   partitioned_rest : (x : X) (xs : List X) → IsPartitionedBy p (x ∷ xs) → IsPartitionedBy p xs

@@ -16,20 +16,18 @@ mod gate;
 mod harbor;
 mod incoming;
 mod link;
-#[cfg(test)]
-mod link_tests;
 mod memory_harbor;
 mod memory_link;
 mod memory_sink;
 mod memory_source;
 mod sink;
+mod slices;
 mod source;
 mod steady;
 mod stream;
 mod system_clock;
-#[cfg(test)]
-mod tests;
 mod udp;
+mod writing;
 
 pub use clock::{Clock, FixedClock};
 pub use datagram::{Datagram, MAX_DATAGRAM, Peer};
@@ -48,6 +46,7 @@ pub use steady::{SteadySink, SteadySource};
 pub use stream::{StreamSink, StreamSource};
 pub use system_clock::SystemClock;
 pub use udp::{UdpHarbor, UdpLink};
+pub use writing::write_whole;
 
 /// No memory was left for what the call had to keep.
 pub type OutOfMemory = std::alloc::AllocError;

@@ -1,6 +1,7 @@
 ghost use Rattle.std.specs.Prelude.{◌≡◌, ◌≤◌, [], ◌++◌, length, take, drop, min, Some, None, Ok, IsOk, IfOk};
 ghost use Rattle.outside_core.specs.SteadySource.{supply_of, after_taking};
 
+use crate::slices::rest_of;
 use crate::{Failed, Sink, Source};
 use std::marker::Model;
 
@@ -62,14 +63,6 @@ impl Source for SteadySource {
         self.position += count;
         Ok(count)
     }
-}
-
-// What follows the octets before a position.
-fn rest_of(octets: &[u8], position: usize) -> &[u8]
-    requires { position ≤ length octets.now }
-    ensures { result.now ≡ drop position octets.now }
-{
-    &octets[position..]
 }
 
 // Copies as many octets as both have, and gives their number.

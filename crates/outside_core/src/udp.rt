@@ -11,8 +11,6 @@ use std::sync::Wait;
 use tap::Tap;
 
 mod tap;
-#[cfg(test)]
-mod tests;
 
 /// The real network as a harbor. It tells nothing of what came back. Its count of faults stays at
 /// 2^64 - 1 once it is there.

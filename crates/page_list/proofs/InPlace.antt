@@ -98,11 +98,6 @@ same_slots (slot ∷ slots) =
     unmoved : (n : ℕ) → n - 0 + 0 ≡ n
     unmoved n = omega arith
 
--- what is put into a row that is a copy
-pub cloned : {X : Type 0} (none read slots all : List (Shelved X)) → none ≡ [] → read ≡ slots → all ≡ none ++ map (shifted 0 0) read → all ≡ slots
-cloned none read slots all empty same e =
-    e ∙ (ap (λ z. z ++ map (shifted 0 0) read) empty ∙ (ap (map (shifted 0 0)) same ∙ same_slots slots))
-
 -- a slot stands in the place of another one, and those behind it are shifted
 slots_whole : {X : Type 0} (slots now all : List (Shelved X)) (p old new : ℕ) (slot : Shelved X) → p < length slots → now ≡ set slots p slot → all ≡ take (p + 1) now ++ map (shifted old new) (drop (p + 1) now) → all ≡ map (shifted 0 0) (take p slots) ++ slot ∷ map (shifted old new) (drop (p + 1) slots)
 slots_whole slots now all p old new slot h e whole =

@@ -1,4 +1,4 @@
-use Rattle.std.proofs.Common.{◌≡◌, ℕ, zero, suc, ◌+◌, ◌-◌, ◌<◌, ◌≤◌, Bool, true, false, List, [], ◌∷◌, length, get_or, take, inl, inr, arith, refl, sym, ap, subst, ◌∙◌}
+use Rattle.std.proofs.Common.{◌≡◌, ℕ, zero, suc, ◌+◌, ◌-◌, ◌<◌, ◌≤◌, Bool, true, false, List, [], ◌∷◌, length, get_or, take, inl, inr, arith, sym, ap, subst, ◌∙◌}
 use denote.Ref.{Bor}
 use denote.Param.Members.{Shared}
 use Rattle.std.specs.Fn.{FnReturnsAt}
@@ -10,7 +10,7 @@ use Rattle.page_list.proofs.Rows.{length_more, entry_at, length_along, length_al
 use Rattle.page_list.specs.Marks.{Marked, mark_of}
 use Rattle.page_list.specs.Search.{IsBehindLesser, IsLastOf, IsTestAt, IsTestOf, HasNarrowed, BeginsLesser, BeginsGreater}
 use Rattle.std.proofs.lemmas.List.Sums.{prefix_len_is, prefix_len_passes, prefix_len_stops}
-use Rattle.std.proofs.lemmas.Bool.{cases_lt}
+use Rattle.std.proofs.lemmas.Bool.{cases_lt, false_from_ne_true}
 use Rattle.std.proofs.lemmas.List.Elements.{Contains-get_or}
 
 -- what a call at the entry `middle` tells of any test that the calls compute
@@ -35,10 +35,6 @@ HasNarrowed-up xs IsTest low high middle low' was le up lt passes = record {
   above = was.above;
 }
 
-false_from : (b : Bool) → (b ≡ true → ⊥) → b ≡ false
-false_from true h = absurd (h refl)
-false_from false h = refl
-
 -- the entry `middle` fails: so does all behind it
 pub HasNarrowed-down : {X : Type 0} (xs : List X) (IsTest : (X → Bool) → Type 0) (low high middle : ℕ) → HasNarrowed xs IsTest low high → low ≤ middle → middle < length xs → ((p : X → Bool) → IsTest p → (d : X) → p (get_or xs middle d) ≡ false) → HasNarrowed xs IsTest low middle
 HasNarrowed-down xs IsTest low high middle was up lt fails = record {
@@ -46,7 +42,7 @@ HasNarrowed-down xs IsTest low high middle was up lt fails = record {
   in_range = omega arith;
   below = was.below;
   above = λ p test parted k d le lt'.
-      false_from (p (get_or xs k d)) (λ passes. let t : p (get_or xs middle d) ≡ true = parted middle k d le lt' passes in let f : p (get_or xs middle d) ≡ false = fails p test d in cc);
+      false_from_ne_true (p (get_or xs k d)) (λ passes. let t : p (get_or xs middle d) ≡ true = parted middle k d le lt' passes in let f : p (get_or xs middle d) ≡ false = fails p test d in cc);
 }
 
 pub IsBehindLesser-start : {X : Type 0} (mark : ℕ) (entries : List (Marked X)) → IsBehindLesser mark entries 0
@@ -60,7 +56,7 @@ HasNarrowed-to_run g f mark xs low high behind le in_xs greater = record {
   below = λ p test parted k d lt.
       parted k (low - 1) d (omega arith) (omega arith) (test.parts.lesser (get_or xs (low - 1) d) (Contains-get_or xs (low - 1) d (omega arith)) (behind.lesser d (omega arith)));
   above = λ p test parted k d from lt.
-      false_from (p (get_or xs k d)) (λ passes.
+      false_from_ne_true (p (get_or xs k d)) (λ passes.
       let t : p (get_or xs high d) ≡ true = parted high k d from lt passes in
       let f' : p (get_or xs high d) ≡ false = test.parts.greater (get_or xs high d) (Contains-get_or xs high d (omega arith)) (greater d (omega arith)) in
       cc);
@@ -86,7 +82,7 @@ HasNarrowed-to_blocks g f mark entries_of blocks low high order in_blocks lesser
           elim (cases_lt high (length blocks)) [
             | inl less ↦
                 (let begins = greater less in
-                false_from (p (get_or xs k d)) (λ passes.
+                false_from_ne_true (p (get_or xs k d)) (λ passes.
                 let t : p (get_or xs start d) ≡ true = parted start k d from lt passes in
                 let f' : p (get_or xs start d) ≡ false = test.parts.greater (get_or xs start d) (Contains-get_or xs start d begins.in_range) (begins.greater d) in
                 cc))

@@ -4,7 +4,7 @@ use Rattle.std.proofs.lemmas.List.{append-nil, map-append, length-map, get_or-ma
 use Rattle.std.proofs.Math.Seq.{get_or-append_seam}
 use Rattle.std.specs.List.{flat_map}
 use Rattle.page_list.specs.Rows.{IsEnds, IsFirstMarks, IsShelf, IsShelved, Shelved, block_of, end_of, first_mark_of, shifted}
-use Rattle.page_list.proofs.Rows.{AreMoved, HasEnds, HasEnds-push, IsEnds-set, at_mapped, block_end, end_is_past, length_more, nat_cases, take_mapped_more}
+use Rattle.page_list.proofs.Rows.{AreMoved, HasEnds, HasEnds-push, IsEnds-set, at_mapped, block_end, end_is_past, length_more, nat_cases}
 use Rattle.page_list.proofs.Marks.{IsFirstMarks-push, IsFirstMarks-set, starts_with}
 
 -- what is seen of slots that are taken from others
@@ -51,19 +51,6 @@ shelf_first mark_of f slots xs p own slot shown shelf h is e =
 pub shelf_end : {X A : Type 0} (mark_of : A → ℕ) (f : X → List A) (slots : List (Shelved X)) (xs : List X) (p end : ℕ) (slot : Shelved X) → map block_of slots ≡ xs → IsShelf mark_of f slots → p < length xs → slot ≡ get_or slots p slot → end ≡ slot.end → end ≡ length (flat_map f (take (p + 1) xs))
 shelf_end mark_of f slots xs p end slot shown shelf h is e =
     block_end f xs (map end_of slots) p end (subst (λ z. IsEnds f z (map end_of slots)) shown shelf.ends) h (sym (at_mapped end_of slots p slot end (in_slots slots xs p shown h) is e end))
-
--- each end behind a block is no less than its length
-pub shelf_is_past : {X A : Type 0} (mark_of : A → ℕ) (f : X → List A) (slots back : List (Shelved X)) (xs : List X) (p old : ℕ) (b : X) → map block_of slots ≡ xs → IsShelf mark_of f slots → p < length xs → b ≡ get_or xs p b → old ≡ length (f b) → back ≡ drop (p + 1) slots → (k : ℕ) (d : Shelved X) → k < length back → old ≤ (get_or back k d).end
-shelf_is_past mark_of f slots back xs p old b shown shelf h is is_old e k d lt =
-    let in_all : p + 1 + k < length slots = omega (arith, ap length e, length-drop (p + 1) slots) in
-    let at : (get_or back k d).end ≡ get_or (map end_of slots) (p + 1 + k) 0 =
-    ap (λ z. (get_or z k d).end) e ∙ (ap end_of (get_or-drop (p + 1) slots k d) ∙ sym (get_or-map end_of slots (p + 1 + k) d 0 in_all)) in
-    omega (arith, at, end_is_past f xs (map end_of slots) p old (p + 1 + k) b h is is_old (subst (λ z. IsEnds f z (map end_of slots)) shown shelf.ends) (omega arith) (rw (length-map slots end_of) in_all))
-
--- one more is moved
-pub shift_more : {X Y : Type 0} (w : X → Y) (os os' base : List Y) (from : List X) (i : ℕ) (x : X) (y : Y) → i < length from → x ≡ get_or from i x → y ≡ w x → os' ≡ os ++ y ∷ [] → os ≡ base ++ take i (map w from) → os' ≡ base ++ take (i + 1) (map w from)
-shift_more w os os' base from i x y h e s new inv =
-    new ∙ (ap (λ z. z ++ y ∷ []) inv ∙ (append_assoc base (take i (map w from)) (y ∷ []) ∙ ap (λ z. base ++ z) (sym (take_mapped_more w from i x y h e s))))
 
 pub parts_set : {Y : Type 0} (ys : List Y) (p : ℕ) (y : Y) → p < length ys → take p ys ++ y ∷ drop (p + 1) ys ≡ set ys p y
 parts_set ys p y h =
@@ -154,13 +141,6 @@ module _ {X A : Type 0} (mark_of : A → ℕ) (f : X → List A) (slots all : Li
 pub three_parts : {X : Type 0} (none one two all first last : List X) (x : X) → none ≡ [] → one ≡ none ++ first → two ≡ one ++ x ∷ [] → all ≡ two ++ last → all ≡ first ++ x ∷ last
 three_parts none one two all first last x e0 e1 e2 e3 =
     e3 ∙ (ap (λ z. z ++ last) (e2 ∙ ap (λ z. z ++ x ∷ []) (e1 ∙ ap (λ z. z ++ first) e0)) ∙ append_assoc first (x ∷ []) last)
-
--- all that is put into the row that is made
-pub exchanged_whole : {X : Type 0} (none one two all slots read front back : List (Shelved X)) (p old new : ℕ) (slot : Shelved X) → none ≡ [] → read ≡ slots → front ≡ take p read → back ≡ drop (p + 1) read → one ≡ none ++ map (shifted 0 0) front → two ≡ one ++ slot ∷ [] → all ≡ two ++ map (shifted old new) back → all ≡ map (shifted 0 0) (take p slots) ++ slot ∷ map (shifted old new) (drop (p + 1) slots)
-exchanged_whole none one two all slots read front back p old new slot e0 same is_front is_back e1 e2 e3 =
-    three_parts none one two all (map (shifted 0 0) front) (map (shifted old new) back) slot e0 e1 e2 e3
-    ∙ (ap (λ z. map (shifted 0 0) z ++ slot ∷ map (shifted old new) back) (is_front ∙ ap (take p) same)
-    ∙ ap (λ z. map (shifted 0 0) (take p slots) ++ slot ∷ map (shifted old new) z) (is_back ∙ ap (drop (p + 1)) same))
 
 -- one block more is shelved
 pub shelved_more : {X Y Z : Type 0} (v : X → Y) (w : Z → Y) (os os' : List X) (rest rest' : List Z) (whole : List Y) (x : X) (z : Z) → os' ≡ os ++ x ∷ [] → rest ≡ z ∷ rest' → v x ≡ w z → map v os ++ map w rest ≡ whole → map v os' ++ map w rest' ≡ whole

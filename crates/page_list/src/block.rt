@@ -11,27 +11,18 @@ use std::alloc::Global;
 use std::sync::Arc;
 
 /// A part of a list: a page, or a row of parts.
-pub trait Block<T: Drop>: Drop {
-    /// The memory that such blocks of a list are made in.
-    type Pool: Drop;
-
+pub(crate) trait Block<T: Drop>: Drop {
     // its entries, in order
     ghost entries: { Self → List (Marked T) };
 
-    /// Memory for such blocks of a list, if it is shared by the versions of one.
-    fn pool(alloc: Global) -> Option<Self::Pool>;
-
-    /// Keeps a replaced block for its memory.
-    fn keep(pool: Option<&Self::Pool>, replaced: &Arc<Self>);
-
     /// The items in new blocks, as even as they go.
-    fn made(
-        alloc: Global,
-        pool: Option<&Self::Pool>,
-        items: Vec<Entry<T>>,
-    ) -> Result<Vec<Arc<Self>>, OutOfMemory>
+    fn made(alloc: Global, items: Vec<Entry<T>>) -> Result<Vec<Arc<Self>>, OutOfMemory>
         ensures { IfOk result (λ made. flat_map entries (map arc_value made.items)
             ≡ items.items) };
+
+    /// A block with new owners of its parts.
+    fn copied(&self, alloc: Global) -> Result<Self, OutOfMemory>
+        ensures { IfOk result (λ copy. entries copy ≡ entries self.now) };
 
     fn len(&self) -> usize
         ensures { result ≡ length (entries self.now) };
@@ -43,12 +34,6 @@ pub trait Block<T: Drop>: Drop {
     fn first(&self) -> &Entry<T>
         ensures some { 0 < length (entries self.now) }
         ensures first { result.now ≡ slice_index_or (entries self.now) 0 result.now };
-
-    /// The mark of its first entry.
-    fn first_mark(&self) -> u64
-        ensures some { 0 < length (entries self.now) }
-        ensures first { (a : Marked T) → result
-            ≡ mark_of (slice_index_or (entries self.now) 0 a) };
 
     /// The entries from the entry `i` on, as far as its page goes.
     fn page_from(&self, i: usize) -> &[Entry<T>]
@@ -76,32 +61,9 @@ pub trait Block<T: Drop>: Drop {
         ensures last { IfSome result.last
             (λ last. IsLastOf (entries self.now) result.count last.now) };
 
-    /// The entries with `items` in place of those in `from..to`, in one block of as many parts, or a page that has at
-    /// least a quarter of what it may have, or no fewer entries than before, and isn't too long. None where that can't be, and for
-    /// want of memory.
-    fn replaced(
-        &self,
-        alloc: Global,
-        pool: Option<&Self::Pool>,
-        from: usize,
-        to: usize,
-        items: &[Entry<T>],
-    ) -> Option<Arc<Self>>
-        requires order { from ≤ to }
-        requires in_range { to ≤ length (entries self.now) }
-        ensures { IfSome result (λ made. entries (arc_value made)
-            ≡ take from (entries self.now) ++ items.now
-            ++ drop to (entries self.now)) };
-
-    /// The same where it lies. Nothing is changed where that can't be, and for want of memory.
-    fn replace(
-        &mut self,
-        alloc: Global,
-        pool: Option<&Self::Pool>,
-        from: usize,
-        to: usize,
-        items: &[Entry<T>],
-    ) -> bool
+    /// Puts `items` in place of the entries `from..to`, in as many parts, or in a page that has at least a quarter of what it may
+    /// have, or no fewer entries than before, and isn't too long. Nothing is changed where that can't be, and for want of memory.
+    fn replace(&mut self, alloc: Global, from: usize, to: usize, items: &[Entry<T>]) -> bool
         requires order { from ≤ to }
         requires in_range { to ≤ length (entries self.old) }
         ensures done { IsTrue result → entries self.new
@@ -111,7 +73,6 @@ pub trait Block<T: Drop>: Drop {
     /// The entries of `left` before `from`, `items`, and the entries of `right` from `to` on, in new blocks.
     fn spliced(
         alloc: Global,
-        pool: Option<&Self::Pool>,
         left: &Self,
         from: usize,
         items: Vec<Entry<T>>,

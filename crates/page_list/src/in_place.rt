@@ -15,7 +15,6 @@ use std::sync::Arc;
 pub(crate) fn replace_block<T: Drop, B: Block<T>>(
     share: &mut Arc<B>,
     alloc: Global,
-    pool: Option<&B::Pool>,
     from: usize,
     to: usize,
     items: &[Entry<T>],
@@ -28,15 +27,20 @@ pub(crate) fn replace_block<T: Drop, B: Block<T>>(
     ensures same { result ≡ false → arc_value share.new ≡ arc_value share.old }
 {
     if let Some(block) = Arc::get_mut(share) {
-        return block.replace(alloc, pool, from, to, items);
+        return block.replace(alloc, from, to, items);
     }
-    match share.replaced(alloc, pool, from, to, items) {
-        Some(block) => {
-            B::keep(pool, share);
-            *share = block;
+    let Ok(mut block) = share.copied(alloc) else {
+        return false;
+    };
+    if !block.replace(alloc, from, to, items) {
+        return false;
+    }
+    match Arc::new(alloc, block) {
+        Ok(made) => {
+            *share = made;
             true
         }
-        None => false,
+        Err(_) => false,
     }
 }
 
@@ -62,7 +66,6 @@ fn shift_from<B: Drop>(slots: &mut Vec<Slot<B>>, from: usize, old: usize, new: u
 pub(crate) fn replace_at<T: Drop, B: Block<T>>(
     slots: &mut Vec<Slot<B>>,
     alloc: Global,
-    pool: Option<&B::Pool>,
     p: usize,
     x: usize,
     y: usize,
@@ -87,7 +90,7 @@ pub(crate) fn replace_at<T: Drop, B: Block<T>>(
 {
     let old = slots[p].share().len();
     let start = slots[p].end() - old;
-    if !slots[p].replace::<T>(alloc, pool, start, x, y, items) {
+    if !slots[p].replace::<T>(alloc, start, x, y, items) {
         return false;
     }
     let new = slots[p].share().len();

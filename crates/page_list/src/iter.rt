@@ -4,29 +4,29 @@ ghost use Rattle.std.specs.Iterator.{YieldsFirstBy, item_count};
 ghost use Rattle.std.specs.Arc.{arc_value};
 ghost use Rattle.page_list.specs.Marks.{value_of};
 
+use crate::Entry;
 use crate::entry_list::EntryList;
-use crate::{Apart, Entry, Form};
 use std::marker::Model;
 use std::sync::Arc;
 
 /// Lends the entries of a list in order, seen as the list of those that are still to come.
 #[derive(Drop)]
-pub struct Iter<'a, T: Drop, F: Form<T> = Apart> {
-    list: &'a EntryList<T, F::Top>,
+pub struct Iter<'a, T: Drop> {
+    list: &'a EntryList<T>,
     // what is left of the page that is being read
     page: &'a [Entry<T>],
     // how many entries of the list there are up to the end of that page
     end: usize,
 }
 
-impl<'a, T: Drop, F: Form<T>> Model for Iter<'a, T, F> {
+impl<'a, T: Drop> Model for Iter<'a, T> {
     ghost Value = { List T };
 
     ghost view = { λ it. map value_of (it.page.now ++ drop it.end it.list.now) };
 }
 
-impl<'a, T: Drop, F: Form<T>> Iter<'a, T, F> {
-    pub(crate) fn over(list: &'a EntryList<T, F::Top>) -> Iter<'a, T, F>
+impl<'a, T: Drop> Iter<'a, T> {
+    pub(crate) fn over(list: &'a EntryList<T>) -> Iter<'a, T>
         ensures { result ≡ map value_of list.now }
     {
         Iter {
@@ -37,7 +37,7 @@ impl<'a, T: Drop, F: Form<T>> Iter<'a, T, F> {
     }
 }
 
-impl<'a, T: Drop, F: Form<T>> Iterator for Iter<'a, T, F> {
+impl<'a, T: Drop> Iterator for Iter<'a, T> {
     type Item = &'a Arc<T>;
 
     ghost next_gives = { YieldsFirstBy (λ entry. arc_value entry.now) (λ it. it) };

@@ -7,7 +7,7 @@ ghost use Rattle.std.specs.Arc.{arc_value};
 ghost use Rattle.page_list.specs.Marks.{marked_by, PartsAtMark};
 
 use crate::entry_list::EntryList;
-use crate::{Apart, Entry, Form, Iter, Last, Marking, NoMarks, OutOfMemory};
+use crate::{Entry, Iter, Last, Marking, NoMarks, OutOfMemory};
 use std::alloc::Global;
 use std::marker::{Model, PhantomData};
 use std::slice::from_ref;
@@ -16,15 +16,15 @@ use std::sync::Arc;
 /// A list that stays, seen as the list of its entries: a change makes another list, which shares with it all that
 /// it does not touch. It keeps the mark of each entry beside it for its searches.
 #[derive(Drop)]
-pub struct MarkedList<T: Drop, M: Marking<T>, F: Form<T> = Apart> {
-    entries: EntryList<T, F::Top>,
+pub struct MarkedList<T: Drop, M: Marking<T>> {
+    entries: EntryList<T>,
     by: PhantomData<M>,
 }
 
 /// A list that stays, without marks.
 pub type PageList<T> = MarkedList<T, NoMarks>;
 
-impl<T: Drop, M: Marking<T>, F: Form<T>> Model for MarkedList<T, M, F> {
+impl<T: Drop, M: Marking<T>> Model for MarkedList<T, M> {
     ghost use Rattle.std.specs.Prelude.{◌≡◌, List, map};
     ghost use Rattle.page_list.specs.Marks.{marked_by, value_of};
 
@@ -35,9 +35,9 @@ impl<T: Drop, M: Marking<T>, F: Form<T>> Model for MarkedList<T, M, F> {
     ghost invariant = { λ l. l.entries ≡ map (marked_by M.mark M.note) (map value_of l.entries) };
 }
 
-impl<T: Drop, M: Marking<T>, F: Form<T>> MarkedList<T, M, F> {
+impl<T: Drop, M: Marking<T>> MarkedList<T, M> {
     /// A list with no entry, which takes no memory.
-    pub fn empty(alloc: Global) -> MarkedList<T, M, F>
+    pub fn empty(alloc: Global) -> MarkedList<T, M>
         ensures { result ≡ [] }
     {
         MarkedList {
@@ -66,7 +66,7 @@ impl<T: Drop, M: Marking<T>, F: Form<T>> MarkedList<T, M, F> {
     }
 
     /// The entries in order, one after another: the whole list at a cost linear in its length.
-    pub fn iter(&self) -> Iter<'_, T, F>
+    pub fn iter(&self) -> Iter<'_, T>
         ensures { result ≡ self.now }
     {
         Iter::over(&self.entries)
@@ -127,14 +127,15 @@ impl<T: Drop, M: Marking<T>, F: Form<T>> MarkedList<T, M, F> {
         from: usize,
         to: usize,
         items: Vec<Arc<T>>,
-    ) -> Result<MarkedList<T, M, F>, OutOfMemory>
+    ) -> Result<MarkedList<T, M>, OutOfMemory>
         requires order { from ≤ to }
         requires in_range { to ≤ length self.now }
         ensures { IfOk result (λ made.
             made ≡ take from self.now ++ map arc_value items.items ++ drop to self.now) }
     {
         let marked = marked_entries::<T, M>(alloc, items)?;
-        let entries = self.entries.with_replaced(alloc, from, to, marked)?;
+        let clone = self.entries.try_clone(alloc)?;
+        let entries = clone.into_replaced(alloc, from, to, marked.as_slice())?;
         Ok(MarkedList {
             entries,
             by: PhantomData,
@@ -142,7 +143,7 @@ impl<T: Drop, M: Marking<T>, F: Form<T>> MarkedList<T, M, F> {
     }
 
     /// Another owner of its entries: a list that may be changed where it lies, while this one stays.
-    pub fn try_clone(&self, alloc: Global) -> Result<MarkedList<T, M, F>, OutOfMemory>
+    pub fn try_clone(&self, alloc: Global) -> Result<MarkedList<T, M>, OutOfMemory>
         ensures { IfOk result (λ clone. clone ≡ self.now) }
     {
         let entries = self.entries.try_clone(alloc)?;
@@ -159,7 +160,7 @@ impl<T: Drop, M: Marking<T>, F: Form<T>> MarkedList<T, M, F> {
         from: usize,
         to: usize,
         item: Arc<T>,
-    ) -> Result<MarkedList<T, M, F>, OutOfMemory>
+    ) -> Result<MarkedList<T, M>, OutOfMemory>
         requires order { from ≤ to }
         requires in_range { to ≤ length self.now }
         ensures { IfOk result (λ made.
@@ -174,7 +175,7 @@ impl<T: Drop, M: Marking<T>, F: Form<T>> MarkedList<T, M, F> {
         alloc: Global,
         from: usize,
         to: usize,
-    ) -> Result<MarkedList<T, M, F>, OutOfMemory>
+    ) -> Result<MarkedList<T, M>, OutOfMemory>
         requires order { from ≤ to }
         requires in_range { to ≤ length self.now }
         ensures { IfOk result (λ made. made ≡ take from self.now ++ drop to self.now) }
@@ -189,7 +190,7 @@ impl<T: Drop, M: Marking<T>, F: Form<T>> MarkedList<T, M, F> {
         from: usize,
         to: usize,
         item: Arc<T>,
-    ) -> Result<MarkedList<T, M, F>, OutOfMemory>
+    ) -> Result<MarkedList<T, M>, OutOfMemory>
         requires order { from ≤ to }
         requires in_range { to ≤ length self }
         ensures { IfOk result
@@ -209,7 +210,7 @@ impl<T: Drop, M: Marking<T>, F: Form<T>> MarkedList<T, M, F> {
         alloc: Global,
         from: usize,
         to: usize,
-    ) -> Result<MarkedList<T, M, F>, OutOfMemory>
+    ) -> Result<MarkedList<T, M>, OutOfMemory>
         requires order { from ≤ to }
         requires in_range { to ≤ length self }
         ensures { IfOk result (λ made. made ≡ take from self ++ drop to self) }
@@ -238,22 +239,16 @@ fn marked_entries<T: Drop, M: Marking<T>>(
     Ok(made)
 }
 
-impl<'a, T: Drop, M: Marking<T>, F: Form<T>> IntoIterator for &'a MarkedList<T, M, F>
-where
-    F::Top: 'a,
-{
+impl<'a, T: Drop, M: Marking<T>> IntoIterator for &'a MarkedList<T, M> {
     type Item = &'a Arc<T>;
 
-    type IntoIter = Iter<'a, T, F>;
+    type IntoIter = Iter<'a, T>;
 
     ghost into_iter_gives = { λ list it. it ≡ list.now };
 
-    fn into_iter(self) -> Iter<'a, T, F>
+    fn into_iter(self) -> Iter<'a, T>
         ensures { result ≡ self.now }
     {
         self.iter()
     }
 }
-
-#[cfg(test)]
-mod tests;

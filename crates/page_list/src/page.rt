@@ -6,78 +6,46 @@ ghost use Rattle.page_list.specs.Marks.{Marked, mark_of};
 ghost use Rattle.page_list.specs.Search.{IsBehindLesser, IsTestAt};
 
 use crate::cut::{Growth, cut};
-use crate::entries::entries_round;
+use crate::entries::{copies_of, entries_round, may_have};
 use crate::parts::{items_before, items_from, last_of};
-use crate::pool::BlockPool;
-use crate::{Block, Entry, Found, OutOfMemory, PageEntries};
+use crate::short::{MOST, Short};
+use crate::{Block, Entry, Found, OutOfMemory, STRIDE};
 use std::alloc::Global;
-use std::marker::{Model, PhantomData};
+use std::marker::Model;
 use std::sync::Arc;
-
-/// Of so many entries one mark is read at first.
-const STRIDE: usize = 2;
 
 /// A page of a list, seen as its entries.
 #[derive(Drop)]
-pub struct Page<T: Drop, E: PageEntries<T>> {
-    entries: E,
-    of: PhantomData<T>,
+pub(crate) struct Page<T: Drop> {
+    entries: Short<Entry<T>>,
 }
 
-impl<T: Drop, E: PageEntries<T>> Model for Page<T, E> {
+impl<T: Drop> Model for Page<T> {
     ghost use Rattle.std.specs.Prelude.{List};
     ghost use Rattle.page_list.specs.Marks.{Marked};
 
     ghost Value = { List (Marked T) };
 
-    ghost view = { λ p. E.values p.entries };
-}
-
-/// The memory for the pages of a list.
-pub(crate) type PagePool<T, E> = BlockPool<Page<T, E>>;
-
-// The entries in a page.
-fn placed<T: Drop, E: PageEntries<T>>(
-    alloc: Global,
-    pool: Option<&PagePool<T, E>>,
-    entries: E,
-) -> Result<Arc<Page<T, E>>, OutOfMemory>
-    ensures { IfOk result (λ made. arc_value made ≡ E.values entries) }
-{
-    let page = Page::of(entries);
-    match pool {
-        Some(pool) => pool.placed(alloc, page),
-        None => Ok(Arc::new(alloc, page)?),
-    }
+    ghost view = { λ p. p.entries };
 }
 
 // The entries in new pages.
-fn pages_of<T: Drop, E: PageEntries<T>>(
+fn pages_of<T: Drop>(
     alloc: Global,
-    pool: Option<&PagePool<T, E>>,
     entries: Vec<Entry<T>>,
     growth: Growth,
-) -> Result<Vec<Arc<Page<T, E>>>, OutOfMemory>
+) -> Result<Vec<Arc<Page<T>>>, OutOfMemory>
     ensures { IfOk result (λ made. flat_map (λ page. page) (map arc_value made.items)
         ≡ entries.items) }
 {
     let mut pages = Vec::new(alloc);
-    for part in cut::<Entry<T>, E>(alloc, entries, growth)? {
-        pages.push(placed(alloc, pool, part)?)?;
+    for entries in cut(alloc, entries, growth)? {
+        pages.push(Arc::new(alloc, Page { entries })?)?;
     }
     Ok(pages)
 }
 
-impl<T: Drop, E: PageEntries<T>> Page<T, E> {
-    fn of(entries: E) -> Page<T, E>
-        ensures { result ≡ E.values entries }
-    {
-        Page {
-            entries,
-            of: PhantomData,
-        }
-    }
-
+impl<T: Drop> Page<T> {
     // A place behind an entry of a lesser mark, or the first place; where marks never fall, behind the last such. Every other
     // entry is read first: a page has few, none of these reads waits for another, as those of a search by halves would, and they
     // fetch each line of the page's memory. What they find decides no jump, so the processor needn't guess it.
@@ -137,33 +105,22 @@ impl<T: Drop, E: PageEntries<T>> Page<T, E> {
     }
 }
 
-impl<T: Drop, E: PageEntries<T>> Block<T> for Page<T, E> {
-    type Pool = PagePool<T, E>;
-
+impl<T: Drop> Block<T> for Page<T> {
     ghost entries = { λ page. page };
 
-    fn pool(alloc: Global) -> Option<PagePool<T, E>> {
-        match E::WITHIN {
-            Some(size) => Some(BlockPool::new(alloc, size)),
-            None => None,
-        }
-    }
-
-    fn keep(pool: Option<&PagePool<T, E>>, replaced: &Arc<Page<T, E>>) {
-        if let Some(pool) = pool {
-            pool.keep(replaced);
-        }
-    }
-
-    fn made(
-        alloc: Global,
-        pool: Option<&PagePool<T, E>>,
-        items: Vec<Entry<T>>,
-    ) -> Result<Vec<Arc<Page<T, E>>>, OutOfMemory>
+    fn made(alloc: Global, items: Vec<Entry<T>>) -> Result<Vec<Arc<Page<T>>>, OutOfMemory>
         ensures { IfOk result (λ made. flat_map (λ page. page) (map arc_value made.items)
             ≡ items.items) }
     {
-        pages_of(alloc, pool, items, Growth::Anywhere)
+        pages_of(alloc, items, Growth::Anywhere)
+    }
+
+    /// With room for as many entries as a page may have.
+    fn copied(&self, alloc: Global) -> Result<Page<T>, OutOfMemory>
+        ensures { IfOk result (λ copy. copy ≡ self.now) }
+    {
+        let entries = Short::of(copies_of(alloc, MOST, self.entries.as_slice())?);
+        Ok(Page { entries })
     }
 
     fn len(&self) -> usize {
@@ -171,15 +128,11 @@ impl<T: Drop, E: PageEntries<T>> Block<T> for Page<T, E> {
     }
 
     fn is_small(&self) -> bool {
-        self.entries.as_slice().len() < E::most() / 2
+        self.entries.as_slice().len() < MOST / 2
     }
 
     fn first(&self) -> &Entry<T> {
         &self.entries.as_slice()[0]
-    }
-
-    fn first_mark(&self) -> u64 {
-        self.entries.as_slice()[0].mark()
     }
 
     fn page_from(&self, i: usize) -> &[Entry<T>] {
@@ -218,32 +171,13 @@ impl<T: Drop, E: PageEntries<T>> Block<T> for Page<T, E> {
         }
     }
 
-    fn replaced(
-        &self,
-        alloc: Global,
-        pool: Option<&PagePool<T, E>>,
-        from: usize,
-        to: usize,
-        items: &[Entry<T>],
-    ) -> Option<Arc<Self>> {
-        let entries = self.entries.replaced(alloc, from, to, items)?;
-        placed(alloc, pool, entries).ok()
-    }
-
-    fn replace(
-        &mut self,
-        alloc: Global,
-        _pool: Option<&PagePool<T, E>>,
-        from: usize,
-        to: usize,
-        items: &[Entry<T>],
-    ) -> bool {
-        self.entries.replace(alloc, from, to, items)
+    fn replace(&mut self, alloc: Global, from: usize, to: usize, items: &[Entry<T>]) -> bool {
+        may_have(self.entries.as_slice().len(), from, to, items.len())
+            && self.entries.replace(alloc, from, to, items)
     }
 
     fn spliced(
         alloc: Global,
-        pool: Option<&PagePool<T, E>>,
         left: &Self,
         from: usize,
         items: Vec<Entry<T>>,
@@ -258,6 +192,6 @@ impl<T: Drop, E: PageEntries<T>> Block<T> for Page<T, E> {
         let before = items_before(left.entries.as_slice(), from);
         let after = items_from(right.entries.as_slice(), to);
         let entries = entries_round(alloc, 0, before, items.as_slice(), after)?;
-        pages_of(alloc, pool, entries, Growth::after(after.is_empty()))
+        pages_of(alloc, entries, Growth::after(after.is_empty()))
     }
 }

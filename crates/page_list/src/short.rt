@@ -1,9 +1,8 @@
 //! One to `MOST` values.
-ghost use Rattle.std.specs.Prelude.{◌≡◌, ◌<◌, ◌≤◌, ◌+◌, ◌-◌, ◌++◌, false, length, take, drop, IfOk, IsTrue};
+ghost use Rattle.std.specs.Prelude.{◌≡◌, ◌<◌, ◌≤◌, ◌+◌, ◌-◌, ◌++◌, false, length, take, drop, IsTrue};
 
+use crate::Entry;
 use crate::entries::replace_entries;
-use crate::part::Part;
-use crate::{Entry, OutOfMemory};
 use std::alloc::Global;
 use std::marker::Model;
 
@@ -26,27 +25,15 @@ impl<X> Model for Short<X> {
     ghost invariant = { λ s. (0 < length s.items.items) × (length s.items.items ≤ MOST) };
 }
 
-impl<X: Drop> Part<X> for Short<X> {
-    ghost use Rattle.page_list.specs.declared.short.TheConstants.{MOST};
-
-    ghost most = { MOST };
-
-    ghost values = { λ s. s };
-
-    fn most() -> usize {
-        MOST
-    }
-
-    fn of(items: Vec<X>) -> Result<Short<X>, OutOfMemory>
+impl<X> Short<X> {
+    pub(crate) fn of(items: Vec<X>) -> Short<X>
         requires some { 0 < length items.items }
         requires few { length items.items ≤ MOST }
-        ensures { IfOk result (λ part. part ≡ items.items) }
+        ensures { result ≡ items.items }
     {
-        Ok(Short { items })
+        Short { items }
     }
-}
 
-impl<X> Short<X> {
     pub(crate) fn as_slice(&self) -> &[X]
         ensures values { result.now ≡ self.now }
         ensures some { 0 < length self.now }

@@ -6,7 +6,7 @@ ghost use Rattle.page_list.specs.Rows.{IsShelved, shifted};
 
 use crate::in_place::replace_block;
 use crate::{Block, Entry, OutOfMemory};
-use std::alloc::{AllocError, Global};
+use std::alloc::Global;
 use std::marker::Model;
 use std::sync::Arc;
 
@@ -59,7 +59,6 @@ impl<B: Drop> Slot<B> {
     pub(crate) fn replace<T: Drop>(
         &mut self,
         alloc: Global,
-        pool: Option<&B::Pool>,
         start: usize,
         x: usize,
         y: usize,
@@ -76,11 +75,11 @@ impl<B: Drop> Slot<B> {
             → IsShelved mark_of B.entries self.new.block start self.new }
         ensures same { result ≡ false → self.new ≡ self.old }
     {
-        if !replace_block::<T, B>(&mut self.share, alloc, pool, x, y, items) {
+        if !replace_block::<T, B>(&mut self.share, alloc, x, y, items) {
             return false;
         }
         self.end = start + self.share.len();
-        self.mark = self.share.first_mark();
+        self.mark = self.share.first().mark();
         true
     }
 
@@ -93,19 +92,14 @@ impl<B: Drop> Slot<B> {
         self.end = self.end - old + new;
     }
 
-    /// Another owner of the block, in a row that has `new` entries up to it in place of `old` of them; want of memory
-    /// also where the number has no place in a word.
-    pub(crate) fn shifted(&self, old: usize, new: usize) -> Result<Slot<B>, OutOfMemory>
-        requires { old ≤ self.now.end }
-        ensures { IfOk result (λ slot. slot ≡ shifted old new self.now) }
+    /// Another owner of the block.
+    pub(crate) fn try_clone(&self) -> Result<Slot<B>, OutOfMemory>
+        ensures { IfOk result (λ slot. slot ≡ self.now) }
     {
-        match (self.end - old).checked_add(new) {
-            Some(end) => Ok(Slot {
-                share: Arc::try_clone(&self.share)?,
-                end,
-                mark: self.mark,
-            }),
-            None => Err(AllocError),
-        }
+        Ok(Slot {
+            share: Arc::try_clone(&self.share)?,
+            end: self.end,
+            mark: self.mark,
+        })
     }
 }

@@ -4,14 +4,15 @@ ghost use Rattle.std.specs.List.{flat_map};
 ghost use Rattle.std.specs.Arc.{arc_value};
 ghost use Rattle.page_list.specs.Rows.{IsSeam};
 
+use crate::entries::copies_of;
+use crate::row::Row;
 use crate::share::shared_round;
-use crate::shelf::Shelf;
 use crate::{Block, Entry, OutOfMemory};
 use std::alloc::Global;
 use std::sync::Arc;
 
 // The block before whose end, and the place in it before which, the first `at` entries end.
-fn seam<T: Drop, B: Block<T>>(row: &Shelf<'_, T, B>, at: usize) -> (usize, usize)
+fn seam<T: Drop, B: Block<T>>(row: &Row<T, B>, at: usize) -> (usize, usize)
     requires some { 0 < length row.now }
     requires in_range { at ≤ length (flat_map B.entries row.now) }
     ensures { IsSeam B.entries row.now at result.0 result.1 }
@@ -24,7 +25,7 @@ fn seam<T: Drop, B: Block<T>>(row: &Shelf<'_, T, B>, at: usize) -> (usize, usize
 }
 
 // The same, but at the start of the block that has the entry `at` where `inner` says that there is one.
-fn first_seam<T: Drop, B: Block<T>>(row: &Shelf<'_, T, B>, at: usize, inner: bool) -> (usize, usize)
+fn first_seam<T: Drop, B: Block<T>>(row: &Row<T, B>, at: usize, inner: bool) -> (usize, usize)
     requires some { 0 < length row.now }
     requires in_range { at ≤ length (flat_map B.entries row.now) }
     requires inner { IsTrue inner → at < length (flat_map B.entries row.now) }
@@ -37,11 +38,10 @@ fn first_seam<T: Drop, B: Block<T>>(row: &Shelf<'_, T, B>, at: usize, inner: boo
 // how many of `left` stand before them, and the last block of `right` that they replace.
 fn joined<T: Drop, B: Block<T>>(
     alloc: Global,
-    pool: Option<&B::Pool>,
-    left: &Shelf<'_, T, B>,
+    left: &Row<T, B>,
     p: usize,
     made: Vec<Arc<B>>,
-    right: &Shelf<'_, T, B>,
+    right: &Row<T, B>,
     q: usize,
 ) -> Result<(Vec<Arc<B>>, usize, usize), OutOfMemory>
     requires left_in { p < length left.now }
@@ -55,59 +55,27 @@ fn joined<T: Drop, B: Block<T>>(
 {
     if made.len() == 1 && made[0].is_small() {
         if p > 0 {
-            let made = with_left::<T, B>(alloc, pool, left.block(p - 1), made.as_slice())?;
+            let made = together::<T, B>(alloc, left.block(p - 1), &made[0])?;
             return Ok((made, p - 1, q));
         }
         if q < right.count() - 1 {
-            let made = with_right::<T, B>(alloc, pool, made.as_slice(), right.block(q + 1))?;
+            let made = together::<T, B>(alloc, &made[0], right.block(q + 1))?;
             return Ok((made, p, q + 1));
         }
     }
     Ok((made, p, q))
 }
 
-// A block and the one block that `made` has, in new blocks.
-fn with_left<T: Drop, B: Block<T>>(
+// The entries of two blocks in new blocks.
+fn together<T: Drop, B: Block<T>>(
     alloc: Global,
-    pool: Option<&B::Pool>,
-    block: &B,
-    made: &[Arc<B>],
+    left: &B,
+    right: &B,
 ) -> Result<Vec<Arc<B>>, OutOfMemory>
-    requires { length made.now ≡ 1 }
     ensures { IfOk result (λ both. flat_map B.entries (map arc_value both.items)
-        ≡ B.entries block.now ++ flat_map B.entries (map arc_value made.now)) }
+        ≡ B.entries left.now ++ B.entries right.now) }
 {
-    B::spliced(
-        alloc,
-        pool,
-        block,
-        block.len(),
-        Vec::new(alloc),
-        &made[0],
-        0,
-    )
-}
-
-// The one block that `made` has and a block, in new blocks.
-fn with_right<T: Drop, B: Block<T>>(
-    alloc: Global,
-    pool: Option<&B::Pool>,
-    made: &[Arc<B>],
-    block: &B,
-) -> Result<Vec<Arc<B>>, OutOfMemory>
-    requires { length made.now ≡ 1 }
-    ensures { IfOk result (λ both. flat_map B.entries (map arc_value both.items)
-        ≡ flat_map B.entries (map arc_value made.now) ++ B.entries block.now) }
-{
-    B::spliced(
-        alloc,
-        pool,
-        &made[0],
-        made[0].len(),
-        Vec::new(alloc),
-        block,
-        0,
-    )
+    B::spliced(alloc, left, left.len(), Vec::new(alloc), right, 0)
 }
 
 // Whether no entry comes in, and whole blocks stay on both sides, neither of them small.
@@ -128,11 +96,10 @@ fn is_clean_cut<T: Drop, B: Block<T>>(
 /// The entries of `left` before `from`, `items`, and the entries of `right` from `to` on.
 pub(crate) fn spliced_row<T: Drop, B: Block<T>>(
     alloc: Global,
-    pool: Option<&B::Pool>,
-    left: &Shelf<'_, T, B>,
+    left: &Row<T, B>,
     from: usize,
     items: Vec<Entry<T>>,
-    right: &Shelf<'_, T, B>,
+    right: &Row<T, B>,
     to: usize,
 ) -> Result<Vec<Arc<B>>, OutOfMemory>
     requires left_some { 0 < length left.now }
@@ -156,8 +123,51 @@ pub(crate) fn spliced_row<T: Drop, B: Block<T>>(
             right.slots_from(q),
         );
     }
-    left.keep(pool, p);
-    let made = B::spliced(alloc, pool, first, x, items, last, y)?;
-    let (made, p, q) = joined(alloc, pool, left, p, made, right, q)?;
+    let made = B::spliced(alloc, first, x, items, last, y)?;
+    let (made, p, q) = joined(alloc, left, p, made, right, q)?;
     shared_round(alloc, left.slots_before(p), made, right.slots_after(q))
+}
+
+// The row's blocks with `items` in place of the entries `from..to`, in new blocks there.
+fn respliced<T: Drop, B: Block<T>>(
+    alloc: Global,
+    row: &Row<T, B>,
+    from: usize,
+    to: usize,
+    items: Vec<Entry<T>>,
+) -> Result<Vec<Arc<B>>, OutOfMemory>
+    requires order { from ≤ to }
+    requires in_range { to ≤ length (flat_map B.entries row.now) }
+    ensures { IfOk result (λ made. flat_map B.entries (map arc_value made.items)
+        ≡ take from (flat_map B.entries row.now) ++ items.items
+        ++ drop to (flat_map B.entries row.now)) }
+{
+    if row.count() == 0 {
+        return B::made(alloc, items);
+    }
+    spliced_row(alloc, row, from, items, row, to)
+}
+
+/// The row with `items` in place of the entries `from..to`. What no other row shares with it is changed where it lies, if one page
+/// takes them all.
+pub(crate) fn row_with<T: Drop, B: Block<T>>(
+    alloc: Global,
+    row: Row<T, B>,
+    from: usize,
+    to: usize,
+    items: &[Entry<T>],
+) -> Result<Row<T, B>, OutOfMemory>
+    requires order { from ≤ to }
+    requires in_range { to ≤ length (flat_map B.entries row) }
+    ensures { IfOk result (λ made. flat_map B.entries made
+        ≡ take from (flat_map B.entries row) ++ items.now ++ drop to (flat_map B.entries row)) }
+{
+    let mut row = row;
+    if row.replace(alloc, from, to, items) {
+        return Ok(row);
+    }
+    let items = copies_of(alloc, 0, items)?;
+    let blocks = respliced(alloc, &row, from, to, items)?;
+    let made = Row::of(alloc, blocks)?;
+    Ok(made)
 }

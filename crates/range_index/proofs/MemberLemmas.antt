@@ -1,48 +1,17 @@
 -- What is in a list after an element is put in or some are left out.
-use Rattle.std.proofs.Common.{◌≡◌, zero, suc, ◌+◌, ◌⊎◌, inl, inr, ◌↔◌, Bool, true, false, List, [], ◌∷◌, length, cond, if◌then◌else◌, refl, sym, ◌∙◌, ap, subst, arith}
+use Rattle.std.proofs.Common.{◌≡◌, ◌+◌, ◌⊎◌, inl, inr, ◌↔◌, Bool, true, false, List, [], ◌∷◌, length, if◌then◌else◌, refl, subst, arith}
 use Rattle.std.specs.List.{Contains, filter}
 use Rattle.std.specs.declared.cmp.Ordering.{Ordering}
+use Rattle.facts.proofs.Lists.{here, there, first_or_there}
+use Rattle.facts.proofs.Filters.{kept, was_kept}
 use Rattle.range_index.specs.Arcs.{starts_before, is_apart, inserted, arcs_with}
 use Rattle.range_index.proofs.OrderLemmas.{either}
-
-here : {X : Type 0} (x : X) (xs : List X) → Contains (x ∷ xs) x
-here x xs = (zero, omega arith, refl)
-
-there : {X : Type 0} (y : X) (xs : List X) (x : X) → Contains xs x → Contains (y ∷ xs) x
-there y xs x (k, within, is) = (suc k, omega arith, is)
-
-here_or_there : {X : Type 0} (y : X) (xs : List X) (x : X) → Contains (y ∷ xs) x → (x ≡ y) ⊎ Contains xs x
-here_or_there y xs x (zero, within, is) = inl (sym is)
-here_or_there y xs x (suc k, within, is) = inr (k, omega arith, is)
-
-nothing_in : {X : Type 0} (x : X) → Contains [] x → ⊥
-nothing_in x (k, within, is) = omega arith
 
 one_of : {X : Type 0} (y : X) (xs : List X) (x : X) → (x ≡ y) ⊎ Contains xs x → Contains (y ∷ xs) x
 one_of y xs x (inl same) = subst (λ z. Contains (z ∷ xs) x) same (here x xs)
 one_of y xs x (inr h) = there y xs x h
 
 module _ {X : Type 0} (p : X → Bool) where
-  pub stays : (xs : List X) (x : X) → Contains xs x → p x ≡ true → Contains (filter p xs) x
-  stays [] x has passes = absurd (nothing_in x has)
-  stays (y ∷ xs) x has passes = by (here_or_there y xs x has) (λ h. stays xs x h passes)
-    where
-      by : (x ≡ y) ⊎ Contains xs x → (Contains xs x → Contains (filter p xs) x) → Contains (cond (p y) (y ∷ filter p xs) (filter p xs)) x
-      by (inl same) rest = rw (ap p (sym same) ∙ passes) (one_of y (filter p xs) x (inl same))
-      by (inr h) rest = either (p y) (λ e. rw e (there y (filter p xs) x (rest h))) (λ e. rw e (rest h))
-
-  pub stayed : (xs : List X) (x : X) → Contains (filter p xs) x → Contains xs x × (p x ≡ true)
-  stayed [] x has = absurd (nothing_in x has)
-  stayed (y ∷ xs) x has = by (p y) refl has (λ h. (there y xs x (stayed xs x h).0, (stayed xs x h).1))
-    where
-      by : (b : Bool) → p y ≡ b → Contains (cond b (y ∷ filter p xs) (filter p xs)) x → (Contains (filter p xs) x → Contains (y ∷ xs) x × (p x ≡ true)) → Contains (y ∷ xs) x × (p x ≡ true)
-      by false is h rest = rest h
-      by true is h rest = at (here_or_there y (filter p xs) x h)
-        where
-          at : (x ≡ y) ⊎ Contains (filter p xs) x → Contains (y ∷ xs) x × (p x ≡ true)
-          at (inl same) = (one_of y xs x (inl same), ap p same ∙ is)
-          at (inr k) = rest k
-
   module _ (new : X) where
     pub inserted_has : (xs : List X) (x : X) → (x ≡ new) ⊎ Contains xs x → Contains (inserted p new xs) x
     inserted_has [] x h = one_of new [] x h
@@ -51,19 +20,19 @@ module _ {X : Type 0} (p : X → Bool) where
       where
         behind : (x ≡ new) ⊎ Contains (y ∷ xs) x → ((x ≡ new) ⊎ Contains xs x → Contains (inserted p new xs) x) → Contains (y ∷ inserted p new xs) x
         behind (inl same) rest = there y (inserted p new xs) x (rest (inl same))
-        behind (inr k) rest = at (here_or_there y xs x k)
+        behind (inr k) rest = at (first_or_there y xs x k)
           where
             at : (x ≡ y) ⊎ Contains xs x → Contains (y ∷ inserted p new xs) x
             at (inl same) = one_of y (inserted p new xs) x (inl same)
             at (inr l) = there y (inserted p new xs) x (rest (inr l))
 
     pub has_inserted : (xs : List X) (x : X) → Contains (inserted p new xs) x → (x ≡ new) ⊎ Contains xs x
-    has_inserted [] x h = here_or_there new [] x h
+    has_inserted [] x h = first_or_there new [] x h
     has_inserted (y ∷ xs) x h = by (p y) h (has_inserted xs x)
       where
         by : (b : Bool) → Contains (if b then y ∷ inserted p new xs else new ∷ y ∷ xs) x → (Contains (inserted p new xs) x → (x ≡ new) ⊎ Contains xs x) → (x ≡ new) ⊎ Contains (y ∷ xs) x
-        by false k rest = here_or_there new (y ∷ xs) x k
-        by true k rest = at (here_or_there y (inserted p new xs) x k)
+        by false k rest = first_or_there new (y ∷ xs) x k
+        by true k rest = at (first_or_there y (inserted p new xs) x k)
           where
             later : (x ≡ new) ⊎ Contains xs x → (x ≡ new) ⊎ Contains (y ∷ xs) x
             later (inl same) = inl same
@@ -84,11 +53,11 @@ module _ {S K : Type 0} (cmp : K → K → Ordering) (start end : S → K) (new 
     where
       there_too : (span ≡ new) ⊎ Contains (filter (is_apart cmp start end new) spans) span → (span ≡ new) ⊎ (Contains spans span × (is_apart cmp start end new span ≡ true))
       there_too (inl same) = inl same
-      there_too (inr h) = inr (stayed (is_apart cmp start end new) spans span h)
+      there_too (inr h) = inr (was_kept (is_apart cmp start end new) spans span h)
 
       from : (span ≡ new) ⊎ (Contains spans span × (is_apart cmp start end new span ≡ true)) → (span ≡ new) ⊎ Contains (filter (is_apart cmp start end new) spans) span
       from (inl same) = inl same
-      from (inr (has, apart)) = inr (stays (is_apart cmp start end new) spans span has apart)
+      from (inr (has, apart)) = inr (kept (is_apart cmp start end new) spans span has apart)
 
   pub count_with : length (arcs_with cmp start end new spans) ≡ length (filter (is_apart cmp start end new) spans) + 1
   count_with = length-inserted (starts_before cmp start new) new (filter (is_apart cmp start end new) spans)

@@ -6,13 +6,15 @@ use Rattle.std.specs.declared.cmp.Ordering.TheVariants.{Less, Equal, Greater}
 use Rattle.std.specs.Cmp.{IsTotalOrder}
 use Rattle.std.specs.List.{filter, prefix_len}
 use Rattle.std.specs.List.Sorted.{IsPartitionedBy}
-use Rattle.std.proofs.lemmas.Bool.{cases_lt}
+use Rattle.std.proofs.lemmas.Bool.{cases_lt, not-true, not-false}
 use Rattle.std.proofs.lemmas.List.{take_more, drop_at, length-take-le, get_or_read}
 use Rattle.std.proofs.lemmas.List.Sums.{prefix_len_passes, prefix_len_stops, prefix_len-le-length}
+use Rattle.facts.proofs.Filters.{filter_none}
+use Rattle.facts.proofs.Orderings.{less_not_equal}
 use Rattle.range_index.specs.Arcs.{span_has, starts_elsewhere, IsArcs}
 use Rattle.range_index.specs.Steps.{IsCandidate, IsCut}
 use Rattle.range_index.proofs.OrderLemmas.{either, le_is, upto_upto, before_upto, upto_before, before_back, upto_itself, has_by, IsBehind, IsBehind-apart}
-use Rattle.range_index.proofs.RunLemmas.{Tests, filter_none, filter_run, filter_around}
+use Rattle.range_index.proofs.RunLemmas.{Tests, filter_run, filter_around}
 
 -- how many pass at the front, where those that pass come first
 pub record IsCount {X : Type 0} (p : X → Bool) (xs : List X) (n : ℕ) : Type 0 where
@@ -31,22 +33,9 @@ IsCount-found p xs n parted e =
           absurd (true≢false (sym here ∙ prefix_len_stops p xs d (omega arith)))) (λ e. e);
     }
 
-not_true : (b : Bool) → not b ≡ true → b ≡ false
-not_true true e = absurd (true≢false (sym e))
-not_true false e = refl
-
-not_false : (b : Bool) → not b ≡ false → b ≡ true
-not_false true e = refl
-not_false false e = absurd (true≢false e)
-
 first_of : {X : Type 0} (xs : List X) → 0 < length xs → X
 first_of [] some = absurd (omega arith)
 first_of (x ∷ xs) some = x
-
-before_not_at : (r : Ordering) → is_lt r ≡ true → not (is_eq r) ≡ true
-before_not_at Less h = refl
-before_not_at Equal h = absurd (true≢false (sym h))
-before_not_at Greater h = refl
 
 level_at : (r : Ordering) → is_lt r ≡ false → is_le r ≡ true → not (is_eq r) ≡ false
 level_at Less h k = absurd (true≢false h)
@@ -82,7 +71,7 @@ module _ {S K : Type 0} (cmp : K → K → Ordering) (o : IsTotalOrder cmp) (sta
   upto_parted key i j d le hi h =
       let back : not (is_lt (cmp key (start (get_or xs j d)))) ≡ true = sym (le_is cmp o (start (get_or xs j d)) key) ∙ h in
       le_is cmp o (start (get_or xs i d)) key
-      ∙ ap not (upto_upto cmp o (start (get_or xs i d)) (start (get_or xs j d)) key (rising i j d le hi) (not_true _ back))
+      ∙ ap not (upto_upto cmp o (start (get_or xs i d)) (start (get_or xs j d)) key (rising i j d le hi) (not-true _ back))
 
   -- a span whose next one starts up to the key doesn't have it
   pub free_behind : (i j : ℕ) (d : S) (key : K) → i < j → j < length xs → is_lt (cmp key (start (get_or xs j d))) ≡ false → span_has cmp start end key (get_or xs i d) ≡ false
@@ -109,10 +98,10 @@ module _ {S K : Type 0} (cmp : K → K → Ordering) (o : IsTotalOrder cmp) (sta
   counted key n e = IsCount-found (λ x. is_le (cmp (start x) key)) xs n (upto_parted key) e
 
   upto_key : (key : K) (n k : ℕ) (d : S) → n ≡ prefix_len (λ x. is_le (cmp (start x) key)) xs → k < n → is_lt (cmp key (start (get_or xs k d))) ≡ false
-  upto_key key n k d e lt = not_true _ (sym (le_is cmp o (start (get_or xs k d)) key) ∙ (counted key n e).first k d (omega arith) lt)
+  upto_key key n k d e lt = not-true _ (sym (le_is cmp o (start (get_or xs k d)) key) ∙ (counted key n e).first k d (omega arith) lt)
 
   behind_key : (key : K) (n k : ℕ) (d : S) → n ≡ prefix_len (λ x. is_le (cmp (start x) key)) xs → n ≤ k → k < length xs → is_lt (cmp key (start (get_or xs k d))) ≡ true
-  behind_key key n k d e le lt = not_false _ (sym (le_is cmp o (start (get_or xs k d)) key) ∙ (counted key n e).rest k d le lt)
+  behind_key key n k d e le lt = not-false _ (sym (le_is cmp o (start (get_or xs k d)) key) ∙ (counted key n e).rest k d le lt)
 
   -- the last span that starts up to the key
   pub candidate_before : (key : K) (n : ℕ) → n ≡ prefix_len (λ x. is_le (cmp (start x) key)) xs → 0 < n → IsCandidate (span_has cmp start end key) (λ x. is_le (cmp (start x) key)) xs (n - 1) true
@@ -176,7 +165,7 @@ module _ {S K : Type 0} (cmp : K → K → Ordering) (o : IsTotalOrder cmp) (sta
         order = order;
         in_range = upto.in_range;
         is = sym (filter_around (starts_elsewhere cmp start key) xs n m order upto.in_range
-            (λ k d lo hi. before_not_at _ (before.first k d lo hi))
+            (λ k d lo hi. less_not_equal _ (before.first k d lo hi))
             (λ k d lo hi. level_at _ (before.rest k d lo (omega (arith, upto.in_range))) (upto.first k d (omega arith) hi))
             (λ k d lo hi. behind_not_at _ (upto.rest k d lo hi)));
       }

@@ -21,9 +21,9 @@ starts_before cmp start other span = is_lt (cmp (start span) (start other))
 abbrev pub starts_elsewhere : {S K : Type 0} → (K → K → Ordering) → (S → K) → K → S → Bool
 starts_elsewhere cmp start key span = not (is_eq (cmp (start span) key))
 
--- keys have the same marks from each span's frame as from that one
-abbrev pub AreOfFrame : {S F K : Type 0} → (S → F) → (F → K → ℕ) → F → List S → Type 0
-AreOfFrame {S} {F} {K} frame mark one spans = All (λ span. (key : K) → mark (frame span) key ≡ mark one key) spans
+-- keys have the same marks from each span's origin as from that one
+abbrev pub AreOfOrigin : {S F K : Type 0} → (S → F) → (F → K → ℕ) → F → List S → Type 0
+AreOfOrigin {S} {F} {K} origin mark one spans = All (λ span. (key : K) → mark (origin span) key ≡ mark one key) spans
 
 -- spans in order of start, no two of which meet
 pub record IsArcs {S K : Type 0} (cmp : K → K → Ordering) (start end : S → K) (spans : List S) : Type 0 where

@@ -3,15 +3,15 @@ ghost use Rattle.std.specs.Prelude.{◌≡◌, ◌<◌, [], ◌∷◌, length, f
 ghost use Rattle.std.specs.Fn.{FnReturnsAt};
 ghost use Rattle.std.specs.Arc.{arc_value};
 ghost use Rattle.dname.specs.Arc.{arc_has};
-ghost use Rattle.range_index.specs.Arcs.{span_has, is_apart, starts_elsewhere, AreOfFrame, IsArcs, FailInRuns, arcs_with};
+ghost use Rattle.range_index.specs.Arcs.{span_has, is_apart, starts_elsewhere, AreOfOrigin, IsArcs, FailInRuns, arcs_with};
 ghost use Rattle.range_index.specs.Place.{place_of};
 
-use crate::cut::{list_with, met_in};
+use crate::cut::list_with;
 use crate::kept::kept_shares;
 use crate::ring_span::SpanList;
 use crate::search::{OneSpan, candidate, place_in, span_has, starting_at};
 use crate::{Met, OutOfMemory, Place, RingSpan};
-use page_list::{Iter, Within};
+use page_list::Iter;
 use std::alloc::Global;
 use std::marker::Model;
 use std::sync::Arc;
@@ -61,7 +61,7 @@ impl<T: Drop, R: RingSpan<T>> Arcs<T, R> {
     }
 
     /// The spans one after another, at a cost linear in their number.
-    pub fn iter(&self) -> Iter<'_, T, Within>
+    pub fn iter(&self) -> Iter<'_, T>
         ensures { result ≡ self.now }
     {
         self.list.iter()
@@ -69,8 +69,8 @@ impl<T: Drop, R: RingSpan<T>> Arcs<T, R> {
 
     /// The span whose arc has the key, and where in it the key lies; None where no arc has it. The key is compared three
     /// times more at most than a search of the list takes.
-    pub fn at(&self, frame: &R::Key, key: &R::Key) -> Option<(&T, Place)>
-        requires { AreOfFrame R.frame R.mark frame.now self.now }
+    pub fn at(&self, origin: &R::Key, key: &R::Key) -> Option<(&T, Place)>
+        requires { AreOfOrigin R.origin R.mark origin.now self.now }
         ensures span { MatchOption result
             (filter (span_has R.Key.Ord.cmp R.start R.end key.now) self.now ≡ [])
             (λ found. filter (span_has R.Key.Ord.cmp R.start R.end key.now) self.now
@@ -86,7 +86,7 @@ impl<T: Drop, R: RingSpan<T>> Arcs<T, R> {
             started,
             marks,
             ..
-        } = candidate(&self.list, frame, key);
+        } = candidate(&self.list, origin, key);
         let span: &T = span;
         if span_has::<T, R>(span, key, started, marks) {
             Some((span, place_in::<T, R>(span, key, started, marks)))
@@ -97,7 +97,7 @@ impl<T: Drop, R: RingSpan<T>> Arcs<T, R> {
 
     /// The spans whose arcs don't meet the new one's, and the new one.
     pub fn with(&self, alloc: Global, span: Arc<T>) -> Result<Arcs<T, R>, OutOfMemory>
-        requires { AreOfFrame R.frame R.mark (R.frame (arc_value span)) self.now }
+        requires { AreOfOrigin R.origin R.mark (R.origin (arc_value span)) self.now }
         ensures { IfOk result (λ made.
             made ≡ arcs_with R.Key.Ord.cmp R.start R.end (arc_value span) self.now) }
     {
@@ -107,7 +107,7 @@ impl<T: Drop, R: RingSpan<T>> Arcs<T, R> {
 
     /// The same, and the places in this list of the spans that it drops.
     pub fn with_met(&self, alloc: Global, span: Arc<T>) -> Result<(Arcs<T, R>, Met), OutOfMemory>
-        requires { AreOfFrame R.frame R.mark (R.frame (arc_value span)) self.now }
+        requires { AreOfOrigin R.origin R.mark (R.origin (arc_value span)) self.now }
         ensures arcs { IfOk result (λ made.
             made.0 ≡ arcs_with R.Key.Ord.cmp R.start R.end (arc_value span) self.now) }
         ensures met { IfOk result (λ made.
@@ -118,27 +118,18 @@ impl<T: Drop, R: RingSpan<T>> Arcs<T, R> {
         Ok((Arcs { list }, met))
     }
 
-    /// Which spans `with` drops for this one: those that it meets.
-    pub fn met_by(&self, span: &T) -> Met
-        requires { AreOfFrame R.frame R.mark (R.frame span.now) self.now }
-        ensures { FailInRuns (is_apart R.Key.Ord.cmp R.start R.end span.now) self.now
-            result.from result.to result.last }
-    {
-        met_in(&self.list, span)
-    }
-
     /// The spans without the one that starts at the key, if there is one.
     pub fn without(
         &self,
         alloc: Global,
-        frame: &R::Key,
+        origin: &R::Key,
         key: &R::Key,
     ) -> Result<Arcs<T, R>, OutOfMemory>
-        requires { AreOfFrame R.frame R.mark frame.now self.now }
+        requires { AreOfOrigin R.origin R.mark origin.now self.now }
         ensures { IfOk result (λ made.
             made ≡ filter (starts_elsewhere R.Key.Ord.cmp R.start key.now) self.now) }
     {
-        let (from, to) = starting_at(&self.list, frame, key);
+        let (from, to) = starting_at(&self.list, origin, key);
         let list = self.list.without_run(alloc, from, to)?;
         Ok(Arcs { list })
     }
@@ -155,6 +146,3 @@ impl<T: Drop, R: RingSpan<T>> Arcs<T, R> {
         Ok(Arcs { list })
     }
 }
-
-#[cfg(test)]
-mod tests;

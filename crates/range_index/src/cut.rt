@@ -3,7 +3,7 @@ ghost use Rattle.std.specs.Prelude.{◌≡◌, ◌<◌, ◌≤◌, [], ◌∷◌
 ghost use Rattle.std.specs.Ordering.{is_lt};
 ghost use Rattle.std.specs.Arc.{arc_value};
 ghost use Rattle.dname.specs.Arc.{arc_has};
-ghost use Rattle.range_index.specs.Arcs.{span_has, is_apart, AreOfFrame, IsArcs, FailInRuns, arcs_with};
+ghost use Rattle.range_index.specs.Arcs.{span_has, is_apart, AreOfOrigin, IsArcs, FailInRuns, arcs_with};
 ghost use Rattle.range_index.specs.Steps.{IsTrimmed, IsPlainMet, IsOverMet};
 
 use crate::ring_span::SpanList;
@@ -18,7 +18,7 @@ pub(crate) fn list_with<T: Drop, R: RingSpan<T>>(
     list: &SpanList<T, R>,
     span: Arc<T>,
 ) -> Result<(SpanList<T, R>, Met), OutOfMemory>
-    requires frame { AreOfFrame R.frame R.mark (R.frame (arc_value span)) list.now }
+    requires origin { AreOfOrigin R.origin R.mark (R.origin (arc_value span)) list.now }
     requires arcs { IsArcs R.Key.Ord.cmp R.start R.end list.now }
     ensures list { IfOk result (λ made.
         made.0 ≡ arcs_with R.Key.Ord.cmp R.start R.end (arc_value span) list.now) }
@@ -33,26 +33,13 @@ pub(crate) fn list_with<T: Drop, R: RingSpan<T>>(
     }
 }
 
-pub(crate) fn met_in<T: Drop, R: RingSpan<T>>(list: &SpanList<T, R>, span: &T) -> Met
-    requires frame { AreOfFrame R.frame R.mark (R.frame span.now) list.now }
-    requires arcs { IsArcs R.Key.Ord.cmp R.start R.end list.now }
-    ensures { FailInRuns (is_apart R.Key.Ord.cmp R.start R.end span.now) list.now
-        result.from result.to result.last }
-{
-    if R::compare_ends(&span).is_lt() {
-        plain_met(list, span)
-    } else {
-        over_met(list, span)
-    }
-}
-
 // For a new span that ends after its start. It takes the place of the first run.
 fn with_plain<T: Drop, R: RingSpan<T>>(
     alloc: Global,
     list: &SpanList<T, R>,
     span: Arc<T>,
 ) -> Result<(SpanList<T, R>, Met), OutOfMemory>
-    requires frame { AreOfFrame R.frame R.mark (R.frame (arc_value span)) list.now }
+    requires origin { AreOfOrigin R.origin R.mark (R.origin (arc_value span)) list.now }
     requires arcs { IsArcs R.Key.Ord.cmp R.start R.end list.now }
     requires plain { is_lt (R.Key.Ord.cmp (R.start (arc_value span)) (R.end (arc_value span)))
         ≡ true }
@@ -73,15 +60,16 @@ fn with_plain<T: Drop, R: RingSpan<T>>(
 }
 
 fn plain_met<T: Drop, R: RingSpan<T>>(list: &SpanList<T, R>, span: &T) -> Met
-    requires frame { AreOfFrame R.frame R.mark (R.frame span.now) list.now }
+    requires origin { AreOfOrigin R.origin R.mark (R.origin span.now) list.now }
     requires arcs { IsArcs R.Key.Ord.cmp R.start R.end list.now }
     requires plain { is_lt (R.Key.Ord.cmp (R.start span.now) (R.end span.now)) ≡ true }
     ensures { IsPlainMet (is_apart R.Key.Ord.cmp R.start R.end span.now) list.now span.now
-        (arcs_with R.Key.Ord.cmp R.start R.end span.now list.now) result.from result.to result.last }
+        (arcs_with R.Key.Ord.cmp R.start R.end span.now list.now)
+        result.from result.to result.last }
 {
-    let (frame, start) = (R::frame(span), R::start_key(span));
-    let from = trimmed(list, 0, starts_before(list, &frame, &start), &start);
-    let to = starts_before(list, &frame, &R::end_key(span));
+    let (origin, start) = (R::origin(span), R::start_key(span));
+    let from = trimmed(list, 0, starts_before(list, &origin, &start), &start);
+    let to = starts_before(list, &origin, &R::end_key(span));
     let last = trimmed(list, to, list.len(), &start);
     Met { from, to, last }
 }
@@ -92,7 +80,7 @@ fn with_over<T: Drop, R: RingSpan<T>>(
     list: &SpanList<T, R>,
     span: Arc<T>,
 ) -> Result<(SpanList<T, R>, Met), OutOfMemory>
-    requires frame { AreOfFrame R.frame R.mark (R.frame (arc_value span)) list.now }
+    requires origin { AreOfOrigin R.origin R.mark (R.origin (arc_value span)) list.now }
     requires arcs { IsArcs R.Key.Ord.cmp R.start R.end list.now }
     requires over { is_lt (R.Key.Ord.cmp (R.start (arc_value span)) (R.end (arc_value span)))
         ≡ false }
@@ -113,16 +101,16 @@ fn with_over<T: Drop, R: RingSpan<T>>(
 }
 
 fn over_met<T: Drop, R: RingSpan<T>>(list: &SpanList<T, R>, span: &T) -> Met
-    requires frame { AreOfFrame R.frame R.mark (R.frame span.now) list.now }
+    requires origin { AreOfOrigin R.origin R.mark (R.origin span.now) list.now }
     requires arcs { IsArcs R.Key.Ord.cmp R.start R.end list.now }
     requires over { is_lt (R.Key.Ord.cmp (R.start span.now) (R.end span.now)) ≡ false }
     ensures front { result.from ≡ 0 }
     ensures met { IsOverMet (is_apart R.Key.Ord.cmp R.start R.end span.now) list.now span.now
         (arcs_with R.Key.Ord.cmp R.start R.end span.now list.now) result.to result.last }
 {
-    let (frame, start) = (R::frame(span), R::start_key(span));
-    let last = trimmed(list, 0, starts_before(list, &frame, &start), &start);
-    let to = starts_before(list, &frame, &R::end_key(span)).min(last);
+    let (origin, start) = (R::origin(span), R::start_key(span));
+    let last = trimmed(list, 0, starts_before(list, &origin, &start), &start);
+    let to = starts_before(list, &origin, &R::end_key(span)).min(last);
     Met { from: 0, to, last }
 }
 

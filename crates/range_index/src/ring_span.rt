@@ -2,7 +2,7 @@
 ghost use Rattle.std.specs.Prelude.{◌≡◌, ◌<◌, ℕ};
 ghost use Rattle.std.specs.declared.cmp.Ordering.TheVariants.{Less};
 
-use page_list::{MarkedList, Marking, Within};
+use page_list::{MarkedList, Marking};
 use std::cmp::Ordering;
 use std::marker::PhantomData;
 
@@ -12,8 +12,8 @@ use std::marker::PhantomData;
 ///
 /// The spans of a list are compared in place. Keys by value are asked for only of a new span, whose keys are sought.
 ///
-/// A key has a mark of eight octets, by which it is sought first. It is reckoned from a frame, as a name's from a zone's apex,
-/// and the spans of a list have one frame.
+/// A key has a mark of eight octets, by which it is sought first. It is reckoned from an origin, as a name's from a zone's apex,
+/// and the spans of a list have one origin.
 pub trait RingSpan<T> {
     type Key: Ord + Drop;
 
@@ -21,7 +21,7 @@ pub trait RingSpan<T> {
 
     ghost end: { T → Self.Key };
 
-    ghost frame: { T → Self.Key };
+    ghost origin: { T → Self.Key };
 
     ghost mark: { Self.Key → Self.Key → ℕ };
 
@@ -31,8 +31,8 @@ pub trait RingSpan<T> {
     fn end_key(span: &T) -> Self::Key
         ensures { result ≡ end span.now };
 
-    fn frame(span: &T) -> Self::Key
-        ensures { result ≡ frame span.now };
+    fn origin(span: &T) -> Self::Key
+        ensures { result ≡ origin span.now };
 
     fn compare_start(span: &T, key: &Self::Key) -> Ordering
         ensures { result ≡ Self.Key.Ord.cmp (start span.now) key.now };
@@ -47,12 +47,12 @@ pub trait RingSpan<T> {
     fn mark(within: &Self::Key, key: &Self::Key) -> u64
         ensures { result ≡ mark within.now key.now };
 
-    ghost marks_rise: { (frame one other : Self.Key)
-        → mark frame one < mark frame other → Self.Key.Ord.cmp one other ≡ Less };
+    ghost marks_rise: { (origin one other : Self.Key)
+        → mark origin one < mark origin other → Self.Key.Ord.cmp one other ≡ Less };
 }
 
-/// Spans in order of start, which lie within their pages: they are sought far oftener than they change.
-pub(crate) type SpanList<T, R> = MarkedList<T, ByStart<R>, Within>;
+/// Spans in order of start.
+pub(crate) type SpanList<T, R> = MarkedList<T, ByStart<R>>;
 
 /// The mark of a span: that of its start. Its note is the mark of its end.
 #[derive(Drop)]
@@ -61,15 +61,15 @@ pub struct ByStart<R> {
 }
 
 impl<T, R: RingSpan<T>> Marking<T> for ByStart<R> {
-    ghost mark = { λ span. R.mark (R.frame span) (R.start span) };
+    ghost mark = { λ span. R.mark (R.origin span) (R.start span) };
 
-    ghost note = { λ span. R.mark (R.frame span) (R.end span) };
+    ghost note = { λ span. R.mark (R.origin span) (R.end span) };
 
     fn mark(span: &T) -> u64 {
-        R::mark(&R::frame(span), &R::start_key(span))
+        R::mark(&R::origin(span), &R::start_key(span))
     }
 
     fn note(span: &T) -> u64 {
-        R::mark(&R::frame(span), &R::end_key(span))
+        R::mark(&R::origin(span), &R::end_key(span))
     }
 }

@@ -1,28 +1,27 @@
 //! Places in lists of spans that don't meet, found by search.
-ghost use Rattle.std.specs.Prelude.{◌≡◌, ◌<◌, ◌≤◌, ◌+◌, length, IfSome, MatchOption, slice_index_or};
+ghost use Rattle.std.specs.Prelude.{◌≡◌, ◌<◌, ◌≤◌, ◌+◌, true, length, IfSome, MatchOption, slice_index_or};
 ghost use Rattle.std.specs.Arc.{arc_value};
 ghost use Rattle.std.specs.List.{prefix_len};
 ghost use Rattle.std.specs.List.Sorted.{IsPartitionedBy};
 ghost use Rattle.std.specs.Ordering.{is_le, is_lt};
 ghost use Rattle.dname.specs.Arc.{arc_has};
-ghost use Rattle.range_index.specs.Arcs.{span_has, starts_elsewhere, AreOfFrame, IsArcs};
+ghost use Rattle.range_index.specs.Arcs.{span_has, starts_elsewhere, AreOfOrigin, IsArcs};
 ghost use Rattle.range_index.specs.Steps.{IsCandidate, IsCut, Tell};
 ghost use Rattle.range_index.specs.Place.{place_of};
 
 use crate::ring_span::SpanList;
 use crate::span_marks::{SILENT, SpanMarks, end_to_key, start_to_end, start_to_key};
 use crate::{Place, RingSpan};
-use page_list::Last;
 use std::cmp::Ordering;
 use std::sync::Arc;
 
 // How many spans start at the key or before it.
 pub(crate) fn starts_upto<T: Drop, R: RingSpan<T>>(
     list: &SpanList<T, R>,
-    frame: &R::Key,
+    origin: &R::Key,
     key: &R::Key,
 ) -> usize
-    requires frame { AreOfFrame R.frame R.mark frame.now list.now }
+    requires origin { AreOfOrigin R.origin R.mark origin.now list.now }
     requires parted { IsPartitionedBy
         (λ span. is_le (R.Key.Ord.cmp (R.start span) key.now)) list.now }
     ensures value { result ≡ prefix_len
@@ -30,7 +29,7 @@ pub(crate) fn starts_upto<T: Drop, R: RingSpan<T>>(
     ensures in_range { result ≤ length list.now }
 {
     list.find_at(
-        R::mark(frame, key),
+        R::mark(origin, key),
         |span| R::compare_start(span, key).is_le(),
     )
 }
@@ -38,10 +37,10 @@ pub(crate) fn starts_upto<T: Drop, R: RingSpan<T>>(
 // How many spans start before the key.
 pub(crate) fn starts_before<T: Drop, R: RingSpan<T>>(
     list: &SpanList<T, R>,
-    frame: &R::Key,
+    origin: &R::Key,
     key: &R::Key,
 ) -> usize
-    requires frame { AreOfFrame R.frame R.mark frame.now list.now }
+    requires origin { AreOfOrigin R.origin R.mark origin.now list.now }
     requires parted { IsPartitionedBy
         (λ span. is_lt (R.Key.Ord.cmp (R.start span) key.now)) list.now }
     ensures value { result ≡ prefix_len
@@ -49,37 +48,9 @@ pub(crate) fn starts_before<T: Drop, R: RingSpan<T>>(
     ensures in_range { result ≤ length list.now }
 {
     list.find_at(
-        R::mark(frame, key),
+        R::mark(origin, key),
         |span| R::compare_start(span, key).is_lt(),
     )
-}
-
-// The last span that starts at the key, whose mark it is, or before it.
-fn last_upto<'a, T: Drop, R: RingSpan<T>>(
-    list: &'a SpanList<T, R>,
-    frame: &R::Key,
-    key: &R::Key,
-    mark: u64,
-) -> Option<Last<'a, T>>
-    requires frame { AreOfFrame R.frame R.mark frame.now list.now }
-    requires parted { IsPartitionedBy
-        (λ span. is_le (R.Key.Ord.cmp (R.start span) key.now)) list.now }
-    requires mark { mark ≡ R.mark frame.now key.now }
-    ensures place { MatchOption result
-        (prefix_len (λ span. is_le (R.Key.Ord.cmp (R.start span) key.now)) list.now ≡ 0)
-        (λ last. last.place + 1
-        ≡ prefix_len (λ span. is_le (R.Key.Ord.cmp (R.start span) key.now)) list.now) }
-    ensures in_range { IfSome result (λ last. last.place < length list.now) }
-    ensures span { IfSome result (λ last. arc_value last.share.now
-        ≡ slice_index_or list.now last.place (arc_value last.share.now)) }
-    ensures marks { IfSome result (λ last. Tell R.Key.Ord.cmp R.start R.end key.now
-        (arc_value last.share.now) mark last.mark last.note) }
-{
-    let _frame = frame;
-    match list.last_at(mark, |span| R::compare_start(span, key).is_le()) {
-        Some(last) => Some(last),
-        None => None,
-    }
 }
 
 /// The one span of a list that can have a key, its place, whether it starts at the key or before it, and the marks of both.
@@ -91,12 +62,48 @@ pub(crate) struct OneSpan<'a, T> {
     pub(crate) marks: SpanMarks,
 }
 
+// The last span that starts at the key or before it.
+fn last_upto<'a, T: Drop, R: RingSpan<T>>(
+    list: &'a SpanList<T, R>,
+    origin: &R::Key,
+    key: &R::Key,
+) -> Option<OneSpan<'a, T>>
+    requires origin { AreOfOrigin R.origin R.mark origin.now list.now }
+    requires parted { IsPartitionedBy
+        (λ span. is_le (R.Key.Ord.cmp (R.start span) key.now)) list.now }
+    ensures place { MatchOption result
+        (prefix_len (λ span. is_le (R.Key.Ord.cmp (R.start span) key.now)) list.now ≡ 0)
+        (λ last. last.place + 1
+        ≡ prefix_len (λ span. is_le (R.Key.Ord.cmp (R.start span) key.now)) list.now) }
+    ensures in_range { IfSome result (λ last. last.place < length list.now) }
+    ensures span { IfSome result (λ last. arc_value last.span.now
+        ≡ slice_index_or list.now last.place (arc_value last.span.now)) }
+    ensures started { IfSome result (λ last. last.started ≡ true) }
+    ensures marks { IfSome result (λ last. Tell R.Key.Ord.cmp R.start R.end key.now
+        (arc_value last.span.now) last.marks.key last.marks.start last.marks.end) }
+{
+    let mark = R::mark(origin, key);
+    match list.last_at(mark, |span| R::compare_start(span, key).is_le()) {
+        Some(last) => Some(OneSpan {
+            place: last.place,
+            span: last.share,
+            started: true,
+            marks: SpanMarks {
+                key: mark,
+                start: last.mark,
+                end: last.note,
+            },
+        }),
+        None => None,
+    }
+}
+
 pub(crate) fn candidate<'a, T: Drop, R: RingSpan<T>>(
     list: &'a SpanList<T, R>,
-    frame: &R::Key,
+    origin: &R::Key,
     key: &R::Key,
 ) -> OneSpan<'a, T>
-    requires frame { AreOfFrame R.frame R.mark frame.now list.now }
+    requires origin { AreOfOrigin R.origin R.mark origin.now list.now }
     requires some { 0 < length list.now }
     requires arcs { IsArcs R.Key.Ord.cmp R.start R.end list.now }
     ensures only { IsCandidate (span_has R.Key.Ord.cmp R.start R.end key.now)
@@ -107,18 +114,8 @@ pub(crate) fn candidate<'a, T: Drop, R: RingSpan<T>>(
     ensures marks { Tell R.Key.Ord.cmp R.start R.end key.now (arc_value result.span.now)
         result.marks.key result.marks.start result.marks.end }
 {
-    let mark = R::mark(frame, key);
-    match last_upto(list, frame, key, mark) {
-        Some(last) => OneSpan {
-            place: last.place,
-            span: last.share,
-            started: true,
-            marks: SpanMarks {
-                key: mark,
-                start: last.mark,
-                end: last.note,
-            },
-        },
+    match last_upto(list, origin, key) {
+        Some(last) => last,
         None => {
             let place = list.len() - 1;
             OneSpan {
@@ -134,16 +131,16 @@ pub(crate) fn candidate<'a, T: Drop, R: RingSpan<T>>(
 // The places from which on and before which spans start at the key.
 pub(crate) fn starting_at<T: Drop, R: RingSpan<T>>(
     list: &SpanList<T, R>,
-    frame: &R::Key,
+    origin: &R::Key,
     key: &R::Key,
 ) -> (usize, usize)
-    requires frame { AreOfFrame R.frame R.mark frame.now list.now }
+    requires origin { AreOfOrigin R.origin R.mark origin.now list.now }
     requires arcs { IsArcs R.Key.Ord.cmp R.start R.end list.now }
     ensures { IsCut (starts_elsewhere R.Key.Ord.cmp R.start key.now) list.now result.0 result.1 }
 {
     (
-        starts_before(list, frame, key),
-        starts_upto(list, frame, key),
+        starts_before(list, origin, key),
+        starts_upto(list, origin, key),
     )
 }
 
@@ -164,7 +161,7 @@ pub(crate) fn span_has<T: Drop, R: RingSpan<T>>(
         return started;
     }
     // only over the end of the order is one of the two enough
-    !start_to_end::<T, R>(span, key, marks).is_lt()
+    !start_to_end::<T, R>(span, marks).is_lt()
 }
 
 pub(crate) fn place_in<T: Drop, R: RingSpan<T>>(

@@ -1,29 +1,30 @@
 -- How many sets each zone has, where one comes and where one goes.
-use Rattle.std.proofs.Common.{◌≡◌, ⊎_elim, ℕ, ◌+◌, ◌-◌, ◌<◌, ◌≤◌, Bool, true, false, true≢false, nat_lt, List, [], ◌∷◌, ◌++◌, cond, length, filter, Contains, refl, sym, ◌∙◌, ap, subst, arith}
+use Rattle.std.proofs.Common.{◌≡◌, ⊎_elim, ℕ, ◌+◌, ◌-◌, ◌<◌, ◌≤◌, Bool, true, false, true≢false, not, nat_lt, List, [], ◌∷◌, ◌++◌, cond, length, filter, Contains, refl, sym, ◌∙◌, ap, subst, arith}
 use Rattle.std.specs.Ordering.{is_lt, is_eq, is_gt}
-use Rattle.std.specs.declared.cmp.Ordering.TheVariants.{Equal}
+use Rattle.std.specs.declared.cmp.Ordering.TheVariants.{Less, Equal}
 use Rattle.std.proofs.lemmas.Bool.Decides.{Decides-ltb}
 use Rattle.std.proofs.lemmas.Cmp.{tied_itself}
 use Rattle.std.proofs.lemmas.List.{length-append}
 use Rattle.std.proofs.lemmas.List.Elements.{filter-append}
+use Rattle.std.proofs.lemmas.List.Kept.{AllPairs-filter}
+use Rattle.facts.proofs.Orderings.{equal_from, both_equal}
+use Rattle.facts.proofs.Filters.{kept, was_kept}
+use Rattle.facts.proofs.Lists.{here}
 use Rattle.dname.specs.Name.{Label}
 use Rattle.dname.specs.Tests.{same_name}
 use Rattle.dname.specs.Order.{canonical_equal, canonical_same}
 use Rattle.denial_records.specs.declared.record.Record.{Record}
 use Rattle.denial_records.specs.declared.record.Record.TheVariants.{Set, Nsec, Nsec3}
 use Rattle.cache_meaning.specs.Held.{zone_of, key_cmp}
-use Rattle.held_laws.proofs.ListLemmas.{here}
-use Rattle.held_laws.proofs.ListedLemmas.{name_equal}
+use Rattle.dname.proofs.SameLemmas.{name_equal, same_names}
 use Rattle.ordered_list.specs.Order.{IsInOrder, IsRank, with_entry, without_entry}
 use Rattle.ordered_list.proofs.ChangeLemmas.{with_members, without_members, entry_at_with, entry_at_with_other, entry_at_without, entry_at_without_other}
-use Rattle.ordered_list.proofs.FilterLemmas.{kept, was_kept}
-use Rattle.ordered_list.proofs.OrderLemmas.{equal_from}
+use Rattle.ordered_list.proofs.OrderLemmas.{with_in_order}
 use Rattle.ordered_list.proofs.PlaceLemmas.{parts, others, few_level}
 use Rattle.record_store.specs.declared.counts.SetCount.{SetCount}
 use Rattle.record_store.specs.Counts.{count_of, count_cmp, counts_total, count_in, count_at, AreCounted, IsRecounted}
 use Rattle.record_store.specs.Ranks.{set_cmp, sets_total}
-use Rattle.record_store.proofs.MarkLemmas.{key_tied, then_equal}
-use Rattle.record_store.proofs.SearchLemmas.{same_names}
+use Rattle.record_store.proofs.MarkLemmas.{key_tied}
 
 -- ---- the list of counts
 
@@ -49,15 +50,15 @@ module _ (counts : List SetCount) (order : IsInOrder count_cmp counts) (each : S
 
 -- sets of one key are of one zone
 key_zone : (one other : Record) → key_cmp one other ≡ Equal → zone_of one ≡ zone_of other
-key_zone (Set one) (Set other) tie = canonical_equal one.zone other.zone (then_equal _ _ tie).0
+key_zone (Set one) (Set other) tie = canonical_equal one.zone other.zone (both_equal _ _ tie).0
 key_zone (Set one) (Nsec other) tie = cc
 key_zone (Set one) (Nsec3 other) tie = cc
 key_zone (Nsec one) (Set other) tie = cc
-key_zone (Nsec one) (Nsec other) tie = canonical_equal one.zone other.zone (then_equal _ _ tie).0
-key_zone (Nsec one) (Nsec3 other) tie = canonical_equal one.zone other.zone (then_equal _ _ tie).0
+key_zone (Nsec one) (Nsec other) tie = canonical_equal one.zone other.zone (both_equal _ _ tie).0
+key_zone (Nsec one) (Nsec3 other) tie = canonical_equal one.zone other.zone (both_equal _ _ tie).0
 key_zone (Nsec3 one) (Set other) tie = cc
-key_zone (Nsec3 one) (Nsec other) tie = canonical_equal one.zone other.zone (then_equal _ _ tie).0
-key_zone (Nsec3 one) (Nsec3 other) tie = canonical_equal one.zone other.zone (then_equal _ _ tie).0
+key_zone (Nsec3 one) (Nsec other) tie = canonical_equal one.zone other.zone (both_equal _ _ tie).0
+key_zone (Nsec3 one) (Nsec3 other) tie = canonical_equal one.zone other.zone (both_equal _ _ tie).0
 
 count_append : (p : Record → Bool) (xs ys : List Record) → length (filter p (xs ++ ys)) ≡ length (filter p xs) + length (filter p ys)
 count_append p xs ys = ap length (filter-append p xs ys) ∙ length-append (filter p xs) (filter p ys)
@@ -125,12 +126,14 @@ module _ (sets : List Record) (order : IsInOrder set_cmp sets) (item : Record) w
   module _ (counts : List SetCount) (are : AreCounted sets counts) where
     pub counted_replaced : (from to : ℕ) → IsRank set_cmp item sets from to → from < to → AreCounted (with_entry set_cmp item sets) counts
     counted_replaced from to rank less = record {
+      in_order = with_in_order set_cmp sets_total item sets order;
       exact = λ apex. are.exact apex ∙ sym (replaced apex (omega (arith, less, rank.equal)));
       some = are.some;
     }
 
     pub counted_more : (from to : ℕ) → IsRank set_cmp item sets from to → to ≤ from → (made : List SetCount) → IsRecounted (zone_of item) (count_at (zone_of item) counts + 1) counts made → AreCounted (with_entry set_cmp item sets) made
     counted_more from to rank upto made is = record {
+      in_order = with_in_order set_cmp sets_total item sets order;
       exact = λ apex. by apex (same_name (zone_of item) apex) refl (added apex (omega (arith, upto, rank.equal)));
       some = is.some are.some;
     }
@@ -149,6 +152,7 @@ module _ (sets : List Record) (order : IsInOrder set_cmp sets) (item : Record) w
 
     pub counted_less : Contains sets item → (made : List SetCount) → IsRecounted (zone_of item) (count_at (zone_of item) counts - 1) counts made → AreCounted (without_entry set_cmp item sets) made
     counted_less has made is = record {
+      in_order = AllPairs-filter (λ x y. set_cmp x y ≡ Less) (λ x. not (is_eq (set_cmp x item))) sets order;
       exact = λ apex. by apex (same_name (zone_of item) apex) refl (taken apex some);
       some = is.some are.some;
     }

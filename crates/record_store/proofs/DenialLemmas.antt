@@ -1,24 +1,26 @@
 -- A denial record comes.
-use Rattle.std.proofs.Common.{◌≡◌, ◌⊎◌, ◌↔◌, inl, inr, ⊎_elim, ◌<◌, zero, suc, Bool, true, false, List, [], ◌∷◌, cond, length, map, take, Contains, get_or, Option, Some, None, refl, sym, ◌∙◌, ap, subst, arith}
+use Rattle.std.proofs.Common.{◌≡◌, ◌⊎◌, ◌↔◌, inl, inr, ⊎_elim, ◌<◌, zero, suc, Bool, true, false, List, [], ◌∷◌, cond, length, take, Contains, get_or, Option, Some, None, refl, sym, ◌∙◌, ap, subst, arith}
 use Rattle.std.specs.List.{AllPairs, list_any}
 use Rattle.std.proofs.lemmas.List.Elements.{All-contains, Contains-get_or}
+use Rattle.std.proofs.lemmas.Option.{none-some, same_Some}
+use Rattle.facts.proofs.Maps.{into_map, from_map}
+use Rattle.facts.proofs.Lists.{here, here_or_there, nothing_in}
 use Rattle.dname.specs.Name.{Label}
 use Rattle.denial_records.specs.declared.record.Record.{Record}
 use Rattle.denial_records.specs.declared.record.Record.TheVariants.{Set, Nsec, Nsec3}
 use Rattle.cache_meaning.specs.Held.{Held, ZoneChain, held_with, same_zone_chain, chain_of, zone_of, is_that_chain, displaces, third_of}
 use Rattle.held_laws.specs.HeldLaws.{NoneDisplaces, IsReordered}
-use Rattle.held_laws.proofs.ListLemmas.{here, there, here_or_there, nothing_in}
-use Rattle.held_laws.proofs.ListedLemmas.{none_some, some_same, chain_displaced}
+use Rattle.held_laws.proofs.ListedLemmas.{chain_displaced}
 use Rattle.ordered_list.specs.Order.{IsInOrder}
 use Rattle.zone_chains.specs.Zone.{OneChain, OneZone, chains_in, records_in, IsOneZone, IsDenialOf, third_for, is_of, chains_with}
-use Rattle.zone_chains.proofs.ChainLemmas.{other_way}
+use Rattle.cache_meaning.proofs.ChainLemmas.{other_way}
 use Rattle.record_store.specs.Holding.{held_in, IsZoneOf, IsTied, AreWith, AreLeft}
 use Rattle.record_store.specs.Putting.{chains_for, IsZoneFor}
 use Rattle.record_store.specs.Ranks.{apex_cmp}
 use Rattle.record_store.proofs.PutLemmas.{Differ}
 use Rattle.record_store.proofs.TiedLemmas.{IsPut, put_tied, put_reordered}
 use Rattle.record_store.proofs.ZoneForLemmas.{two_for, once_for}
-use Rattle.record_store.proofs.ZoneLemmas.{in_map, chain_there, chain_its, chain_all}
+use Rattle.record_store.proofs.ZoneLemmas.{chain_there, chain_its, chain_all}
 
 pub is_denial : (new : Record) → (chain_of new ≡ None → ⊥) → IsDenialOf (zone_of new) new
 is_denial (Set new) some = absurd (some refl)
@@ -29,19 +31,15 @@ is_denial (Nsec3 new) some = refl
 spares_sets : (apex : List Label) (new item : Record) → IsDenialOf apex new → chain_of item ≡ None → displaces new item ≡ false
 spares_sets apex (Set new) item denial none = absurd denial
 spares_sets apex (Nsec new) (Set item) denial none = refl
-spares_sets apex (Nsec new) (Nsec item) denial none = absurd (none_some (sym none))
-spares_sets apex (Nsec new) (Nsec3 item) denial none = absurd (none_some (sym none))
+spares_sets apex (Nsec new) (Nsec item) denial none = absurd (none-some _ (sym none))
+spares_sets apex (Nsec new) (Nsec3 item) denial none = absurd (none-some _ (sym none))
 spares_sets apex (Nsec3 new) (Set item) denial none = refl
-spares_sets apex (Nsec3 new) (Nsec item) denial none = absurd (none_some (sym none))
-spares_sets apex (Nsec3 new) (Nsec3 item) denial none = absurd (none_some (sym none))
+spares_sets apex (Nsec3 new) (Nsec item) denial none = absurd (none-some _ (sym none))
+spares_sets apex (Nsec3 new) (Nsec3 item) denial none = absurd (none-some _ (sym none))
 
 of_no_chain : (o : Option ZoneChain) (item : Record) → chain_of item ≡ None → is_of o item ≡ false
 of_no_chain None item none = refl
 of_no_chain (Some t) item none = ap (is_that_chain t) none
-
-some_of_map : {X Y : Type 0} (f : X → Y) (xs : List X) (y : Y) → Contains (map f xs) y → (x : X) × Contains xs x × (f x ≡ y)
-some_of_map f [] y has = absurd (nothing_in y has)
-some_of_map f (x ∷ xs) y has = ⊎_elim (λ same. (x, here x xs, same)) (λ later. (let one = some_of_map f xs y later in (one.0, there x xs one.0 one.1, one.2))) (here_or_there (f x) (map f xs) y has)
 
 -- a chain that is listed then is the new record's, or one that stays
 listed_then : (chains : List ZoneChain) (new : ZoneChain) → AllPairs Differ chains → (x : ZoneChain) → Contains (chains_with chains (Some new)) x → (new ≡ x) ⊎ (Contains chains x × ((t : ZoneChain) → third_for chains (Some new) ≡ Some t → same_zone_chain t x ≡ false))
@@ -52,14 +50,14 @@ listed_then chains new once x = by (list_any (same_zone_chain new) chains)
 
     two : (cs : List ZoneChain) → AllPairs Differ cs → Contains (take 2 (new ∷ cs)) x → (new ≡ x) ⊎ (Contains cs x × ((t : ZoneChain) → third_of (new ∷ cs) ≡ Some t → same_zone_chain t x ≡ false))
     two [] pairs has = ⊎_elim inl (λ later. absurd (nothing_in x later)) (here_or_there new [] x has)
-    two (a ∷ []) pairs has = ⊎_elim inl (λ later. inr (later, λ t is. absurd (none_some is))) (here_or_there new (a ∷ []) x has)
+    two (a ∷ []) pairs has = ⊎_elim inl (λ later. inr (later, λ t is. absurd (none-some _ is))) (here_or_there new (a ∷ []) x has)
     two (a ∷ b ∷ rest) pairs has =
         ⊎_elim inl (λ later. ⊎_elim
-        (λ same. inr (subst (Contains (a ∷ b ∷ rest)) same (here a (b ∷ rest)), λ t is. ((λ i. same_zone_chain (some_same (sym is) i) (sym same i)) ∙ (other_way b a ∙ pairs zero (suc zero) a (omega arith) (omega arith)))))
+        (λ same. inr (subst (Contains (a ∷ b ∷ rest)) same (here a (b ∷ rest)), λ t is. ((λ i. same_zone_chain (same_Some _ _ (sym is) i) (sym same i)) ∙ (other_way b a ∙ pairs zero (suc zero) a (omega arith) (omega arith)))))
         (λ more. absurd (nothing_in x more)) (here_or_there a [] x later)) (here_or_there new (a ∷ []) x has)
 
     by : (b : Bool) → Contains (cond b chains (take 2 (new ∷ chains))) x → (new ≡ x) ⊎ (Contains chains x × ((t : ZoneChain) → cond b None (third_of (new ∷ chains)) ≡ Some t → same_zone_chain t x ≡ false))
-    by true has = inr (has, λ t is. absurd (none_some is))
+    by true has = inr (has, λ t is. absurd (none-some _ is))
     by false has = two chains once has
 
 has_some : {X : Type 0} (xs : List X) (x : X) → Contains xs x → 0 < length xs
@@ -97,8 +95,8 @@ module _ (goings sets : List Record) (zones : List OneZone) (tied : IsTied going
         where
           set_new : (r : Record) → IsDenialOf (zone_of r) r → chain_of r ≡ None → ⊥
           set_new (Set r) d n = d
-          set_new (Nsec r) d n = none_some (sym n)
-          set_new (Nsec3 r) d n = none_some (sym n)
+          set_new (Nsec r) d n = none-some _ (sym n)
+          set_new (Nsec3 r) d n = none-some _ (sym n)
       has_record each listed (Some its_chain) of has = ⊎_elim
           (λ same. by_new (of ∙ ap (λ c. Some c) same))
           (λ old. by_old old.0 old.1) (listed_then Its its_chain (once_for (held_in goings zones) new zone0 is) each.chain has)
@@ -114,7 +112,7 @@ module _ (goings sets : List Record) (zones : List OneZone) (tied : IsTied going
           by_old was other = by (displaces new item) refl
             where
               one : (c : OneChain) × Contains zone0.chains c × (c.chain ≡ each.chain)
-              one = some_of_map (λ (c : OneChain). c.chain) zone0.chains each.chain (subst (λ l. Contains l each.chain) (sym is.chains) was)
+              one = from_map (λ (c : OneChain). c.chain) zone0.chains each.chain (subst (λ l. Contains l each.chain) (sym is.chains) was)
 
               first : (item : Record) × Contains one.0.records item
               first = some_first one.0.records (All-contains (λ (c : OneChain). 0 < length c.records) zone0.chains one.0 is.used one.1)
@@ -147,7 +145,7 @@ module _ (goings sets : List Record) (zones : List OneZone) (tied : IsTied going
         apex = apex_is;
         whole = whole;
         its = its;
-        used = λ k d within. has_record (get_or zone.chains k d) (Contains-get_or zone.chains k d within) (chain_of new) refl (subst (λ l. Contains l (get_or zone.chains k d).chain) chains_are (in_map (λ (c : OneChain). c.chain) zone.chains (get_or zone.chains k d) (Contains-get_or zone.chains k d within)));
+        used = λ k d within. has_record (get_or zone.chains k d) (Contains-get_or zone.chains k d within) (chain_of new) refl (subst (λ l. Contains l (get_or zone.chains k d).chain) chains_are (into_map (λ (c : OneChain). c.chain) zone.chains (get_or zone.chains k d) (Contains-get_or zone.chains k d within)));
         two = two_for (held_in goings zones) new zone0 is;
         once = once_for (held_in goings zones) new zone0 is;
         chains = chains_are;
@@ -157,8 +155,8 @@ module _ (goings sets : List Record) (zones : List OneZone) (tied : IsTied going
         where
           no_set : (r : Record) → IsDenialOf (zone_of r) r → chain_of r ≡ None → ⊥
           no_set (Set r) d n = d
-          no_set (Nsec r) d n = none_some (sym n)
-          no_set (Nsec3 r) d n = none_some (sym n)
+          no_set (Nsec r) d n = none-some _ (sym n)
+          no_set (Nsec3 r) d n = none-some _ (sym n)
 
           set_new : (item : Record) → item ≡ new → chain_of item ≡ None → ⊥
           set_new item same none = no_set new denial (ap chain_of (sym same) ∙ none)

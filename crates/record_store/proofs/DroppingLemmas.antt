@@ -5,7 +5,11 @@ use Rattle.std.specs.declared.cmp.Ordering.TheVariants.{Equal}
 use Rattle.std.proofs.lemmas.Bool.Decides.{Decides-ltb}
 use Rattle.std.proofs.lemmas.Cmp.{tied_itself}
 use Rattle.std.proofs.lemmas.List.Concat.{flat_map-cons}
-use Rattle.std.proofs.lemmas.List.Elements.{All-contains, All-head, All-weaker}
+use Rattle.std.proofs.lemmas.List.Elements.{All-contains, All-head, All-weaker, filter_passes as all_pass}
+use Rattle.std.proofs.lemmas.Option.{none-some}
+use Rattle.facts.proofs.Pairs.{pairs_head}
+use Rattle.facts.proofs.Filters.{was_kept, filters_commute}
+use Rattle.facts.proofs.Lists.{here, there, here_or_there, nothing_in}
 use Rattle.dname.specs.Name.{Label}
 use Rattle.dname.specs.Tests.{same_name}
 use Rattle.denial_records.specs.declared.record.Record.{Record}
@@ -14,10 +18,10 @@ use Rattle.denial_records.specs.declared.record.Record.TheVariants.{Set, Nsec, N
 use Rattle.cache_meaning.specs.Held.{ZoneChain, chain_of, zone_of, is_of_chain, chains_held}
 use Rattle.held_laws.specs.HeldLaws.{IsApart, NoneDisplaces, EachChainHasARecord, IsReordered}
 use Rattle.held_laws.proofs.KeyOrderLemmas.{in_zone, ListAlike, one_has_the_key}
-use Rattle.held_laws.proofs.ListLemmas.{here, there, here_or_there, nothing_in, was_kept, found, is_found, all_pass}
-use Rattle.held_laws.proofs.ListedLemmas.{name_equal, none_some, of_chain}
-use Rattle.held_laws.proofs.ReorderLemmas.{filter_twice, reordered}
-use Rattle.held_laws.proofs.SortLemmas.{pairs_head, pairs_tail}
+use Rattle.held_laws.proofs.ListLemmas.{found, is_found}
+use Rattle.dname.proofs.SameLemmas.{name_equal, same_names}
+use Rattle.cache_meaning.proofs.ChainLemmas.{of_chain}
+use Rattle.held_laws.proofs.ReorderLemmas.{reordered}
 use Rattle.ordered_list.specs.Order.{IsInOrder, without_entry}
 use Rattle.ordered_list.proofs.ChangeLemmas.{without_members}
 use Rattle.ordered_list.proofs.OrderLemmas.{no_duplicates}
@@ -25,8 +29,8 @@ use Rattle.zone_chains.specs.Zone.{OneChain, OneZone, chains_in, records_in, IsO
 use Rattle.record_store.specs.Dropping.{AreSets, IsZoneLeft, AreWithLeft, AreWithoutLeft, AreZonesLeft}
 use Rattle.record_store.specs.Holding.{chains_of_zones, held_in, IsZoneOf, IsTied, held_rest, AreBut}
 use Rattle.record_store.specs.Ranks.{apex_cmp, going_cmp, goings_total, set_cmp, sets_total}
+use Rattle.record_store.proofs.RestLemmas.{pairs_dropped}
 use Rattle.record_store.proofs.MarkLemmas.{key_tied}
-use Rattle.record_store.proofs.SearchLemmas.{same_names}
 use Rattle.record_store.proofs.ZoneChainLemmas.{AreWhole, one_of_zones, none_of_zones, chains_all_held, chains_left}
 use Rattle.record_store.proofs.ZoneLemmas.{in_flat, some_of_flat}
 
@@ -57,14 +61,14 @@ same_apex one other = by (same_name one other) refl
 
 no_set_is_of_a_chain : (item : Record) → ((set : SetRec) → item ≡ Set set → ⊥) → chain_of item ≡ None → ⊥
 no_set_is_of_a_chain (Set set) no_set none = no_set set refl
-no_set_is_of_a_chain (Nsec nsec) no_set none = none_some (sym none)
-no_set_is_of_a_chain (Nsec3 nsec3) no_set none = none_some (sym none)
+no_set_is_of_a_chain (Nsec nsec) no_set none = none-some _ (sym none)
+no_set_is_of_a_chain (Nsec3 nsec3) no_set none = none-some _ (sym none)
 
 -- what a zone has is of a chain
 in_zone_of_chain : (zone : OneZone) → IsOneZone zone → (item : Record) → Contains (records_in zone) item → chain_of item ≡ None → ⊥
 in_zone_of_chain zone is item has none =
     let each = some_of_flat (λ (c : OneChain). c.records) zone.chains item has in
-    none_some (sym none ∙ All-contains (λ r. chain_of r ≡ Some each.0.chain) each.0.records item (All-contains IsOfItsChain zone.chains each.0 is.of_chain each.1) each.2)
+    none-some _ (sym none ∙ All-contains (λ r. chain_of r ≡ Some each.0.chain) each.0.records item (All-contains IsOfItsChain zone.chains each.0 is.of_chain each.1) each.2)
 
 -- each chain of the zones has a record
 pub chains_have : (goings sets : List Record) (zones : List OneZone) → IsTied goings sets zones → EachChainHasARecord (held_in goings zones)
@@ -91,8 +95,7 @@ first_gone xs goings held fewer first x is order some is' here_first same rest =
     subst (λ r. AreBut r xs fewer) (sym same) (but_first xs fewer (subst (IsInOrder going_cmp) is order) first some (subst (λ l. first ≡ get_or l 0 first) is' here_first) rest)
 
 pub apart_first : (xs ys : List Record) → NoneDisplaces xs → ys ≡ drop 1 xs → NoneDisplaces ys
-apart_first [] ys apart rest = subst NoneDisplaces (sym rest) apart
-apart_first (x ∷ xs) ys apart rest = subst NoneDisplaces (sym rest) (pairs_tail IsApart x xs apart)
+apart_first xs ys apart rest = subst NoneDisplaces (sym rest) (pairs_dropped IsApart 1 xs apart)
 
 -- ---- the sets
 
@@ -220,7 +223,7 @@ module _ (gone : Record) (goings sets : List Record) (zones : List OneZone) (tie
             (λ (w : AreWithoutLeft sets' rest zones made). none_of_zones rest.apex made whole' (λ each has same. ((w.members each).0 has).1 same) ∙ ap (map (λ (c : OneChain). c.chain)) (sym w.no_chain)) zones_left
 
         held_of_zone : (apex : List Label) → filter (in_zone apex) (chains_held left (chains_of_zones zones)) ≡ chains_held left (filter (in_zone apex) (chains_of_zones zones))
-        held_of_zone apex = filter_twice (in_zone apex) (λ chain. list_any (is_of_chain chain) left) (chains_of_zones zones)
+        held_of_zone apex = filters_commute (in_zone apex) (λ chain. list_any (is_of_chain chain) left) (chains_of_zones zones)
 
         its_chains : filter (in_zone rest.apex) (chains_held left (chains_of_zones zones)) ≡ filter (in_zone rest.apex) (chains_of_zones made)
         its_chains =

@@ -1,7 +1,6 @@
 -- What changes make of the records in the order in which they go.
-use Rattle.std.proofs.Common.{◌≡◌, ◌≢◌, ◌⊎◌, inl, inr, ⊎_elim, ℕ, ◌+◌, ◌<◌, ◌≤◌, Bool, true, false, true≢false, not, List, length, get_or, Contains, refl, sym, ◌∙◌, ap, subst, arith}
+use Rattle.std.proofs.Common.{◌≡◌, ◌≢◌, ◌⊎◌, inl, inr, ⊎_elim, ℕ, ◌+◌, ◌<◌, ◌≤◌, Bool, true, false, true≢false, not, List, [], length, get_or, drop, Contains, refl, sym, ◌∙◌, ap, subst, arith}
 use Rattle.std.specs.List.{AllPairs}
-use Rattle.std.specs.Option.{MatchOption}
 use Rattle.std.specs.Ordering.{is_eq, ordering_then}
 use Rattle.std.specs.declared.cmp.Ordering.{Ordering}
 use Rattle.std.specs.declared.cmp.Ordering.TheVariants.{Less, Equal, Greater}
@@ -10,6 +9,7 @@ use Rattle.std.proofs.lemmas.List.{get_or_default}
 use Rattle.std.proofs.lemmas.Bool.Decides.{leb_tells}
 use Rattle.std.proofs.lemmas.List.Elements.{Contains-get_or}
 use Rattle.std.proofs.lemmas.List.Kept.{AllPairs-filter}
+use Rattle.std.proofs.lemmas.Bool.{and_parts}
 use Rattle.dname.specs.Name.{Label}
 use Rattle.denial_records.specs.declared.record.Record.{Record}
 use Rattle.denial_records.specs.declared.record.Record.TheVariants.{Set, Nsec, Nsec3}
@@ -17,14 +17,15 @@ use Rattle.cache_meaning.specs.Held.{displaces, key_cmp}
 use Rattle.held_laws.specs.HeldLaws.{IsApart, NoneDisplaces}
 use Rattle.held_laws.proofs.ApartLemmas.{displaces_either_way}
 use Rattle.held_laws.proofs.KeyOrderLemmas.{one_key_displaces, one_has_the_key}
-use Rattle.held_laws.proofs.ListedLemmas.{both, name_equal}
+use Rattle.dname.proofs.SameLemmas.{name_equal}
 use Rattle.held_laws.proofs.SameLemmas.{one_of_key}
 use Rattle.ordered_list.specs.Order.{IsInOrder, with_entry, without_entry}
-use Rattle.ordered_list.proofs.ChangeLemmas.{with_members, without_members, entry_is, without_length}
+use Rattle.ordered_list.proofs.ChangeLemmas.{with_members, without_members}
 use Rattle.ordered_list.proofs.OrderLemmas.{with_in_order, no_duplicates}
 use Rattle.zone_chains.specs.Zone.{IsDenialOf}
-use Rattle.record_store.specs.Holding.{AreBut, AreWith, IsAt, AreElsewhere}
+use Rattle.record_store.specs.Holding.{AreGoings, AreBut, AreWith, IsAt, AreElsewhere}
 use Rattle.record_store.specs.Ranks.{going_cmp, goings_total, keys_total}
+use Rattle.record_store.proofs.RestLemmas.{pairs_dropped}
 
 -- ---- one record less, one record more
 
@@ -42,22 +43,32 @@ tied_same one other same = subst (λ r. going_cmp one r ≡ Equal) same (tied_it
 pub displaces_itself : (item : Record) → displaces item item ≡ true
 displaces_itself item = one_key_displaces item item (tied_itself keys_total item)
 
-module _ (gone : Record) (goings made : List Record) (is : made ≡ without_entry going_cmp gone goings) (apart : NoneDisplaces goings) where
+pub no_goings : AreGoings []
+no_goings = record { in_order = λ i j d below within. absurd (omega arith); apart = λ i j d below within. absurd (omega arith) }
+
+module _ (gone : Record) (goings made : List Record) (is : made ≡ without_entry going_cmp gone goings) (are : AreGoings goings) where
   pub goings_but : Contains goings gone → AreBut gone goings made
   goings_but there item =
       let has = without_members going_cmp gone goings item in (
-        λ h. (let both = has.0 (subst (λ l. Contains l item) is h) in (both.0, λ same. both.1 (tied_same item gone same))),
-        λ h. subst (λ l. Contains l item) (sym is) (has.1 (h.0, λ tie. h.1 (one_has_the_key goings apart item gone h.0 there (tied_keys item gone tie)))),
+        λ h. (let two = has.0 (subst (λ l. Contains l item) is h) in (two.0, λ same. two.1 (tied_same item gone same))),
+        λ h. subst (λ l. Contains l item) (sym is) (has.1 (h.0, λ tie. h.1 (one_has_the_key goings are.apart item gone h.0 there (tied_keys item gone tie)))),
       )
 
-  pub goings_but_apart : NoneDisplaces made
-  goings_but_apart = subst NoneDisplaces (sym is) (AllPairs-filter IsApart (λ x. not (is_eq (going_cmp x gone))) goings apart)
+  pub goings_without : AreGoings made
+  goings_without = subst AreGoings (sym is) (record {
+    in_order = AllPairs-filter (λ x y. going_cmp x y ≡ Less) stays goings are.in_order;
+    apart = AllPairs-filter IsApart stays goings are.apart;
+  })
+    where
+      stays : Record → Bool
+      stays x = not (is_eq (going_cmp x gone))
 
-  pub goings_but_fewer : IsInOrder going_cmp goings → Contains goings gone → length made < length goings
-  goings_but_fewer order there =
-      let one = entry_is going_cmp goings_total gone goings order gone there (tied_itself goings_total gone) in
-      let fewer = subst (λ o. MatchOption o (length (without_entry going_cmp gone goings) ≡ length goings) (λ _. length (without_entry going_cmp gone goings) + 1 ≡ length goings)) one (without_length going_cmp goings_total gone goings order) in
-      omega (arith, fewer, ap length is)
+-- all but the first
+pub goings_dropped : (goings made : List Record) → made ≡ drop 1 goings → AreGoings goings → AreGoings made
+goings_dropped goings made is are = subst AreGoings (sym is) (record {
+  in_order = pairs_dropped (λ x y. going_cmp x y ≡ Less) 1 goings are.in_order;
+  apart = pairs_dropped IsApart 1 goings are.apart;
+})
 
 -- two different records of which none displaces the other
 apart_two : (xs : List Record) → NoneDisplaces xs → (x y : Record) → Contains xs x → Contains xs y → x ≢ y → displaces x y ≡ false
@@ -88,16 +99,20 @@ module _ (new : Record) (goings made : List Record) (is : made ≡ with_entry go
         )) h)),
       )
 
-  pub goings_with_apart : IsInOrder going_cmp goings → NoneDisplaces goings → NoneDisplaces made
-  goings_with_apart order apart =
-      apart_all made (subst (IsInOrder going_cmp) (sym is) (with_in_order going_cmp goings_total new goings order))
-      (λ x y has has' differ. by x y ((goings_with x).0 has) ((goings_with y).0 has') differ)
+  pub goings_with_are : AreGoings goings → AreGoings made
+  goings_with_are are = record {
+    in_order = order;
+    apart = apart_all made order (λ x y has has' differ. by x y ((goings_with x).0 has) ((goings_with y).0 has') differ);
+  }
     where
+      order : IsInOrder going_cmp made
+      order = subst (IsInOrder going_cmp) (sym is) (with_in_order going_cmp goings_total new goings are.in_order)
+
       by : (x y : Record) → (x ≡ new) ⊎ Contains goings x → (y ≡ new) ⊎ Contains goings y → x ≢ y → displaces x y ≡ false
       by x y (inl one) (inl other) differ = absurd (differ (one ∙ sym other))
       by x y (inl one) (inr old) differ = subst (λ r. displaces r y ≡ false) (sym one) (none y old)
       by x y (inr old) (inl one) differ = subst (λ r. displaces x r ≡ false) (sym one) (displaces_either_way x new ∙ none x old)
-      by x y (inr old) (inr old') differ = apart_two goings apart x y old old' differ
+      by x y (inr old) (inr old') differ = apart_two goings are.apart x y old old' differ
 
 -- ---- without what a denial record displaces
 
@@ -105,42 +120,32 @@ module _ (new : Record) (goings made : List Record) (is : made ≡ with_entry go
 pub displaced_is_of : (apex : List Label) (new old : Record) → IsDenialOf apex new → displaces new old ≡ true → IsDenialOf apex old
 displaced_is_of apex (Set new) old denial is = absurd denial
 displaced_is_of apex (Nsec new) (Set old) denial is = absurd (true≢false (sym is))
-displaced_is_of apex (Nsec new) (Nsec old) denial is = sym (name_equal new.zone old.zone (both _ _ is).0) ∙ denial
+displaced_is_of apex (Nsec new) (Nsec old) denial is = sym (name_equal new.zone old.zone (and_parts _ _ is).0) ∙ denial
 displaced_is_of apex (Nsec new) (Nsec3 old) denial is = absurd (true≢false (sym is))
 displaced_is_of apex (Nsec3 new) (Set old) denial is = absurd (true≢false (sym is))
 displaced_is_of apex (Nsec3 new) (Nsec old) denial is = absurd (true≢false (sym is))
-displaced_is_of apex (Nsec3 new) (Nsec3 old) denial is = sym (name_equal new.zone old.zone (both _ _ is).0) ∙ denial
+displaced_is_of apex (Nsec3 new) (Nsec3 old) denial is = sym (name_equal new.zone old.zone (and_parts _ _ is).0) ∙ denial
 
 -- ---- without the records of a chain at some places
 
 -- those from a place up to another are out
-pub record IsTakingOut (records goings left : List Record) (from to : ℕ) : Type 0 where
-  pub apart : NoneDisplaces left
-  pub rest : AreElsewhere records from to goings left
-
-pub taking_begins : (records goings : List Record) (from : ℕ) → NoneDisplaces goings → IsTakingOut records goings goings from from
-taking_begins records goings from apart = record {
-  apart = apart;
-  rest = λ item. (λ has. (has, λ at. omega (arith, at.1, at.2)), λ h. h.0);
-}
+pub taking_begins : (records goings : List Record) (from : ℕ) → AreElsewhere records from from goings goings
+taking_begins records goings from item = (λ has. (has, λ at. omega (arith, at.1, at.2)), λ h. h.0)
 
 -- a record stands at one place
 pub one_place : (records : List Record) → AllPairs (λ one other. displaces one other ≡ false) records → (i j : ℕ) (x : Record) → i < j → j < length records → get_or records i x ≡ x → get_or records j x ≡ x → ⊥
 one_place records apart i j x before within one other =
     true≢false (sym (displaces_itself x) ∙ ((λ k. displaces (sym one k) (sym other k)) ∙ apart i j x before within))
 
-module _ (records goings left : List Record) (from n : ℕ) (now : IsTakingOut records goings left from n) where
+module _ (records goings left : List Record) (from n : ℕ) (now : AreElsewhere records from n goings left) where
   pub taking_there : AllPairs (λ one other. displaces one other ≡ false) records → (x : Record) → n < length records → x ≡ get_or records n x → Contains goings x → Contains left x
-  taking_there apart x within is there = (now.rest x).1 (there, λ at. one_place records apart at.0 n x at.2 within at.3 (sym is))
+  taking_there apart x within is there = (now x).1 (there, λ at. one_place records apart at.0 n x at.2 within at.3 (sym is))
 
-  pub taking_goes_on : (x : Record) (left' : List Record) → from ≤ n → n < length records → x ≡ get_or records n x → AreBut x left left' → NoneDisplaces left' → IsTakingOut records goings left' from (n + 1)
-  taking_goes_on x left' begun within is but apart = record {
-    apart = apart;
-    rest = λ item. (
-      λ h. (let two = (but item).0 h in let old = (now.rest item).0 two.0 in (old.0, λ at. by item old.1 two.1 at (below_or_not at.0 n))),
-      λ h. (but item).1 ((now.rest item).1 (h.0, λ at. h.1 (at.0, at.1, omega (arith, at.2), at.3)), λ same. h.1 (n, begun, omega arith, subst (λ r. get_or records n r ≡ r) (sym same) (sym is))),
-    );
-  }
+  pub taking_goes_on : (x : Record) (left' : List Record) → from ≤ n → n < length records → x ≡ get_or records n x → AreBut x left left' → AreElsewhere records from (n + 1) goings left'
+  taking_goes_on x left' begun within is but item = (
+    λ h. (let two = (but item).0 h in let old = (now item).0 two.0 in (old.0, λ at. by item old.1 two.1 at (below_or_not at.0 n))),
+    λ h. (but item).1 ((now item).1 (h.0, λ at. h.1 (at.0, at.1, omega (arith, at.2), at.3)), λ same. h.1 (n, begun, omega arith, subst (λ r. get_or records n r ≡ r) (sym same) (sym is))),
+  )
     where
       below_or_not : (a b : ℕ) → (a < b) ⊎ (b ≤ a)
       below_or_not a b = ⊎_elim (λ h. inr h.1) (λ h. inl h.1) (leb_tells b a)

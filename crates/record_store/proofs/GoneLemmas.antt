@@ -3,12 +3,14 @@ use Rattle.std.proofs.Common.{◌≡◌, ◌⊎◌, ◌↔◌, inl, inr, ⊎_eli
 use Rattle.std.specs.List.{AllPairs, list_any}
 use Rattle.std.specs.Option.{MatchOption}
 use Rattle.std.proofs.lemmas.Bool.Decides.{leb_tells}
+use Rattle.std.proofs.lemmas.Option.{none-some, same_Some}
+use Rattle.std.proofs.lemmas.Bool.{not-false, not-true}
 use Rattle.denial_records.specs.declared.record.Record.{Record}
 use Rattle.cache_meaning.specs.Held.{ZoneChain, same_zone_chain, chain_of, is_that_chain, is_of_chain, displaces, third_of}
 use Rattle.held_laws.proofs.ApartLemmas.{displaces_either_way}
-use Rattle.held_laws.proofs.ListedLemmas.{none_some, some_same, chain_displaced, of_chain, is_of as has_chain}
+use Rattle.held_laws.proofs.ListedLemmas.{chain_displaced}
+use Rattle.cache_meaning.proofs.ChainLemmas.{of_chain, is_of_it as has_chain, other_way}
 use Rattle.zone_chains.specs.Zone.{OneChain, OneZone, chains_in, records_in, IsOneZone, IsDenialOf, DisplacesAt, third_for, is_of}
-use Rattle.zone_chains.proofs.ChainLemmas.{other_way}
 use Rattle.record_store.specs.Holding.{IsZoneOf, AreCleared, AreWithout, AreLeft, IsAt, AreElsewhere}
 use Rattle.record_store.proofs.GoingLemmas.{displaced_is_of, one_place}
 use Rattle.record_store.proofs.ZoneLemmas.{in_flat, pairs_of_flat, of_its_chain}
@@ -46,10 +48,10 @@ differs chains new t = by chains (list_any (same_zone_chain new) chains) refl
     second false false z is = refl
 
     by : (cs : List ZoneChain) (b : Bool) → list_any (same_zone_chain new) cs ≡ b → cond b None (third_of (new ∷ cs)) ≡ Some t → same_zone_chain new t ≡ false
-    by cs true any is = absurd (none_some is)
-    by [] false any is = absurd (none_some is)
-    by (a ∷ []) false any is = absurd (none_some is)
-    by (a ∷ b ∷ rest) false any is = subst (λ c. same_zone_chain new c ≡ false) (some_same is) (second (same_zone_chain new a) (same_zone_chain new b) (list_any (same_zone_chain new) rest) any)
+    by cs true any is = absurd (none-some _ is)
+    by [] false any is = absurd (none-some _ is)
+    by (a ∷ []) false any is = absurd (none-some _ is)
+    by (a ∷ b ∷ rest) false any is = subst (λ c. same_zone_chain new c ≡ false) (same_Some _ _ is) (second (same_zone_chain new a) (same_zone_chain new b) (list_any (same_zone_chain new) rest) any)
 
 its_chain : (new old : Record) (chain : ZoneChain) → displaces new old ≡ true → chain_of new ≡ Some chain → chain_of old ≡ Some chain
 its_chain new old chain is of = chain_displaced old new chain (displaces_either_way old new ∙ is) of
@@ -79,14 +81,6 @@ module _ (new : Record) (zone : OneZone) (goings left : List Record) (denial : I
     λ h. (clear item).1 ((are item).1 (h.0, h.2), h.1),
   )
 
-not_false : (b : Bool) → not b ≡ false → b ≡ true
-not_false true is = refl
-not_false false is = absurd (true≢false is)
-
-not_true : (b : Bool) → not b ≡ true → b ≡ false
-not_true true is = absurd (true≢false (sym is))
-not_true false is = refl
-
 below_or_not : (a b : ℕ) → (a < b) ⊎ (b ≤ a)
 below_or_not a b = ⊎_elim (λ h. inr h.1) (λ h. inl h.1) (leb_tells b a)
 
@@ -101,10 +95,10 @@ module _ (new : Record) (zone : OneZone) (whole : IsOneZone zone) (each : OneCha
   displaced_once = pairs_of_flat (λ (c : OneChain). c.records) (λ one other. displaces one other ≡ false) zone.chains whole.apart each at.listed
 
   at_front : (item : Record) → Front item → displaces new item ≡ true
-  at_front item front = not_false (displaces new item) (ap (λ r. not (displaces new r)) (sym front.3) ∙ at.runs.up_to front.0 item front.1 front.2)
+  at_front item front = not-false (displaces new item) (ap (λ r. not (displaces new r)) (sym front.3) ∙ at.runs.up_to front.0 item front.1 front.2)
 
   at_back : (item : Record) → Back item → displaces new item ≡ true
-  at_back item back = not_false (displaces new item) (ap (λ r. not (displaces new r)) (sym back.3) ∙ at.runs.from_last back.0 item back.1 back.2)
+  at_back item back = not-false (displaces new item) (ap (λ r. not (displaces new r)) (sym back.3) ∙ at.runs.from_last back.0 item back.1 back.2)
 
   there : (item : Record) (k : ℕ) → k < length each.records → get_or each.records k item ≡ item → displaces new item ≡ true → Contains goings item
   there item k within is displaced = (same item displaced).1 (in_flat (λ (c : OneChain). c.records) zone.chains each at.listed item (k, within, is))
@@ -136,7 +130,7 @@ module _ (new : Record) (zone : OneZone) (whole : IsOneZone zone) (each : OneCha
             k = place.0
 
             spared : not (displaces new (get_or each.records k item)) ≡ true → displaces new item ≡ false
-            spared passes = not_true (displaces new item) (ap (λ r. not (displaces new r)) (sym place.2) ∙ passes)
+            spared passes = not-true (displaces new item) (ap (λ r. not (displaces new r)) (sym place.2) ∙ passes)
 
             run : (k < from) ⊎ (from ≤ k) → (k < to) ⊎ (to ≤ k) → (k < last) ⊎ (last ≤ k) → displaces new item ≡ false
             run (inl before) _ _ = spared (at.runs.before_from k item (omega arith) before)

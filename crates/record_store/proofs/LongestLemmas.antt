@@ -1,5 +1,5 @@
 -- The longest of some zones that a name is at or below.
-use Rattle.std.proofs.Common.{◌≡◌, ℕ, ◌-◌, ◌<◌, ◌≤◌, ◌⊎◌, inl, inr, Bool, true, false, true≢false, cond, List, [], ◌∷◌, ◌++◌, length, get_or, Contains, find, Some, None, refl, sym, ◌∙◌, ap, subst, arith}
+use Rattle.std.proofs.Common.{◌≡◌, ℕ, ◌-◌, ◌<◌, ◌≤◌, ◌⊎◌, inl, inr, Bool, true, false, true≢false, cond, List, [], ◌∷◌, ◌++◌, length, get_or, Contains, MatchOption, Option, find, Some, None, refl, sym, ◌∙◌, ap, subst, arith}
 use Rattle.std.specs.List.{prefix_len}
 use Rattle.std.specs.List.Sorted.{IsPartitionedBy}
 use Rattle.std.specs.Ordering.{is_le}
@@ -15,7 +15,7 @@ use Rattle.dname.proofs.TogetherLemmas.{above_is_first, stands_together}
 use Rattle.cache_meaning.specs.Zones.{self_and_above}
 use Rattle.cache_meaning.proofs.HeldLemmas.{found_here}
 use Rattle.held_laws.proofs.ListLemmas.{found, is_found}
-use Rattle.held_laws.proofs.ListedLemmas.{name_equal, name_itself}
+use Rattle.dname.proofs.SameLemmas.{name_equal, name_itself}
 use Rattle.ordered_list.specs.Order.{IsInOrder}
 use Rattle.ordered_list.proofs.OrderLemmas.{partitioned}
 use Rattle.zone_chains.specs.Zone.{OneZone}
@@ -167,3 +167,9 @@ module _ (zones : List OneZone) (name : List Label) where
               let tie = canonical_equal last.apex name (both_ways last.apex name is_last.upto (above_upto last.apex name under)) in
               absurd (apart ([], sym tie))
           by (label ∷ front) same = omega (arith, ap length same, length-append front common)
+
+-- the first of the names that is an apex, where others have the same
+pub first_also : {F : Type 0} (value : F → OneZone) (zones : List OneZone) (names others : List (List Label)) → first_apex zones names ≡ first_apex zones others → (o : Option F)
+    → MatchOption o (first_apex zones others ≡ None) (λ zone. IsFirstZone zones others (value zone)) → MatchOption o (first_apex zones names ≡ None) (λ zone. IsFirstZone zones names (value zone))
+first_also value zones names others same None none = same ∙ none
+first_also value zones names others same (Some zone) is = record { listed = is.listed; first = same ∙ is.first; in_order = is.in_order }

@@ -6,13 +6,16 @@ use Rattle.std.specs.Ordering.{is_le, nat_cmp}
 use Rattle.std.specs.Cmp.{IsTotalOrder}
 use Rattle.std.specs.declared.cmp.Ordering.{Ordering}
 use Rattle.std.specs.declared.cmp.Ordering.TheVariants.{Less, Equal}
-use Rattle.std.proofs.lemmas.Bool.{cases_lt}
+use Rattle.std.proofs.lemmas.Bool.{cases_lt, and_parts}
 use Rattle.std.proofs.lemmas.Bool.Decides.{Decides-eqb}
 use Rattle.std.proofs.lemmas.Cmp.{nat_cmp_total, tied_itself}
 use Rattle.std.proofs.lemmas.Grind.{common_steps}
 use Rattle.std.proofs.lemmas.List.{append-nil, get_or_read}
 use Rattle.std.proofs.lemmas.List.Elements.{All-contains, filter-append}
 use Rattle.std.proofs.lemmas.List.Sums.{prefix_len_passes, prefix_len_stops}
+use Rattle.std.proofs.lemmas.Option.{none-some}
+use Rattle.facts.proofs.Filters.{filter_all, filter_none}
+use Rattle.facts.proofs.Lists.{here, there, here_or_there, nothing_in}
 use Rattle.dname.specs.Name.{Label, canonical_cmp}
 use Rattle.dname.specs.Order.{canonical_same}
 use Rattle.dname.specs.Tests.{same_name}
@@ -25,12 +28,11 @@ use Rattle.cache_meaning.specs.Held.{Held, HashParameters, ZoneChain, chain_of, 
 use Rattle.cache_meaning.specs.Zones.{candidates, zone_for, first_of, as_set_at, as_nsec_at, as_nsec3_at, set_at, nsec_at, nsec3_at}
 use Rattle.held_laws.specs.HeldLaws.{NoneDisplaces, IsReordered}
 use Rattle.held_laws.specs.KeyOrder.{in_key_order}
-use Rattle.held_laws.proofs.ListLemmas.{here, there, here_or_there, nothing_in, found, is_found}
-use Rattle.held_laws.proofs.ListedLemmas.{both, name_equal, none_some}
+use Rattle.held_laws.proofs.ListLemmas.{found, is_found}
+use Rattle.dname.proofs.SameLemmas.{name_equal, same_names}
 use Rattle.held_laws.proofs.OrderedLemmas.{key_order_same, apart_in_key_order}
 use Rattle.held_laws.proofs.SameLemmas.{same_set, same_nsec, same_nsec3, same_zone}
 use Rattle.ordered_list.specs.Order.{IsInOrder}
-use Rattle.ordered_list.proofs.FilterLemmas.{filter_all, filter_none}
 use Rattle.ordered_list.proofs.OrderLemmas.{below_rest, rest_in_order}
 use Rattle.ordered_list.proofs.PlaceLemmas.{upto_first}
 use Rattle.zone_chains.specs.Zone.{OneZone, chains_in, records_in, IsOneZone, IsDenialOf, IsChosen}
@@ -39,7 +41,6 @@ use Rattle.record_store.specs.LookUp.{is_apex, first_apex, IsFirstZone, IsZoneIn
 use Rattle.record_store.specs.Ranks.{apex_cmp, set_cmp, sets_total}
 use Rattle.record_store.specs.Marks.{set_mark}
 use Rattle.record_store.proofs.MarkLemmas.{key_mark, set_tied}
-use Rattle.record_store.proofs.SearchLemmas.{same_names}
 
 -- ---- the zone for a question
 
@@ -145,7 +146,7 @@ module _ {A : Type 0} (choose : Record → Option A) where
     where
       by : (item : Record) → Contains others item → (o : Option A) → choose item ≡ o → choose item ≡ None
       by item has None is = is
-      by item has (Some a) is = absurd (none_some (sym (none item ((same item a is).1 has)) ∙ is))
+      by item has (Some a) is = absurd (none-some _ (sym (none item ((same item a is).1 has)) ∙ is))
 
 -- a record once more
 same_again : (held : Held) (item : Record) → Contains held.records item → IsReordered held (record { records = item ∷ held.records; chains = held.chains })
@@ -174,22 +175,22 @@ module _ (held : Held) (apart : NoneDisplaces held.records) where
 
 if_so : {A : Type 0} (b : Bool) (x y : A) → cond b (Some x) None ≡ Some y → b ≡ true
 if_so true x y is = refl
-if_so false x y is = absurd (none_some is)
+if_so false x y is = absurd (none-some _ is)
 
 nsec_is_denial : (zone name : List Label) (item : Record) (a : NsecRec) → as_nsec_at zone name item ≡ Some a → IsDenialOf zone item
-nsec_is_denial zone name (Set set) a is = absurd (none_some is)
-nsec_is_denial zone name (Nsec nsec) a is = name_equal nsec.zone zone (both _ _ (if_so _ nsec a is)).0
-nsec_is_denial zone name (Nsec3 nsec3) a is = absurd (none_some is)
+nsec_is_denial zone name (Set set) a is = absurd (none-some _ is)
+nsec_is_denial zone name (Nsec nsec) a is = name_equal nsec.zone zone (and_parts _ _ (if_so _ nsec a is)).0
+nsec_is_denial zone name (Nsec3 nsec3) a is = absurd (none-some _ is)
 
 nsec3_is_denial : (zone : List Label) (parameters : HashParameters) (hash : List ℕ) (item : Record) (a : Nsec3Rec) → as_nsec3_at zone parameters hash item ≡ Some a → IsDenialOf zone item
-nsec3_is_denial zone parameters hash (Set set) a is = absurd (none_some is)
-nsec3_is_denial zone parameters hash (Nsec nsec) a is = absurd (none_some is)
-nsec3_is_denial zone parameters hash (Nsec3 nsec3) a is = name_equal nsec3.zone zone (both _ _ (if_so _ nsec3 a is)).0
+nsec3_is_denial zone parameters hash (Set set) a is = absurd (none-some _ is)
+nsec3_is_denial zone parameters hash (Nsec nsec) a is = absurd (none-some _ is)
+nsec3_is_denial zone parameters hash (Nsec3 nsec3) a is = name_equal nsec3.zone zone (and_parts _ _ (if_so _ nsec3 a is)).0
 
 set_has_no_chain : (zone owner : List Label) (rtype : ℕ) (item : Record) (a : SetRec) → as_set_at zone owner rtype item ≡ Some a → chain_of item ≡ None
 set_has_no_chain zone owner rtype (Set set) a is = refl
-set_has_no_chain zone owner rtype (Nsec nsec) a is = absurd (none_some is)
-set_has_no_chain zone owner rtype (Nsec3 nsec3) a is = absurd (none_some is)
+set_has_no_chain zone owner rtype (Nsec nsec) a is = absurd (none-some _ is)
+set_has_no_chain zone owner rtype (Nsec3 nsec3) a is = absurd (none-some _ is)
 
 module _ (held : Held) (zone : OneZone) (is : IsZoneIn held zone) where
   pub nsec_in_zone : (name : List Label) (result : Option NsecRec) → IsChosen (as_nsec_at zone.apex name) (records_in zone) result → result ≡ nsec_at held zone.apex name
@@ -248,11 +249,11 @@ module _ {X : Type 0} (cmp : X → X → Ordering) (total : IsTotalOrder cmp) (l
 
 -- a set that is chosen ties with such a set
 set_ties : (zone owner : List Label) (rtype : ℕ) (item : Record) (a : SetRec) → as_set_at zone owner rtype item ≡ Some a → key_cmp item (set_like zone owner rtype) ≡ Equal
-set_ties zone owner rtype (Nsec nsec) a is = absurd (none_some is)
-set_ties zone owner rtype (Nsec3 nsec3) a is = absurd (none_some is)
+set_ties zone owner rtype (Nsec nsec) a is = absurd (none-some _ is)
+set_ties zone owner rtype (Nsec3 nsec3) a is = absurd (none-some _ is)
 set_ties zone owner rtype (Set set) a is =
-    let first = both _ _ (if_so _ set a is) in
-    let second = both _ _ first.1 in
+    let first = and_parts _ _ (if_so _ set a is) in
+    let second = and_parts _ _ first.1 in
     let zones = canonical_same set.zone zone (name_equal _ _ first.0) in
     let owners = canonical_same set.owner owner (name_equal _ _ second.0) in
     let types = subst (λ n. nat_cmp set.rtype n ≡ Equal) ((Decides-eqb set.rtype rtype).0 second.1) (tied_itself nat_cmp_total set.rtype) in
@@ -274,7 +275,7 @@ module _ (zone owner : List Label) (rtype : ℕ) (sets : List Record) (order : I
       by each has None none = none
       by each has (Some set) some =
           let same = tied_is_last set_cmp sets_total (set_like zone owner rtype) sets order n last each has (set_tied each (set_like zone owner rtype) (set_ties zone owner rtype each set some)) item within is in
-          absurd (none_some (result ∙ (ap (as_set_at zone owner rtype) same ∙ some)))
+          absurd (none-some _ (result ∙ (ap (as_set_at zone owner rtype) same ∙ some)))
 
   -- a record of another number is no such set
   pub none_of_number : (n : ℕ) → n + 1 ≡ prefix_len (λ item. is_le (set_cmp item (set_like zone owner rtype))) sets → (item : Record) → n < length sets → item ≡ get_or sets n item → (set_mark item ≡ set_mark (set_like zone owner rtype) → ⊥) → IsChosen (as_set_at zone owner rtype) sets None

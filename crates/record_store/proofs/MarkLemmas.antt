@@ -2,11 +2,12 @@
 use Rattle.std.proofs.Common.{◌≡◌, ℕ, suc, ◌/◌, ◌≤◌, true, nat_lt, List, length, drop, refl, sym, ◌∙◌, ap, arith}
 use Rattle.std.specs.Ordering.{nat_cmp, is_le, ordering_then}
 use Rattle.std.specs.declared.cmp.Ordering.{Ordering}
-use Rattle.std.specs.declared.cmp.Ordering.TheVariants.{Less, Equal, Greater}
+use Rattle.std.specs.declared.cmp.Ordering.TheVariants.{Equal, Greater}
 use Rattle.std.proofs.lemmas.Bool.Decides.{nat_tests}
 use Rattle.std.proofs.lemmas.Cmp.{nat_cmp_total, tied_itself}
 use Rattle.std.proofs.lemmas.Grind.{common_steps}
 use Rattle.std.proofs.lemmas.List.{length-drop}
+use Rattle.facts.proofs.Orderings.{both_equal}
 use Rattle.dname.specs.Name.{Label}
 use Rattle.dname.specs.Order.{canonical_equal}
 use Rattle.denial_records.specs.declared.set_rec.SetRec.{SetRec}
@@ -27,11 +28,6 @@ one_word octets hash long = ap (λ n. words_mixed n octets hash) count
 
 -- ---- sets of one key have one number
 
-pub then_equal : (a b : Ordering) → ordering_then a b ≡ Equal → (a ≡ Equal) × (b ≡ Equal)
-then_equal Equal b is = (refl, is)
-then_equal Less b is = cc
-then_equal Greater b is = cc
-
 level_is : (n m : ℕ) → nat_cmp n m ≡ Equal → n ≡ m
 level_is n m is = grind (arith, nat_tests, common_steps)
 
@@ -40,8 +36,8 @@ above n = grind (arith, nat_tests, common_steps)
 
 pub key_mark : (one other : Record) → key_cmp one other ≡ Equal → set_mark one ≡ set_mark other
 key_mark (Set one) (Set other) is =
-    let zones = then_equal _ _ is in
-    let owners = then_equal _ _ zones.1 in
+    let zones = both_equal _ _ is in
+    let owners = both_equal _ _ zones.1 in
     λ i. set_number (canonical_equal one.zone other.zone zones.0 i) (canonical_equal one.owner other.owner owners.0 i) (level_is one.rtype other.rtype owners.1 i)
 key_mark (Set one) (Nsec other) is = cc
 key_mark (Set one) (Nsec3 other) is = cc
@@ -58,7 +54,7 @@ set_tied one other is =
     ∙ (ap (λ o. ordering_then o (key_cmp one other)) (tied_itself nat_cmp_total (set_mark other)) ∙ is)
 
 pub key_tied : (one other : Record) → set_cmp one other ≡ Equal → key_cmp one other ≡ Equal
-key_tied one other is = (then_equal _ _ is).1
+key_tied one other is = (both_equal _ _ is).1
 
 pub set_untied : (one other : Record) (mark mark' : ℕ) → mark ≡ set_mark one → mark' ≡ set_mark other → ordering_then (nat_cmp mark mark') (key_cmp one other) ≡ set_cmp one other
 set_untied one other mark mark' is are = λ i. ordering_then (nat_cmp (is i) (are i)) (key_cmp one other)

@@ -16,12 +16,12 @@ use Rattle.cache_meaning.specs.Held.{Held, expiry_of, key_cmp, is_usable, goes, 
 use Rattle.held_laws.specs.HeldLaws.{IsApart, NoneDisplaces, EachChainHasARecord, IsReordered}
 use Rattle.held_laws.specs.KeyOrder.{in_key_order, kept_after}
 use Rattle.held_laws.proofs.ApartLemmas.{with_apart}
-use Rattle.held_laws.proofs.OrderedLemmas.{key_order_same, apart_in_key_order, one_in_key_order}
+use Rattle.held_laws.proofs.OrderedLemmas.{key_order_same, apart_in_key_order, one_in_key_order, through}
 use Rattle.held_laws.proofs.ReorderLemmas.{Alike, fold_both, with_alike, with_both, limit_alike, after_alike}
 use Rattle.ordered_list.specs.Order.{IsInOrder}
-use Rattle.record_store.specs.Holding.{rest_of}
+use Rattle.record_store.specs.Holding.{IsHeldAs, rest_of}
 use Rattle.record_store.specs.Ranks.{going_cmp, goings_total}
-use Rattle.record_store.proofs.RestLemmas.{through, back, IsRest, rest_begins, rest_goes_on, where_is_rest, fails_first, first_go}
+use Rattle.record_store.proofs.RestLemmas.{back, IsRest, rest_begins, rest_goes_on, rest_apart, where_is_rest, fails_first, first_go}
 
 -- ---- what has expired goes
 
@@ -64,6 +64,9 @@ module _ (now : ℕ) (held rest : Held) (is : IsWithoutExpired now held rest) wh
       where_is_rest (is_usable now) held is.count rest
       (fails_first (is_usable now) is.count held.records is.expired (subst (All (λ item. is_usable now item ≡ true)) is.are_out.records usable)) is.are_out.order
 
+  pub expired_apart : NoneDisplaces held.records → NoneDisplaces rest.records
+  expired_apart apart = rest_apart held is.count rest is.are_out apart
+
 -- the first record's expiry is the least
 rises : (one other : Record) → going_cmp one other ≡ Less → expiry_of one ≤ expiry_of other
 rises one other less = by (cases_lt (expiry_of other) (expiry_of one))
@@ -90,33 +93,11 @@ module _ (now : ℕ) (xs : List Record) where
 
 -- ---- what is too much goes
 
--- the first so many are out, and no more than are too many
-pub record IsWithinLimit (held rest : Held) : Type 0 where
-  pub count : ℕ
-  pub are_out : IsRest held count rest
-  pub few : count ≤ length held.records - most_records
-
-pub limit_begins : (held : Held) → EachChainHasARecord held → IsWithinLimit held held
-limit_begins held each = record { count = 0; are_out = rest_begins held each; few = omega arith }
-
-module _ (held rest : Held) (is : IsWithinLimit held rest) where
-  left : length rest.records ≡ length held.records - is.count
-  left = ap length is.are_out.records ∙ length-drop is.count held.records
-
-  pub limit_goes_on : (made : Held) → most_records < length rest.records → made.records ≡ drop 1 rest.records → IsReordered (rest_of 1 rest) made → IsWithinLimit held made
-  limit_goes_on made above records order = record {
-    count = is.count + 1;
-    are_out = rest_goes_on held is.count rest made is.are_out records order;
-    few = omega (arith, above, left);
-  }
-
-  pub limit_ends : IsInOrder going_cmp held.records → length rest.records ≤ most_records → IsReordered (within_limit held) rest
-  limit_ends order upto =
-      where_is_rest (λ item. not (goes held.records item)) held is.count rest
-      (first_go going_cmp goings_total held.records order (length held.records - most_records) ∙ ap (λ n. drop n held.records) many) is.are_out.order
-    where
-      many : length held.records - most_records ≡ is.count
-      many = omega (arith, upto, left, is.few)
+-- as many are out as are too many
+pub limit_ends : (held : Held) (n : ℕ) (rest : Held) → IsRest held n rest → IsInOrder going_cmp held.records → n ≡ length held.records - most_records → IsReordered (within_limit held) rest
+limit_ends held n rest is order same =
+    where_is_rest (λ item. not (goes held.records item)) held n rest
+    (first_go going_cmp goings_total held.records order (length held.records - most_records) ∙ ap (λ k. drop k held.records) (sym same)) is.order
 
 -- ---- the batch's records come
 
@@ -149,7 +130,7 @@ module _ (held : Held) (records : List Record) (n : ℕ) (made : Held) (is : Has
 
 -- ---- the steps together
 
-pub steps_make : (held : Held) (batch : Batch) (usable with_records made : Held) → NoneDisplaces held.records → NoneDisplaces usable.records → NoneDisplaces with_records.records
+steps_make : (held : Held) (batch : Batch) (usable with_records made : Held) → NoneDisplaces held.records → NoneDisplaces usable.records → NoneDisplaces with_records.records
     → IsReordered (held_where (is_usable batch.now) held) usable → IsReordered (fold held_with usable batch.records) with_records → IsReordered (within_limit with_records) made → IsReordered (held_after held batch) made
 steps_make held batch usable with_records made apart apart' apart'' first second third =
     through (held_after held batch) (within_limit with_records) made
@@ -171,9 +152,14 @@ steps_make held batch usable with_records made apart apart' apart'' first second
 
 -- ---- in the order of keys
 
-pub kept_is : (held made : Held) (batch : Batch) → NoneDisplaces held.records → NoneDisplaces made.records → IsReordered (held_after held batch) made → in_key_order made ≡ kept_after (in_key_order held) batch
+kept_is : (held made : Held) (batch : Batch) → NoneDisplaces held.records → NoneDisplaces made.records → IsReordered (held_after held batch) made → in_key_order made ≡ kept_after (in_key_order held) batch
 kept_is held made batch apart apart' order =
     one_in_key_order made (held_after (in_key_order held) batch) apart' both.others_apart (through made (held_after held batch) (held_after (in_key_order held) batch) (back (held_after held batch) made order) both.order)
   where
     both : Alike (held_after held batch) (held_after (in_key_order held) batch)
     both = after_alike held (in_key_order held) batch (record { apart = apart; others_apart = apart_in_key_order held apart; order = key_order_same held })
+
+pub after_is : (held : Held) (batch : Batch) (usable all made : Held) → NoneDisplaces held.records
+    → IsHeldAs (held_where (is_usable batch.now) held) usable → IsHeldAs (fold held_with usable batch.records) all → IsHeldAs (within_limit all) made → in_key_order made ≡ kept_after (in_key_order held) batch
+after_is held batch usable all made apart first second third =
+    kept_is held made batch apart third.apart (steps_make held batch usable all made apart first.apart second.apart first.order second.order third.order)

@@ -1,7 +1,11 @@
 -- What a record makes of a held state when it comes.
 use Rattle.std.proofs.Common.{◌≡◌, ◌⊎◌, ◌↔◌, inl, inr, ⊎_elim, ◌≤◌, zero, suc, ◌||◌, Bool, true, false, true≢false, not, List, [], ◌∷◌, ◌++◌, cond, length, take, filter, Contains, Option, Some, None, refl, sym, ◌∙◌, ap, subst, arith}
 use Rattle.std.specs.List.{AllPairs, list_any}
-use Rattle.std.proofs.lemmas.List.Elements.{All-weaker, Contains-push, Contains-push_cases, Contains-append_left}
+use Rattle.std.proofs.lemmas.List.Elements.{All-weaker, Contains-push, Contains-push_cases, Contains-append_left, filter_passes as all_pass}
+use Rattle.std.proofs.lemmas.Option.{none-some, same_Some}
+use Rattle.std.proofs.lemmas.Bool.{false_from_ne_true, not-true}
+use Rattle.facts.proofs.Filters.{kept, was_kept, filters_commute, filter_all}
+use Rattle.facts.proofs.Lists.{here, there}
 use Rattle.dname.specs.Name.{Label}
 use Rattle.dname.specs.Tests.{same_name}
 use Rattle.denial_records.specs.declared.record.Record.{Record}
@@ -10,42 +14,31 @@ use Rattle.cache_meaning.specs.Held.{Held, ZoneChain, same_zone_chain, chain_of,
 use Rattle.cache_meaning.specs.Zones.{chains_of}
 use Rattle.held_laws.specs.HeldLaws.{NoneDisplaces, IsReordered}
 use Rattle.held_laws.proofs.KeyOrderLemmas.{in_zone}
-use Rattle.held_laws.proofs.ListLemmas.{here, there, kept, was_kept, is_found, all_pass}
-use Rattle.held_laws.proofs.ListedLemmas.{name_equal, name_itself, equal, itself, none_some, some_same}
-use Rattle.held_laws.proofs.ReorderLemmas.{filter_twice}
+use Rattle.held_laws.proofs.ListLemmas.{is_found}
+use Rattle.dname.proofs.SameLemmas.{name_equal, name_itself, same_names}
+use Rattle.cache_meaning.proofs.ChainLemmas.{zone_chain_equal as equal, zone_chain_itself as itself, other_way}
 use Rattle.held_laws.proofs.SameLemmas.{one_of_key}
-use Rattle.ordered_list.proofs.FilterLemmas.{filter_all}
 use Rattle.zone_chains.specs.Zone.{chains_with, third_for, is_of}
-use Rattle.zone_chains.proofs.ChainLemmas.{other_way}
 use Rattle.record_store.specs.Putting.{chains_for}
-use Rattle.record_store.proofs.SearchLemmas.{same_names}
 
 -- ---- a new chain among others
 
 abbrev pub Differ : ZoneChain → ZoneChain → Type 0
 Differ one other = same_zone_chain one other ≡ false
 
-pub not_same : (b : Bool) → (b ≡ true → ⊥) → b ≡ false
-not_same true fails = absurd (fails refl)
-not_same false fails = refl
-
-not_true : (b : Bool) → not b ≡ true → b ≡ false
-not_true true h = absurd (true≢false (sym h))
-not_true false h = refl
-
 not_among : {X : Type 0} (p : X → Bool) (xs : List X) (x : X) → list_any p xs ≡ false → Contains xs x → p x ≡ false
-not_among p xs x none has = not_same (p x) (λ is. true≢false (sym (is_found p xs x has is) ∙ none))
+not_among p xs x none has = false_from_ne_true (p x) (λ is. true≢false (sym (is_found p xs x has is) ∙ none))
 
 third_in : {X : Type 0} (xs : List X) (t : X) → third_of xs ≡ Some t → Contains xs t
-third_in [] t is = absurd (none_some is)
-third_in (a ∷ []) t is = absurd (none_some is)
-third_in (a ∷ b ∷ []) t is = absurd (none_some is)
-third_in (a ∷ b ∷ c ∷ rest) t is = subst (Contains (a ∷ b ∷ c ∷ rest)) (some_same is) (there a (b ∷ c ∷ rest) c (there b (c ∷ rest) c (here c rest)))
+third_in [] t is = absurd (none-some _ is)
+third_in (a ∷ []) t is = absurd (none-some _ is)
+third_in (a ∷ b ∷ []) t is = absurd (none-some _ is)
+third_in (a ∷ b ∷ c ∷ rest) t is = subst (Contains (a ∷ b ∷ c ∷ rest)) (same_Some _ _ is) (there a (b ∷ c ∷ rest) c (there b (c ∷ rest) c (here c rest)))
 
 pub third_behind : {X : Type 0} (x : X) (xs : List X) (t : X) → third_of (x ∷ xs) ≡ Some t → Contains xs t
-third_behind x [] t is = absurd (none_some is)
-third_behind x (a ∷ []) t is = absurd (none_some is)
-third_behind x (a ∷ b ∷ rest) t is = subst (Contains (a ∷ b ∷ rest)) (some_same is) (there a (b ∷ rest) b (here b rest))
+third_behind x [] t is = absurd (none-some _ is)
+third_behind x (a ∷ []) t is = absurd (none-some _ is)
+third_behind x (a ∷ b ∷ rest) t is = subst (Contains (a ∷ b ∷ rest)) (same_Some _ _ is) (there a (b ∷ rest) b (here b rest))
 
 keeps_two : {X : Type 0} (p : X → Bool) (a b c : X) → p a ≡ true → p b ≡ true → p c ≡ false → filter p (a ∷ b ∷ c ∷ []) ≡ a ∷ b ∷ []
 keeps_two p a b c is is' is'' = rw (is, is', is'') refl
@@ -69,7 +62,7 @@ module _ (held : Held) (c : ZoneChain) (apex : List Label) (its : c.zone ≡ ape
       by : (b : Bool) → in_zone apex x ≡ b → list_any (same_zone_chain c) (filter (in_zone apex) xs) ≡ list_any (same_zone_chain c) xs → list_any (same_zone_chain c) (cond b (x ∷ filter (in_zone apex) xs) (filter (in_zone apex) xs)) ≡ list_any (same_zone_chain c) (x ∷ xs)
       by true is rest = ap (λ b. same_zone_chain c x || b) rest
       by false is rest =
-          let other : same_zone_chain c x ≡ false = not_same (same_zone_chain c x) (λ same. true≢false (sym (same_names x.zone apex (sym (ap (λ (z : ZoneChain). z.zone) (equal c x same)) ∙ its)) ∙ is)) in
+          let other : same_zone_chain c x ≡ false = false_from_ne_true (same_zone_chain c x) (λ same. true≢false (sym (same_names x.zone apex (sym (ap (λ (z : ZoneChain). z.zone) (equal c x same)) ∙ its)) ∙ is)) in
           rest ∙ ap (λ b. b || list_any (same_zone_chain c) xs) (sym other)
 
   first_of_zone : filter (in_zone apex) (c ∷ held.chains) ≡ c ∷ Its
@@ -83,7 +76,7 @@ module _ (held : Held) (c : ZoneChain) (apex : List Label) (its : c.zone ≡ ape
   third_goes [] is two once none = first_of_zone ∙ ap (λ l. c ∷ l) is
   third_goes (a ∷ []) is two once none = first_of_zone ∙ ap (λ l. c ∷ l) is
   third_goes (a ∷ b ∷ []) is two once none =
-      filter_twice (in_zone apex) (λ x. not (same_zone_chain b x)) (c ∷ held.chains)
+      filters_commute (in_zone apex) (λ x. not (same_zone_chain b x)) (c ∷ held.chains)
       ∙ ap (filter (λ x. not (same_zone_chain b x))) (first_of_zone ∙ ap (λ l. c ∷ l) is)
       ∙ keeps_two (λ x. not (same_zone_chain b x)) c a b
       (ap not (other_way b c ∙ not_among (same_zone_chain c) (a ∷ b ∷ []) b none (there a (b ∷ []) b (here b []))))
@@ -106,15 +99,15 @@ module _ (held : Held) (c : ZoneChain) (apex : List Label) (its : c.zone ≡ ape
   chains_elsewhere name differ = by (list_any (same_zone_chain c) held.chains)
     where
       passed : filter (in_zone name) (c ∷ held.chains) ≡ filter (in_zone name) held.chains
-      passed = ap (λ b. cond b (c ∷ filter (in_zone name) held.chains) (filter (in_zone name) held.chains)) (not_same (same_name c.zone name) (λ same. differ (sym its ∙ name_equal c.zone name same)))
+      passed = ap (λ b. cond b (c ∷ filter (in_zone name) held.chains) (filter (in_zone name) held.chains)) (false_from_ne_true (same_name c.zone name) (λ same. differ (sym its ∙ name_equal c.zone name same)))
 
       third : (o : Option ZoneChain) → ((t : ZoneChain) → o ≡ Some t → t.zone ≡ apex) → filter (in_zone name) (without_third o With).chains ≡ filter (in_zone name) held.chains
       third None its_third = passed
       third (Some t) its_third =
-          filter_twice (in_zone name) (λ x. not (same_zone_chain t x)) (c ∷ held.chains)
+          filters_commute (in_zone name) (λ x. not (same_zone_chain t x)) (c ∷ held.chains)
           ∙ filter_all (λ x. not (same_zone_chain t x)) (filter (in_zone name) (c ∷ held.chains))
           (All-weaker (λ x. in_zone name x ≡ true) (λ x. not (same_zone_chain t x) ≡ true)
-          (λ x is. ap not (not_same (same_zone_chain t x) (λ same. differ (sym (its_third t refl) ∙ (ap (λ (z : ZoneChain). z.zone) (equal t x same) ∙ name_equal x.zone name is)))))
+          (λ x is. ap not (false_from_ne_true (same_zone_chain t x) (λ same. differ (sym (its_third t refl) ∙ (ap (λ (z : ZoneChain). z.zone) (equal t x same) ∙ name_equal x.zone name is)))))
           (filter (in_zone name) (c ∷ held.chains)) (all_pass (in_zone name) (c ∷ held.chains)))
           ∙ passed
 
@@ -129,7 +122,7 @@ module _ (held : Held) (c : ZoneChain) (apex : List Label) (its : c.zone ≡ ape
   third_has : (new : Record) (records : List Record) → chain_of new ≡ Some c → Has new records None held.records → (o : Option ZoneChain) → ((t : ZoneChain) → o ≡ Some t → same_zone_chain c t ≡ false) → Has new records o (without_third o With).records
   third_has new records of has None other = has
   third_has new records of has (Some t) other = λ item. (
-    λ h. (let was = was_kept stays held.records item h in ⊎_elim inl (λ old. inr (old.0, old.1, not_true _ was.1)) ((has item).0 was.0)),
+    λ h. (let was = was_kept stays held.records item h in ⊎_elim inl (λ old. inr (old.0, old.1, not-true _ was.1)) ((has item).0 was.0)),
     λ h. ⊎_elim (λ same. kept stays held.records item ((has item).1 (inl same)) (ap not (ap (is_of_chain t) same ∙ new_stays)))
         (λ old. kept stays held.records item ((has item).1 (inr (old.0, old.1, refl))) (ap not old.2)) h,
   )
@@ -154,9 +147,9 @@ module _ (held : Held) (c : ZoneChain) (apex : List Label) (its : c.zone ≡ ape
 -- ---- the state with the record
 
 pub chain_zone : (item : Record) (chain : ZoneChain) → chain_of item ≡ Some chain → chain.zone ≡ zone_of item
-chain_zone (Set set) chain is = absurd (none_some is)
-chain_zone (Nsec nsec) chain is = ap (λ (c : ZoneChain). c.zone) (sym (some_same is))
-chain_zone (Nsec3 nsec3) chain is = ap (λ (c : ZoneChain). c.zone) (sym (some_same is))
+chain_zone (Set set) chain is = absurd (none-some _ is)
+chain_zone (Nsec nsec) chain is = ap (λ (c : ZoneChain). c.zone) (sym (same_Some _ _ is))
+chain_zone (Nsec3 nsec3) chain is = ap (λ (c : ZoneChain). c.zone) (sym (same_Some _ _ is))
 
 module _ (held : Held) (new : Record) where
   abbrev Placed : Held
@@ -164,7 +157,7 @@ module _ (held : Held) (new : Record) where
 
   placed_has : Has new held.records None Placed.records
   placed_has item = (
-    λ h. ⊎_elim (λ old. (let was = was_kept stays held.records item old in inr (was.0, not_true _ was.1, refl))) (λ same. inl (sym same)) (Contains-push_cases (filter stays held.records) new item h),
+    λ h. ⊎_elim (λ old. (let was = was_kept stays held.records item old in inr (was.0, not-true _ was.1, refl))) (λ same. inl (sym same)) (Contains-push_cases (filter stays held.records) new item h),
     λ h. ⊎_elim (λ same. subst (Contains Placed.records) (sym same) (Contains-push (filter stays held.records) new))
         (λ old. Contains-append_left (filter stays held.records) (new ∷ []) item (kept stays held.records item old.0 (ap not old.1))) h,
   )
@@ -198,11 +191,11 @@ module _ (held : Held) (new : Record) where
   third_zone t = by (chain_of new)
     where
       of_third : (c : ZoneChain) (b : Bool) → cond b None (third_of (c ∷ chains_for held new)) ≡ Some t → t.zone ≡ zone_of new
-      of_third c true is = absurd (none_some is)
+      of_third c true is = absurd (none-some _ is)
       of_third c false is = name_equal t.zone (zone_of new) (was_kept (in_zone (zone_of new)) held.chains t (third_behind c (chains_for held new) t is)).1
 
       by : (o : Option ZoneChain) → third_for (chains_for held new) o ≡ Some t → t.zone ≡ zone_of new
-      by None is = absurd (none_some is)
+      by None is = absurd (none-some _ is)
       by (Some c) is = of_third c (list_any (same_zone_chain c) (chains_for held new)) is
 
   -- a set that is held as it is changes nothing

@@ -1,6 +1,6 @@
 -- What is left where the first records go, and their chains.
 use Rattle.std.proofs.Common.{◌≡◌, ℕ, ◌+◌, ◌<◌, ◌≤◌, zero, suc, Bool, true, false, not, nat_lt, List, [], ◌∷◌, ◌++◌, cond, length, get_or, take, drop, filter, count_by, All, Contains, refl, sym, ◌∙◌, ap, subst, arith}
-use Rattle.std.specs.List.{list_any}
+use Rattle.std.specs.List.{AllPairs, list_any}
 use Rattle.std.specs.Cmp.{IsTotalOrder}
 use Rattle.std.specs.Ordering.{is_lt, ordering_reverse}
 use Rattle.std.specs.declared.cmp.Ordering.{Ordering}
@@ -9,25 +9,22 @@ use Rattle.std.proofs.lemmas.Cmp.{tied_itself}
 use Rattle.std.proofs.lemmas.List.{drop-drop, get_or-drop, get_or-take, length-drop, length-take, take-append-drop}
 use Rattle.std.proofs.lemmas.List.Elements.{Contains-get_or, filter-append}
 use Rattle.std.proofs.lemmas.List.Sums.{length-filter}
+use Rattle.facts.proofs.Filters.{filter_all, filter_none}
+use Rattle.facts.proofs.Lists.{there}
+use Rattle.facts.proofs.Pairs.{pairs_tail}
 use Rattle.denial_records.specs.declared.record.Record.{Record}
 use Rattle.cache_meaning.specs.Held.{Held, ZoneChain, is_of_chain, chains_held, held_where}
-use Rattle.held_laws.specs.HeldLaws.{EachChainHasARecord, IsReordered}
+use Rattle.held_laws.specs.HeldLaws.{IsApart, NoneDisplaces, EachChainHasARecord, IsReordered}
 use Rattle.held_laws.proofs.KeyOrderLemmas.{in_zone}
-use Rattle.held_laws.proofs.ListLemmas.{there, found, is_found}
-use Rattle.held_laws.proofs.ListedLemmas.{is_of}
+use Rattle.held_laws.proofs.ListLemmas.{found, is_found}
+use Rattle.cache_meaning.proofs.ChainLemmas.{is_of_it as is_of}
+use Rattle.held_laws.proofs.OrderedLemmas.{through}
 use Rattle.held_laws.proofs.ReorderLemmas.{alike_filtered, list_alike, reordered}
 use Rattle.ordered_list.specs.Order.{IsInOrder}
-use Rattle.ordered_list.proofs.FilterLemmas.{filter_all, filter_none}
 use Rattle.ordered_list.proofs.OrderLemmas.{below_rest, rest_in_order}
 use Rattle.record_store.specs.Holding.{held_rest, rest_of}
 
 -- ---- two states that hold the same
-
-pub through : (held other third : Held) → IsReordered held other → IsReordered other third → IsReordered held third
-through held other third order order' = record {
-  records = λ item. (λ has. (order'.records item).0 ((order.records item).0 has), λ has. (order.records item).1 ((order'.records item).1 has));
-  chains = λ zone. order.chains zone ∙ order'.chains zone;
-}
 
 pub back : (held other : Held) → IsReordered held other → IsReordered other held
 back held other order = record { records = λ item. ((order.records item).1, (order.records item).0); chains = λ zone. sym (order.chains zone) }
@@ -60,6 +57,11 @@ dropped_was : {X : Type 0} (n : ℕ) (xs : List X) (x : X) → Contains (drop n 
 dropped_was zero xs x has = has
 dropped_was (suc n) [] x has = has
 dropped_was (suc n) (y ∷ ys) x has = there y ys x (dropped_was n ys x has)
+
+pub pairs_dropped : {X : Type 0} (R : X → X → Type 0) (n : ℕ) (xs : List X) → AllPairs R xs → AllPairs R (drop n xs)
+pairs_dropped R zero xs all = all
+pairs_dropped R (suc n) [] all = all
+pairs_dropped R (suc n) (x ∷ xs) all = pairs_dropped R n xs (pairs_tail R x xs all)
 
 -- ---- the first so many records are out
 
@@ -98,6 +100,9 @@ rest_goes_on held n rest made is records order = record {
     step =
         subst (λ h. IsReordered h (rest_of 1 rest)) (rest_rest (drop 1 rest.records) (drop n held.records) held part ∙ ap (λ l. held_rest l held) fewer)
         (rest_alike (drop 1 rest.records) (rest_of n held) rest is.order)
+
+pub rest_apart : (held : Held) (n : ℕ) (rest : Held) → IsRest held n rest → NoneDisplaces held.records → NoneDisplaces rest.records
+rest_apart held n rest is apart = subst NoneDisplaces (sym is.records) (pairs_dropped IsApart n held.records apart)
 
 -- what a test keeps, where it is all but the first
 pub where_is_rest : (test : Record → Bool) (held : Held) (n : ℕ) (rest : Held) → filter test held.records ≡ drop n held.records → IsReordered (rest_of n held) rest → IsReordered (held_where test held) rest

@@ -13,15 +13,12 @@ use Rattle.std.proofs.lemmas.List.Sums.{prefix_len_passes, prefix_len_stops}
 use Rattle.dname.specs.Name.{Label, canonical_cmp}
 use Rattle.dname.specs.Tests.{same_name}
 use Rattle.dname.specs.Order.{canonical_total, canonical_equal, canonical_same}
-use Rattle.held_laws.proofs.ListedLemmas.{name_itself}
+use Rattle.dname.proofs.SameLemmas.{name_itself, same_names}
 use Rattle.ordered_list.specs.Order.{IsInOrder}
 use Rattle.zone_chains.specs.Zone.{OneZone}
 use Rattle.record_store.specs.Ranks.{apex_cmp}
 
 -- the test of names
-pub same_names : (x y : List Label) → x ≡ y → same_name x y ≡ true
-same_names x y same = subst (λ z. same_name x z ≡ true) same (name_itself x)
-
 pub names_differ : (x y : List Label) → false ≡ same_name x y → x ≡ y → ⊥
 names_differ x y test same = true≢false (sym (same_names x y same) ∙ sym test)
 

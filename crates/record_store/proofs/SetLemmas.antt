@@ -7,6 +7,8 @@ use Rattle.std.specs.declared.cmp.Ordering.TheVariants.{Equal}
 use Rattle.std.proofs.lemmas.Bool.Decides.{Decides-eqb}
 use Rattle.std.proofs.lemmas.Cmp.{nat_cmp_total, tied_itself}
 use Rattle.std.proofs.lemmas.Grind.{common_steps}
+use Rattle.std.proofs.lemmas.Bool.{and_parts, false_from_ne_true}
+use Rattle.std.proofs.lemmas.Option.{none-some}
 use Rattle.dname.specs.Name.{Label}
 use Rattle.dname.specs.Order.{canonical_same}
 use Rattle.denial_records.specs.declared.record.Record.{Record}
@@ -15,7 +17,7 @@ use Rattle.cache_meaning.specs.Held.{Held, chain_of, zone_of, displaces, key_cmp
 use Rattle.held_laws.specs.HeldLaws.{NoneDisplaces, IsReordered}
 use Rattle.held_laws.proofs.ApartLemmas.{displaces_either_way}
 use Rattle.held_laws.proofs.KeyOrderLemmas.{one_key_displaces, one_has_the_key}
-use Rattle.held_laws.proofs.ListedLemmas.{both, name_equal, none_some}
+use Rattle.dname.proofs.SameLemmas.{name_equal}
 use Rattle.ordered_list.specs.Order.{IsInOrder, entry_at, with_entry}
 use Rattle.ordered_list.proofs.ChangeLemmas.{with_members, entry_some, entry_none}
 use Rattle.zone_chains.specs.Zone.{OneZone, third_for, is_of, chains_with, IsDenialOf}
@@ -24,28 +26,28 @@ use Rattle.record_store.specs.Holding.{held_in, IsTied, AreBut, AreCleared, AreW
 use Rattle.record_store.specs.Putting.{chains_for, IsZoneFor}
 use Rattle.record_store.specs.Ranks.{apex_cmp, set_cmp, keys_total}
 use Rattle.record_store.proofs.MarkLemmas.{set_tied, key_tied}
-use Rattle.record_store.proofs.PutLemmas.{not_same, already_there}
+use Rattle.record_store.proofs.PutLemmas.{already_there}
 use Rattle.record_store.proofs.TiedLemmas.{IsPut, put_tied, put_reordered}
 use Rattle.record_store.proofs.ZoneForLemmas.{found_for, none_for, two_for, once_for}
 
 -- what a set displaces is the set of its key
 set_tie : (new item : Record) → chain_of new ≡ None → displaces new item ≡ true → (chain_of item ≡ None) × (key_cmp item new ≡ Equal)
 set_tie (Set new) (Set old) none is =
-    let parts = both _ _ is in
-    let others = both _ _ parts.1 in
+    let parts = and_parts _ _ is in
+    let others = and_parts _ _ parts.1 in
     let zones = canonical_same old.zone new.zone (sym (name_equal new.zone old.zone parts.0)) in
     let owners = canonical_same old.owner new.owner (sym (name_equal new.owner old.owner others.0)) in
     let types = subst (λ n. nat_cmp old.rtype n ≡ Equal) (sym ((Decides-eqb new.rtype old.rtype).0 others.1)) (tied_itself nat_cmp_total old.rtype) in
     (refl, λ i. ordering_then (zones i) (ordering_then (owners i) (types i)))
 set_tie (Set new) (Nsec old) none is = absurd (true≢false (sym is))
 set_tie (Set new) (Nsec3 old) none is = absurd (true≢false (sym is))
-set_tie (Nsec new) item none is = absurd (none_some (sym none))
-set_tie (Nsec3 new) item none is = absurd (none_some (sym none))
+set_tie (Nsec new) item none is = absurd (none-some _ (sym none))
+set_tie (Nsec3 new) item none is = absurd (none-some _ (sym none))
 
 set_is_no_denial : (apex : List Label) (new : Record) → chain_of new ≡ None → IsDenialOf apex new → ⊥
 set_is_no_denial apex (Set new) none denial = denial
-set_is_no_denial apex (Nsec new) none denial = none_some (sym none)
-set_is_no_denial apex (Nsec3 new) none denial = none_some (sym none)
+set_is_no_denial apex (Nsec new) none denial = none-some _ (sym none)
+set_is_no_denial apex (Nsec3 new) none denial = none-some _ (sym none)
 
 tie_turned : {X : Type 0} (cmp : X → X → Ordering) → IsTotalOrder cmp → (x y z : X) → cmp x z ≡ Equal → cmp y z ≡ Equal → cmp x y ≡ Equal
 tie_turned cmp total x y z tie tie' = grind (arith, common_steps, total)
@@ -53,7 +55,7 @@ tie_turned cmp total x y z tie tie' = grind (arith, common_steps, total)
 module _ (goings sets : List Record) (apart : NoneDisplaces goings) (sets_are : AreSets goings sets) (new : Record) (none : chain_of new ≡ None) where
   pub cleared_none : entry_at set_cmp new sets ≡ None → (cleared : List Record) → cleared ≡ goings → AreCleared new goings cleared
   cleared_none missed cleared same item = (
-    λ h. (let old = subst (λ l. Contains l item) same h in (old, not_same (displaces new item) (λ is. (let tie = set_tie new item none is in entry_none set_cmp new sets missed item ((sets_are item).1 (old, tie.0)) (set_tied item new tie.1))))),
+    λ h. (let old = subst (λ l. Contains l item) same h in (old, false_from_ne_true (displaces new item) (λ is. (let tie = set_tie new item none is in entry_none set_cmp new sets missed item ((sets_are item).1 (old, tie.0)) (set_tied item new tie.1))))),
     λ h. subst (λ l. Contains l item) (sym same) h.0,
   )
 
@@ -61,7 +63,7 @@ module _ (goings sets : List Record) (apart : NoneDisplaces goings) (sets_are : 
   cleared_some old is cleared but item =
       let found = entry_some set_cmp new sets old is in
       let there = ((sets_are old).0 found.0).0 in (
-        λ h. (let two = (but item).0 h in (two.0, not_same (displaces new item) (λ is'. two.1 (one_has_the_key goings apart item old two.0 there (tie_turned key_cmp keys_total item old new (set_tie new item none is').1 (key_tied old new found.1)))))),
+        λ h. (let two = (but item).0 h in (two.0, false_from_ne_true (displaces new item) (λ is'. two.1 (one_has_the_key goings apart item old two.0 there (tie_turned key_cmp keys_total item old new (set_tie new item none is').1 (key_tied old new found.1)))))),
         λ h. (but item).1 (h.0, λ same. true≢false (sym (displaces_either_way new old ∙ one_key_displaces old new (key_tied old new found.1)) ∙ (ap (displaces new) (sym same) ∙ h.1))),
       )
 
@@ -79,13 +81,13 @@ module _ (goings sets : List Record) (zones : List OneZone) (tied : IsTied going
       λ h. (with item).1 (⊎_elim inl (λ old. inr ((are item).1 (old.0, old.1))) h),
     );
     sets_are = λ item. (
-      λ h. ⊎_elim (λ same. (there item (inl same), ap chain_of same ∙ none)) (λ old. (let was = (tied.sets_are item).0 old.0 in (there item (inr ((are item).1 (was.0, not_same (displaces new item) (λ is'. old.1 (set_tied item new (set_tie new item none is').1))))), was.1))) ((with_members set_cmp new sets item).0 (subst (λ l. Contains l item) made_sets h)),
+      λ h. ⊎_elim (λ same. (there item (inl same), ap chain_of same ∙ none)) (λ old. (let was = (tied.sets_are item).0 old.0 in (there item (inr ((are item).1 (was.0, false_from_ne_true (displaces new item) (λ is'. old.1 (set_tied item new (set_tie new item none is').1))))), was.1))) ((with_members set_cmp new sets item).0 (subst (λ l. Contains l item) made_sets h)),
       λ h. subst (λ l. Contains l item) (sym made_sets) ((with_members set_cmp new sets item).1 (⊎_elim inl (λ old. (let two = (are item).0 old in inr ((tied.sets_are item).1 (two.0, h.1), λ tie. true≢false (sym (displaces_either_way new item ∙ one_key_displaces item new (key_tied item new tie)) ∙ two.1)))) ((with item).0 h.0))),
     );
     apex = is.apex;
     whole = is.whole;
     its = λ item. (
-      λ h. (let two = (is.its item).0 h in (there item (inr ((are item).1 (two.0, not_same (displaces new item) (λ is'. set_is_no_denial zone.apex item (set_tie new item none is').0 two.1)))), two.1)),
+      λ h. (let two = (is.its item).0 h in (there item (inr ((are item).1 (two.0, false_from_ne_true (displaces new item) (λ is'. set_is_no_denial zone.apex item (set_tie new item none is').0 two.1)))), two.1)),
       λ h. ⊎_elim (λ same. absurd (set_is_no_denial zone.apex item (ap chain_of same ∙ none) h.1)) (λ old. (is.its item).1 (((are item).0 old).0, h.1)) ((with item).0 h.0),
     );
     used = is.used;

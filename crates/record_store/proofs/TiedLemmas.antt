@@ -1,6 +1,7 @@
 -- A record comes: the parts belong together, and are the held state with it.
 use Rattle.std.proofs.Common.{◌≡◌, ◌⊎◌, ◌↔◌, inl, inr, ⊎_elim, ◌<◌, ◌≤◌, Bool, true, false, true≢false, List, length, filter, Contains, All, Option, Some, None, refl, sym, ◌∙◌, ap, subst}
 use Rattle.std.specs.List.{AllPairs, list_any}
+use Rattle.std.proofs.lemmas.Bool.{and_parts, false_from_ne_true}
 use Rattle.dname.specs.Name.{Label}
 use Rattle.dname.specs.Tests.{same_name}
 use Rattle.denial_records.specs.declared.record.Record.{Record}
@@ -9,28 +10,29 @@ use Rattle.cache_meaning.specs.Held.{Held, ZoneChain, chain_of, zone_of, is_of_c
 use Rattle.held_laws.specs.HeldLaws.{NoneDisplaces, IsReordered}
 use Rattle.held_laws.proofs.KeyOrderLemmas.{in_zone}
 use Rattle.held_laws.proofs.ListLemmas.{found, is_found}
-use Rattle.held_laws.proofs.ListedLemmas.{both, name_equal, name_itself, of_chain}
+use Rattle.dname.proofs.SameLemmas.{name_equal, name_itself}
+use Rattle.cache_meaning.proofs.ChainLemmas.{of_chain}
 use Rattle.held_laws.proofs.ReorderLemmas.{reordered}
 use Rattle.ordered_list.specs.Order.{IsInOrder}
 use Rattle.zone_chains.specs.Zone.{OneChain, OneZone, chains_in, IsOneZone, IsDenialOf, chains_with, third_for, is_of}
 use Rattle.record_store.specs.Holding.{chains_of_zones, held_in, IsZoneOf, IsTied}
 use Rattle.record_store.specs.Putting.{chains_for}
 use Rattle.record_store.specs.Ranks.{apex_cmp}
-use Rattle.record_store.proofs.PutLemmas.{Has, Differ, not_same, chain_zone, held_has, held_chains_here, held_chains_elsewhere, third_zone}
+use Rattle.record_store.proofs.PutLemmas.{Has, Differ, chain_zone, held_has, held_chains_here, held_chains_elsewhere, third_zone}
 use Rattle.record_store.proofs.ZoneChainLemmas.{none_of_zones, one_of_zones}
 use Rattle.record_store.proofs.ZoneForLemmas.{denial_zone}
 
 -- what a record displaces is of its zone
 displaced_zone : (new old : Record) → displaces new old ≡ true → zone_of new ≡ zone_of old
-displaced_zone (Set new) (Set old) is = name_equal new.zone old.zone (both _ _ is).0
+displaced_zone (Set new) (Set old) is = name_equal new.zone old.zone (and_parts _ _ is).0
 displaced_zone (Set new) (Nsec old) is = absurd (true≢false (sym is))
 displaced_zone (Set new) (Nsec3 old) is = absurd (true≢false (sym is))
 displaced_zone (Nsec new) (Set old) is = absurd (true≢false (sym is))
-displaced_zone (Nsec new) (Nsec old) is = name_equal new.zone old.zone (both _ _ is).0
+displaced_zone (Nsec new) (Nsec old) is = name_equal new.zone old.zone (and_parts _ _ is).0
 displaced_zone (Nsec new) (Nsec3 old) is = absurd (true≢false (sym is))
 displaced_zone (Nsec3 new) (Set old) is = absurd (true≢false (sym is))
 displaced_zone (Nsec3 new) (Nsec old) is = absurd (true≢false (sym is))
-displaced_zone (Nsec3 new) (Nsec3 old) is = name_equal new.zone old.zone (both _ _ is).0
+displaced_zone (Nsec3 new) (Nsec3 old) is = name_equal new.zone old.zone (and_parts _ _ is).0
 
 -- what the parts are with the record
 pub record IsPut (goings : List Record) (zones : List OneZone) (new : Record) (zone : OneZone) (made sets : List Record) (zones' : List OneZone) : Type 0 where
@@ -57,12 +59,12 @@ module _ (goings sets : List Record) (zones : List OneZone) (tied : IsTied going
   -- records of other zones stay
   third_is_not : (item : Record) → (zone_of item ≡ zone_of new → ⊥) → (o : Option ZoneChain) → ((t : ZoneChain) → o ≡ Some t → t.zone ≡ zone_of new) → is_of o item ≡ false
   third_is_not item differ None its_third = refl
-  third_is_not item differ (Some t) its_third = not_same (is_of_chain t item) (λ is. differ (sym (chain_zone item t (of_chain t item is)) ∙ its_third t refl))
+  third_is_not item differ (Some t) its_third = false_from_ne_true (is_of_chain t item) (λ is. differ (sym (chain_zone item t (of_chain t item is)) ∙ its_third t refl))
 
   stays : (item : Record) → Contains goings item → (zone_of item ≡ zone_of new → ⊥) → Contains made item
   stays item has differ = (put.records item).1 (inr (
     has,
-    not_same (displaces new item) (λ is. differ (sym (displaced_zone new item is))),
+    false_from_ne_true (displaces new item) (λ is. differ (sym (displaced_zone new item is))),
     third_is_not item differ Third (third_zone Before new),
   ))
 

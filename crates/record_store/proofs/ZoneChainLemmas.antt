@@ -3,23 +3,25 @@ use Rattle.std.proofs.Common.{◌≡◌, ◌⊎◌, inl, inr, ◌<◌, zero, suc
 use Rattle.std.specs.List.{list_any}
 use Rattle.std.proofs.lemmas.Bool.Decides.{Decides-ltb}
 use Rattle.std.proofs.lemmas.List.{append-nil}
-use Rattle.std.proofs.lemmas.List.Elements.{filter-append, All-contains, Contains-get_or}
+use Rattle.std.proofs.lemmas.List.Elements.{filter-append, All-contains}
 use Rattle.std.proofs.lemmas.List.Concat.{flat_map-cons}
 use Rattle.dname.specs.Name.{Label}
 use Rattle.dname.specs.Order.{canonical_same}
 use Rattle.denial_records.specs.declared.record.Record.{Record}
 use Rattle.cache_meaning.specs.Held.{ZoneChain, is_of_chain, chains_held}
 use Rattle.held_laws.proofs.KeyOrderLemmas.{in_zone}
-use Rattle.held_laws.proofs.ListLemmas.{here, there, here_or_there, nothing_in, found, is_found}
-use Rattle.held_laws.proofs.ListedLemmas.{name_equal, of_chain, is_of}
-use Rattle.held_laws.proofs.SortLemmas.{pairs_head, pairs_tail}
+use Rattle.held_laws.proofs.ListLemmas.{found, is_found}
+use Rattle.dname.proofs.SameLemmas.{name_equal, same_names}
+use Rattle.cache_meaning.proofs.ChainLemmas.{of_chain, is_of_it as is_of}
 use Rattle.ordered_list.specs.Order.{IsInOrder}
-use Rattle.ordered_list.proofs.FilterLemmas.{filter_none, filter_all}
 use Rattle.std.specs.declared.cmp.Ordering.TheVariants.{Less}
+use Rattle.std.proofs.lemmas.Bool.{false_from_ne_true}
+use Rattle.facts.proofs.Filters.{filter_none, filter_all}
+use Rattle.facts.proofs.Pairs.{pairs_head, pairs_tail}
+use Rattle.facts.proofs.Lists.{here, there, here_or_there, nothing_in, all_by_member}
 use Rattle.zone_chains.specs.Zone.{OneChain, OneZone, chains_in, IsOneZone, has_records}
 use Rattle.record_store.specs.Holding.{chains_of_zones, IsZoneOf}
 use Rattle.record_store.specs.Ranks.{apex_cmp}
-use Rattle.record_store.proofs.SearchLemmas.{same_names}
 use Rattle.record_store.proofs.ZoneLemmas.{chain_there, chain_its, chain_all}
 
 abbrev pub AreWhole : List OneZone → Type 0
@@ -30,22 +32,15 @@ AreWhole zones = (zone : OneZone) → Contains zones zone → IsOneZone zone
 each_here : (zone : OneZone) → IsOneZone zone → (chain : ZoneChain) → Contains (chains_in zone) chain → chain.zone ≡ zone.apex
 each_here zone is chain has = All-contains (λ (c : ZoneChain). c.zone ≡ zone.apex) (chains_in zone) chain is.here has
 
-all_of : {X : Type 0} (P : X → Type 0) (xs : List X) → ((x : X) → Contains xs x → P x) → All P xs
-all_of P xs each i d within = each _ (Contains-get_or xs i d within)
-
 pub zone_here : (zone : OneZone) → IsOneZone zone → filter (in_zone zone.apex) (chains_in zone) ≡ chains_in zone
 zone_here zone is =
     filter_all (in_zone zone.apex) (chains_in zone)
-    (all_of (λ c. in_zone zone.apex c ≡ true) (chains_in zone) (λ chain has. same_names chain.zone zone.apex (each_here zone is chain has)))
-
-not_same : (b : Bool) → (b ≡ true → ⊥) → b ≡ false
-not_same true fails = absurd (fails refl)
-not_same false fails = refl
+    (all_by_member (λ c. in_zone zone.apex c ≡ true) (chains_in zone) (λ chain has. same_names chain.zone zone.apex (each_here zone is chain has)))
 
 pub zone_elsewhere : (zone : OneZone) → IsOneZone zone → (apex : List Label) → (zone.apex ≡ apex → ⊥) → filter (in_zone apex) (chains_in zone) ≡ []
 zone_elsewhere zone is apex differ =
     filter_none (in_zone apex) (chains_in zone)
-    (all_of (λ c. in_zone apex c ≡ false) (chains_in zone) (λ chain has. not_same (in_zone apex chain) (λ same. differ (sym (each_here zone is chain has) ∙ name_equal chain.zone apex same))))
+    (all_by_member (λ c. in_zone apex c ≡ false) (chains_in zone) (λ chain has. false_from_ne_true (in_zone apex chain) (λ same. differ (sym (each_here zone is chain has) ∙ name_equal chain.zone apex same))))
 
 -- ---- of all
 

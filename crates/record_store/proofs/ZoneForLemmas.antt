@@ -2,12 +2,12 @@
 use Rattle.std.proofs.Common.{◌≡◌, ◌≤◌, List, [], length, filter, Contains, sym, ◌∙◌, ap, subst, arith}
 use Rattle.std.specs.List.{AllPairs}
 use Rattle.std.proofs.lemmas.List.{length-map}
+use Rattle.facts.proofs.Lists.{nothing_in}
 use Rattle.dname.specs.Name.{Label}
 use Rattle.denial_records.specs.declared.record.Record.{Record}
 use Rattle.denial_records.specs.declared.record.Record.TheVariants.{Set, Nsec, Nsec3}
 use Rattle.cache_meaning.specs.Held.{Held, zone_of}
 use Rattle.held_laws.proofs.KeyOrderLemmas.{in_zone}
-use Rattle.held_laws.proofs.ListLemmas.{nothing_in}
 use Rattle.ordered_list.specs.Order.{IsInOrder}
 use Rattle.zone_chains.specs.Zone.{OneChain, OneZone, IsDenialOf}
 use Rattle.record_store.specs.Holding.{chains_of_zones, held_in, IsTied}

@@ -8,13 +8,16 @@ use Rattle.dname.specs.Tests.{same_name}
 use Rattle.denial_records.specs.declared.record.Record.{Record}
 use Rattle.denial_records.specs.declared.record.Record.TheVariants.{Set, Nsec, Nsec3}
 use Rattle.cache_meaning.specs.Held.{ZoneChain, same_zone_chain, chain_of, displaces}
-use Rattle.held_laws.proofs.ListLemmas.{here, there, here_or_there, nothing_in}
-use Rattle.held_laws.proofs.ListedLemmas.{itself, name_equal, name_itself, none_some, some_same}
-use Rattle.held_laws.proofs.SortLemmas.{pairs_head, pairs_tail}
+use Rattle.cache_meaning.proofs.ChainLemmas.{zone_chain_itself as itself}
+use Rattle.dname.proofs.SameLemmas.{name_equal, name_itself}
 use Rattle.record_store.specs.Holding.{IsZoneOf}
 use Rattle.dname.specs.Order.{canonical_equal, canonical_same}
 use Rattle.ordered_list.specs.Order.{IsInOrder, with_entry, without_entry}
 use Rattle.std.specs.Ordering.{is_eq}
+use Rattle.std.proofs.lemmas.Option.{none-some, same_Some}
+use Rattle.facts.proofs.Maps.{into_map}
+use Rattle.facts.proofs.Pairs.{pairs_head, pairs_tail}
+use Rattle.facts.proofs.Lists.{here, there, here_or_there, nothing_in}
 use Rattle.ordered_list.proofs.OrderLemmas.{with_in_order, filter_in_order}
 use Rattle.ordered_list.proofs.ChangeLemmas.{with_members, without_members, entry_is}
 use Rattle.zone_chains.specs.Zone.{OneChain, OneZone, chains_in, records_in, IsOfItsChain, IsOneZone, IsDenialOf}
@@ -50,7 +53,7 @@ zones_same zone zones made order has is each = (
     by : Contains zones each → (b : Bool) → same_name each.apex zone.apex ≡ b → (each ≡ zone) ⊎ (Contains zones each × (each.apex ≡ zone.apex → ⊥))
     by old true is' =
         let tie = canonical_same each.apex zone.apex (name_equal each.apex zone.apex is') in
-        inl (some_same (sym (entry_is apex_cmp apexes_total zone zones order each old tie) ∙ entry_is apex_cmp apexes_total zone zones order zone has (canonical_same zone.apex zone.apex refl)))
+        inl (same_Some _ _ (sym (entry_is apex_cmp apexes_total zone zones order each old tie) ∙ entry_is apex_cmp apexes_total zone zones order zone has (canonical_same zone.apex zone.apex refl)))
     by old false is' = inr (old, λ same. true≢false (sym (subst (λ z. same_name each.apex z ≡ true) same (name_itself each.apex)) ∙ is'))
 
 -- ---- the chains of a zone
@@ -85,10 +88,6 @@ module _ {X A : Type 0} (f : X → List A) where
         ⊎_elim (λ same. subst (λ z. AllPairs R (f z)) same (pairs_left (f y) (flat_map f ys) pairs))
         (λ later. pairs_of_flat ys (pairs_right (f y) (flat_map f ys) pairs) x later) (here_or_there y ys x has)
 
-pub in_map : {X Y : Type 0} (f : X → Y) (xs : List X) (x : X) → Contains xs x → Contains (map f xs) (f x)
-in_map f [] x has = absurd (nothing_in x has)
-in_map f (y ∷ ys) x has = ⊎_elim (λ same. subst (λ z. Contains (map f (y ∷ ys)) (f z)) same (here (f y) (map f ys))) (λ later. there (f y) (map f ys) (f x) (in_map f ys x later)) (here_or_there y ys x has)
-
 abbrev kind : OneChain → ZoneChain
 kind each = each.chain
 
@@ -103,7 +102,7 @@ one_chain (c ∷ cs) once one other has has' same = by (here_or_there c cs one h
     behind : (each : OneChain) → Contains cs each → c.chain ≡ each.chain → ⊥
     behind each later equal =
         true≢false (sym (subst (λ z. same_zone_chain c.chain z ≡ true) equal (itself c.chain))
-        ∙ All-contains (Differ c.chain) (map kind cs) each.chain (pairs_head Differ (kind c) (map kind cs) once) (in_map kind cs each later))
+        ∙ All-contains (Differ c.chain) (map kind cs) each.chain (pairs_head Differ (kind c) (map kind cs) once) (into_map kind cs each later))
 
     by : (c ≡ one) ⊎ Contains cs one → (c ≡ other) ⊎ Contains cs other → (Contains cs one → Contains cs other → one.chain ≡ other.chain → one ≡ other) → one ≡ other
     by (inl is) (inl are) rest = sym is ∙ are
@@ -113,16 +112,16 @@ one_chain (c ∷ cs) once one other has has' same = by (here_or_there c cs one h
 
 -- what is of a chain is a denial record of its zone
 pub chain_is_denial : (chain : ZoneChain) (item : Record) → chain_of item ≡ Some chain → IsDenialOf chain.zone item
-chain_is_denial chain (Set set) is = none_some is
-chain_is_denial chain (Nsec nsec) is = ap (λ (c : ZoneChain). c.zone) (some_same is)
-chain_is_denial chain (Nsec3 nsec3) is = ap (λ (c : ZoneChain). c.zone) (some_same is)
+chain_is_denial chain (Set set) is = none-some _ is
+chain_is_denial chain (Nsec nsec) is = ap (λ (c : ZoneChain). c.zone) (same_Some _ _ is)
+chain_is_denial chain (Nsec3 nsec3) is = ap (λ (c : ZoneChain). c.zone) (same_Some _ _ is)
 
 -- the zone's records of a chain are the chain's
 pub of_its_chain : (zone : OneZone) → IsOneZone zone → (each : OneChain) → Contains zone.chains each → (item : Record) → Contains (records_in zone) item → chain_of item ≡ Some each.chain → Contains each.records item
 of_its_chain zone is each listed item has of =
     let some = some_of_flat (λ (c : OneChain). c.records) zone.chains item has in
     let its_chain = All-contains (λ r. chain_of r ≡ Some some.0.chain) some.0.records item (All-contains IsOfItsChain zone.chains some.0 is.of_chain some.1) some.2 in
-    let one = one_chain zone.chains is.once some.0 each some.1 listed (some_same (sym its_chain ∙ of)) in
+    let one = one_chain zone.chains is.once some.0 each some.1 listed (same_Some _ _ (sym its_chain ∙ of)) in
     subst (λ (c : OneChain). Contains c.records item) one some.2
 
 module _ (goings : List Record) (zone : OneZone) (is : IsOneZone zone) (its : IsZoneOf goings zone) (each : OneChain) (listed : Contains zone.chains each) where
@@ -137,5 +136,5 @@ module _ (goings : List Record) (zone : OneZone) (is : IsOneZone zone) (its : Is
 
   pub chain_all : (item : Record) → Contains goings item → chain_of item ≡ Some each.chain → Contains each.records item
   chain_all item has of =
-      let here = All-contains (λ (chain : ZoneChain). chain.zone ≡ zone.apex) (chains_in zone) each.chain is.here (in_map kind zone.chains each listed) in
+      let here = All-contains (λ (chain : ZoneChain). chain.zone ≡ zone.apex) (chains_in zone) each.chain is.here (into_map kind zone.chains each listed) in
       of_its_chain zone is each listed item ((its item).1 (has, subst (λ a. IsDenialOf a item) here (chain_is_denial each.chain item of))) of

@@ -10,8 +10,9 @@ use Rattle.dname.specs.Order.{canonical_total}
 use Rattle.dname.specs.Tests.{same_name}
 use Rattle.denial_records.specs.declared.record.Record.{Record}
 use Rattle.cache_meaning.specs.Held.{zone_of}
-use Rattle.ordered_list.specs.Order.{entry_at}
+use Rattle.ordered_list.specs.Order.{IsInOrder, entry_at}
 use Rattle.ordered_list.proofs.RiseLemmas.{none_rises}
+use Rattle.record_store.specs.Ranks.{set_cmp}
 use Rattle.record_store.specs.declared.counts.SetCount.{SetCount}
 
 -- how many of the sets are of the zone
@@ -37,8 +38,9 @@ count_in (Some each) = each.count
 abbrev pub count_at : List Label → List SetCount → ℕ
 count_at apex counts = count_in (entry_at count_cmp (record { apex = apex; count = 0 }) counts)
 
--- each zone is listed with the number of its sets, and no zone that has none
+-- the sets are in order, each zone is listed with the number of its sets, and no zone that has none
 pub record AreCounted (sets : List Record) (counts : List SetCount) : Type 0 where
+  pub in_order : IsInOrder set_cmp sets
   pub exact : (apex : List Label) → count_at apex counts ≡ count_of apex sets
   pub some : (each : SetCount) → Contains counts each → 0 < each.count
 

@@ -4,8 +4,10 @@ use Rattle.std.specs.List.{All, Contains, flat_map}
 use Rattle.dname.specs.Name.{Label}
 use Rattle.denial_records.specs.declared.record.Record.{Record}
 use Rattle.cache_meaning.specs.Held.{Held, ZoneChain, chain_of, zone_of, displaces, chains_held}
-use Rattle.held_laws.specs.HeldLaws.{NoneDisplaces}
+use Rattle.held_laws.specs.HeldLaws.{NoneDisplaces, IsReordered}
+use Rattle.ordered_list.specs.Order.{IsInOrder}
 use Rattle.zone_chains.specs.Zone.{OneZone, chains_in, records_in, IsDenialOf, IsOneZone, is_of}
+use Rattle.record_store.specs.Ranks.{going_cmp}
 
 -- the chains of all zones
 abbrev pub chains_of_zones : List OneZone → List ZoneChain
@@ -14,6 +16,11 @@ chains_of_zones zones = flat_map chains_in zones
 -- the records in the order in which they go, and the chains of all zones
 abbrev pub held_in : List Record → List OneZone → Held
 held_in goings zones = record { records = goings; chains = chains_of_zones zones }
+
+-- the records are in the order in which they go, and none displaces another
+pub record AreGoings (goings : List Record) : Type 0 where
+  pub in_order : IsInOrder going_cmp goings
+  pub apart : NoneDisplaces goings
 
 -- the zone has just the denial records of it that are held
 abbrev pub IsZoneOf : List Record → OneZone → Type 0
@@ -34,6 +41,11 @@ pub record IsTied (goings sets : List Record) (zones : List OneZone) : Type 0 wh
       (zone : OneZone) → Contains zones zone
       → (item : Record) × Contains goings item × (zone_of item ≡ zone.apex)
   pub chains_used : (zone : OneZone) → Contains zones zone → All (λ each. 0 < length each.records) zone.chains
+
+-- the other state holds the same, and none of its records displaces another
+pub record IsHeldAs (held made : Held) : Type 0 where
+  pub order : IsReordered held made
+  pub apart : NoneDisplaces made.records
 
 -- the records that are left, and the chains of which one is left
 abbrev pub held_rest : List Record → Held → Held

@@ -8,6 +8,10 @@ use std::alloc::{AllocError, Global};
 use std::cmp::Ordering;
 use std::sync::Arc;
 
+// A walk over the sets of a zone's number would do without counts, but two zones may share these 32 bits, and whoever
+// signs zones finds such a pair among some 100,000 names: then each set that goes would cost a walk over all sets of
+// the other.
+
 /// A zone, and how many sets of it are held.
 #[derive(Drop)]
 pub(crate) struct SetCount {

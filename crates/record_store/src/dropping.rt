@@ -3,7 +3,7 @@ ghost use Rattle.std.specs.Prelude.{◌≡◌, ◌<◌, length, drop, IfOk};
 ghost use Rattle.std.specs.List.{All, Contains};
 ghost use Rattle.std.specs.Arc.{arc_value};
 ghost use Rattle.cache_meaning.specs.Held.{zone_of};
-ghost use Rattle.held_laws.specs.HeldLaws.{NoneDisplaces, IsReordered};
+ghost use Rattle.held_laws.specs.HeldLaws.{IsReordered};
 ghost use Rattle.zone_chains.specs.Zone.{records_in, IsDenialOf, IsOneZone};
 ghost use Rattle.record_store.specs.Holding.{AreBut, IsTied, held_in, rest_of};
 ghost use Rattle.ordered_list.specs.Order.{IsInOrder};
@@ -27,13 +27,11 @@ impl Holding {
         ensures records { IfOk result (λ made. made.records ≡ drop 1 self.records) }
         ensures chains { IfOk result (λ made. IsReordered (rest_of 1 self) made) }
     {
-        let first = Arc::try_clone(self.goings.get(0))?;
-        // That the records are in order is a clause of `len`.
-        let _len = self.goings.len();
+        let first = Arc::try_clone(self.goings.first())?;
         let sets = self.sets_without(alloc, &first)?;
         let zones = self.zones_without(alloc, &sets, &first)?;
         let Holding { goings, .. } = self;
-        let goings = goings.into_without_first(alloc, 1)?;
+        let goings = goings.without_first(alloc)?;
         Ok(Holding {
             goings,
             sets,
@@ -62,7 +60,6 @@ impl Holding {
     ) -> Result<Arc<Zones, Global>, OutOfMemory>
         requires there { Contains self.now.records gone.now }
         requires left { AreBut gone.now self.now.records (drop 1 self.now.records) }
-        requires apart { NoneDisplaces (drop 1 self.now.records) }
         requires sets { AreSets (drop 1 self.now.records) sets.now }
         ensures tied { IfOk result (λ zones.
             IsTied (drop 1 self.now.records) sets.now (arc_value zones)) }
@@ -111,11 +108,7 @@ fn zone_without(
         Record::Set(_) => Arc::try_clone(zone),
         _ => {
             let without = zone.without(alloc, gone)?;
-            let left = without.without_empty()?;
-            // What the chains of a zone have is a clause of `apex`.
-            let _apex = without.apex();
-            let _apex = left.apex();
-            Ok(Arc::new(alloc, left)?)
+            Ok(Arc::new(alloc, without.without_empty()?)?)
         },
     }
 }

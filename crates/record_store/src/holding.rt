@@ -2,21 +2,17 @@
 ghost use Rattle.std.specs.Prelude.{◌≡◌, [], length, IfOk};
 ghost use Rattle.std.specs.Arc.{arc_value};
 ghost use Rattle.cache_meaning.specs.Held.{nothing_held};
-ghost use Rattle.held_laws.specs.HeldLaws.{NoneDisplaces, EachChainHasARecord};
-ghost use Rattle.ordered_list.specs.Order.{IsInOrder};
-ghost use Rattle.record_store.specs.Ranks.{going_cmp};
+ghost use Rattle.held_laws.specs.HeldLaws.{NoneDisplaces};
 
-use crate::ranks::{ByApex, ByGoing};
+use crate::goings::Goings;
+use crate::ranks::ByApex;
 use crate::sets::Sets;
-use denial_records::Record;
 use dname::OutOfMemory;
 use ordered_list::OrderedList;
 use std::alloc::Global;
 use std::marker::Model;
 use std::sync::Arc;
 use zone_chains::ZoneRecords;
-
-pub(crate) type Goings = OrderedList<Record, ByGoing>;
 
 pub(crate) type Zones = OrderedList<ZoneRecords, ByApex>;
 
@@ -52,12 +48,10 @@ impl Holding {
         })
     }
 
-    /// How many records there are. They are in the order in which they go, none displaces another, and each chain has one.
+    /// How many records there are, of which none displaces another.
     pub(crate) fn len(&self) -> usize
         ensures value { result ≡ length self.now.records }
-        ensures in_order { IsInOrder going_cmp self.now.records }
         ensures apart { NoneDisplaces self.now.records }
-        ensures chains { EachChainHasARecord self.now }
     {
         self.goings.len()
     }

@@ -7,6 +7,7 @@
 mod counts;
 mod dropping;
 mod goings;
+mod gone;
 mod holding;
 mod look_up;
 mod marks;
@@ -25,6 +26,3 @@ mod zones;
 pub use cache_meaning::{Chain, Place};
 pub use store::Store;
 pub use zone_ref::ZoneRef;
-
-#[cfg(test)]
-mod tests;

@@ -9,7 +9,8 @@ const FACTOR: u64 = 0x9E37_79B9_7F4A_7C15;
 
 const HALF: u64 = 0x1_0000_0000;
 
-/// The number of a set: 32 bits of its zone, then 32 bits of its owner name and type.
+/// The number of a set: 32 bits of its zone, then 32 bits of its owner name and type. No number of 64 bits that rises
+/// with the key tells names of one zone apart; the zone's half keeps its sets together.
 pub(crate) fn set_number(zone: &Name, owner: &Name, rtype: u16) -> u64
     ensures { result ≡ set_number zone.now owner.now rtype }
 {

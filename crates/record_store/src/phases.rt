@@ -1,45 +1,42 @@
 //! What a batch makes of what is held.
 ghost use Rattle.std.specs.Prelude.{◌≡◌, ◌<◌, IsTrue, true, false, length, take, IfOk, fold};
 ghost use Rattle.std.specs.List.{All};
-ghost use Rattle.cache_meaning.specs.Held.{is_usable, held_where, held_with, within_limit, held_after};
-ghost use Rattle.held_laws.specs.HeldLaws.{NoneDisplaces, IsReordered};
+ghost use Rattle.cache_meaning.specs.Held.{is_usable, held_where, held_with, within_limit};
+ghost use Rattle.held_laws.specs.HeldLaws.{NoneDisplaces};
+ghost use Rattle.held_laws.specs.KeyOrder.{in_key_order, kept_after};
+ghost use Rattle.record_store.specs.Holding.{IsHeldAs};
 
 use crate::holding::Holding;
 use crate::ranks::expiry_of;
+use cache_meaning::MOST_RECORDS;
 use denial_records::{Batch, RecordList};
 use dname::OutOfMemory;
 use std::alloc::Global;
 use std::sync::Arc;
 
-/// The records that a cache holds at most.
-pub const MOST_RECORDS: usize = 131_072;
+// Each step takes what is held by value, so that a batch which lacks memory halfway leaves nothing half done.
 
 impl Holding {
     /// After the batch: what has expired goes, its records come in order, and what is too much goes.
     pub(crate) fn after(&self, alloc: Global, batch: &Batch) -> Result<Holding, OutOfMemory>
-        ensures made { IfOk result (λ made.
-            IsReordered (held_after self.now batch.entry.now) made) }
-        ensures apart { NoneDisplaces self.now.records }
-        ensures made_apart { IfOk result (λ made. NoneDisplaces made.records) }
+        ensures { IfOk result (λ made.
+            in_key_order made ≡ kept_after (in_key_order self.now) batch.entry.now) }
     {
-        // What a holding has is a clause of `len`.
-        let _len = self.len();
-        let shared = self.share(alloc)?;
-        let holding = shared.usable(alloc, batch.now)?;
-        let holding = holding.with_records(alloc, &batch.records)?;
-        holding.within_limit(alloc)
+        let usable = self.usable(alloc, batch.now)?;
+        let all = usable.with_records(alloc, &batch.records)?;
+        all.within_limit(alloc)
     }
 
-    // What may be used at the moment.
-    fn usable(self, alloc: Global, now: u32) -> Result<Holding, OutOfMemory>
-        ensures made { IfOk result (λ made.
-            IsReordered (held_where (is_usable now) self) made) }
-        ensures apart { NoneDisplaces self.records }
-        ensures made_apart { IfOk result (λ made. NoneDisplaces made.records) }
+    // What may be used at the moment, with another owner of the parts, whose order of going may be changed in place.
+    fn usable(&self, alloc: Global, now: u32) -> Result<Holding, OutOfMemory>
+        ensures made { IfOk result (λ made. IsHeldAs (held_where (is_usable now) self.now) made) }
+        ensures apart { IfOk result (λ _. NoneDisplaces self.now.records) }
     {
-        // What a holding has is a clause of `len`.
-        let _len = self.len();
-        let mut holding = self;
+        let mut holding = Holding {
+            goings: self.goings.try_clone(alloc)?,
+            sets: Arc::try_clone(&self.sets)?,
+            zones: Arc::try_clone(&self.zones)?,
+        };
         while holding.has_expired(now) {
             holding = holding.without_first(alloc)?;
         }
@@ -47,27 +44,22 @@ impl Holding {
     }
 
     fn with_records(self, alloc: Global, records: &RecordList) -> Result<Holding, OutOfMemory>
-        ensures made { IfOk result (λ made. IsReordered (fold held_with self records.now) made) }
-        ensures made_apart { IfOk result (λ made. NoneDisplaces made.records) }
+        requires { NoneDisplaces self.records }
+        ensures { IfOk result (λ made. IsHeldAs (fold held_with self records.now) made) }
     {
-        // What a holding has is a clause of `len`.
-        let _len = self.len();
         let mut holding = self;
         for i in 0..records.len() {
             holding = holding.put(alloc, records.share(i)?)?;
-            let _len = holding.len();
         }
         Ok(holding)
     }
 
     fn within_limit(self, alloc: Global) -> Result<Holding, OutOfMemory>
-        ensures made { IfOk result (λ made. IsReordered (within_limit self) made) }
-        ensures made_apart { IfOk result (λ made. NoneDisplaces made.records) }
+        ensures { IfOk result (λ made. IsHeldAs (within_limit self) made) }
     {
-        // What a holding has is a clause of `len`.
-        let _len = self.len();
+        let too_many = self.goings.len().saturating_sub(MOST_RECORDS);
         let mut holding = self;
-        while holding.len() > MOST_RECORDS {
+        for _ in 0..too_many {
             holding = holding.without_first(alloc)?;
         }
         Ok(holding)
@@ -80,19 +72,7 @@ impl Holding {
             → All (λ item. is_usable now item ≡ false) (take 1 self.now.records) }
         ensures none { result ≡ false → All
             (λ item. is_usable now item ≡ true) self.now.records }
-        ensures apart { NoneDisplaces self.now.records }
     {
-        self.goings.len() > 0 && expiry_of(self.goings.get(0)) <= u64::from(now)
-    }
-
-    // Another owner of its parts, whose order of going may be changed in place.
-    fn share(&self, alloc: Global) -> Result<Holding, OutOfMemory>
-        ensures { IfOk result (λ share. share ≡ self.now) }
-    {
-        Ok(Holding {
-            goings: self.goings.try_clone(alloc)?,
-            sets: Arc::try_clone(&self.sets)?,
-            zones: Arc::try_clone(&self.zones)?,
-        })
+        self.goings.len() > 0 && expiry_of(self.goings.first()) <= u64::from(now)
     }
 }

@@ -2,15 +2,16 @@
 ghost use Rattle.std.specs.Prelude.{◌≡◌, IfOk, None, IsTrue, option_map};
 ghost use Rattle.std.specs.Arc.{arc_value};
 ghost use Rattle.cache_meaning.specs.Held.{chain_of, held_with};
-ghost use Rattle.held_laws.specs.HeldLaws.{NoneDisplaces, IsReordered};
+ghost use Rattle.held_laws.specs.HeldLaws.{NoneDisplaces};
 ghost use Rattle.ordered_list.specs.Order.{IsRank, entry_at};
-ghost use Rattle.record_store.specs.Holding.{AreCleared};
+ghost use Rattle.record_store.specs.Holding.{AreCleared, IsHeldAs};
 ghost use Rattle.record_store.specs.Dropping.{AreSets};
 ghost use Rattle.record_store.specs.Putting.{IsZoneFor};
 ghost use Rattle.record_store.specs.Ranks.{set_cmp};
 
-use crate::goings::{with, without, without_gone};
-use crate::holding::{Goings, Holding};
+use crate::goings::Goings;
+use crate::gone::without_gone;
+use crate::holding::Holding;
 use crate::ranks::zone_of;
 use crate::same_set::same_set;
 use crate::sets::{SetList, Sets};
@@ -25,7 +26,7 @@ use zone_chains::ZoneRecords;
 impl Holding {
     /// With the record, in the place of those that it displaces, and with its chain.
     pub(crate) fn put(self, alloc: Global, new: Arc<Record, Global>) -> Result<Holding, OutOfMemory>
-        ensures { IfOk result (λ made. IsReordered (held_with self (arc_value new)) made) }
+        ensures { IfOk result (λ made. IsHeldAs (held_with self (arc_value new)) made) }
     {
         match &*new {
             Record::Set(_) => self.put_set(alloc, new),
@@ -33,17 +34,16 @@ impl Holding {
         }
     }
 
-    // A set that is held as it is changes nothing.
+    // A set that is held as it is changes nothing: answers of one second bring their zone's SOA with one moment of
+    // expiry. It is compared in all, so a set with another signature takes its place.
     fn put_set(self, alloc: Global, new: Arc<Record, Global>) -> Result<Holding, OutOfMemory>
         requires { chain_of (arc_value new) ≡ None }
-        ensures { IfOk result (λ made. IsReordered (held_with self (arc_value new)) made) }
+        ensures { IfOk result (λ made. IsHeldAs (held_with self (arc_value new)) made) }
     {
         let rank = self.sets.list().rank(&new);
         let old = set_of(self.sets.list(), rank)?;
         if let Some(old) = &old {
             if same_record(old, &new) {
-                // That no record displaces another is a clause of `len`.
-                let _len = self.len();
                 return Ok(self);
             }
         }
@@ -55,7 +55,7 @@ impl Holding {
         let goings = without_set(alloc, goings, &sets, old, &new)?;
         let zones = with_apex(alloc, &zones, &zone_of(&new))?;
         let sets = Arc::new(alloc, sets.with_at(alloc, rank, Arc::try_clone(&new)?)?)?;
-        let goings = with(alloc, goings, new)?;
+        let goings = goings.with(alloc, new)?;
         Ok(Holding {
             goings,
             sets,
@@ -65,7 +65,7 @@ impl Holding {
 
     fn put_denial(self, alloc: Global, new: Arc<Record, Global>) -> Result<Holding, OutOfMemory>
         requires { chain_of (arc_value new) ≡ None → ⊥ }
-        ensures { IfOk result (λ made. IsReordered (held_with self (arc_value new)) made) }
+        ensures { IfOk result (λ made. IsHeldAs (held_with self (arc_value new)) made) }
     {
         let zone = self.zone_or_new(alloc, &new)?;
         let Holding {
@@ -75,10 +75,8 @@ impl Holding {
         } = self;
         let (made, met) = zone.with(alloc, Arc::try_clone(&new)?)?;
         let goings = without_gone(alloc, goings, &zone, met, &new)?;
-        // What its chains have is a clause of `apex`.
-        let _apex = made.apex();
         let zones = with_zone(alloc, &zones, Arc::new(alloc, made)?)?;
-        let goings = with(alloc, goings, new)?;
+        let goings = goings.with(alloc, new)?;
         Ok(Holding {
             goings,
             sets,
@@ -137,11 +135,10 @@ fn without_set(
     requires apart { NoneDisplaces goings }
     requires sets { AreSets goings sets.now }
     requires old { option_map (λ o. arc_value o) old ≡ entry_at set_cmp new.now sets.now }
-    ensures records { IfOk result (λ left. AreCleared new.now goings left) }
-    ensures apart { IfOk result (λ left. NoneDisplaces left) }
+    ensures { IfOk result (λ left. AreCleared new.now goings left) }
 {
     match old {
-        Some(old) => without(alloc, goings, &old),
+        Some(old) => goings.without(alloc, &old),
         None => Ok(goings),
     }
 }

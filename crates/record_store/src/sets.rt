@@ -103,8 +103,6 @@ impl Sets {
         ensures { IfOk result (λ counts.
             AreCounted (with_entry set_cmp new.now self.now) (arc_value counts)) }
     {
-        // That the sets are in order is a clause of `len`.
-        let _len = self.list.len();
         if rank.from < rank.to {
             return Arc::try_clone(&self.counts);
         }
@@ -122,8 +120,6 @@ impl Sets {
         ensures { IfOk result (λ counts.
             AreCounted (without_entry set_cmp gone.now self.now) (arc_value counts)) }
     {
-        // That the sets are in order is a clause of `len`.
-        let _len = self.list.len();
         let counts = one_less(alloc, &self.counts, &zone_of(gone))?;
         Ok(Arc::new(alloc, counts)?)
     }

@@ -29,7 +29,7 @@ impl Model for Store {
 }
 
 impl Store {
-    /// Nothing is held.
+    /// Nothing is held. It takes memory, so that no step of a batch has a case for a part that isn't there yet.
     pub fn empty(alloc: Global) -> Result<Store, OutOfMemory>
         ensures { IfOk result (λ store. store ≡ nothing_held) }
     {

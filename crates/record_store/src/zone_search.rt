@@ -22,15 +22,27 @@ pub(crate) fn zone_for<'z>(
         (λ zone. IsFirstZone zones.now (candidates name.now qtype) (arc_value zone.now)) }
 {
     if qtype == DS_TYPE {
-        longest_above(zones, name.parent()?)
+        longest_above(zones, &name.parent()?)
     } else {
-        longest_above(zones, name.copy())
+        longest_above(zones, name)
     }
 }
 
 // The longest zone that the name is at or below. Of the zones at or before the name, the last is it, if the name is below it; else
 // all that the name is below lie above what the two have in common.
-fn longest_above<'z>(zones: &'z Zones, name: Name) -> Option<&'z Arc<ZoneRecords>>
+fn longest_above<'z>(zones: &'z Zones, name: &Name) -> Option<&'z Arc<ZoneRecords>>
+    ensures { MatchOption result (first_apex zones.now (self_and_above name.now) ≡ None)
+        (λ zone. IsFirstZone zones.now (self_and_above name.now) (arc_value zone.now)) }
+{
+    let last = last_upto(zones, name)?;
+    if name.is_under(last.apex()) {
+        return Some(last);
+    }
+    longest_common(zones, name.common(last.apex()))
+}
+
+// The same, of a name that two have in common.
+fn longest_common<'z>(zones: &'z Zones, name: Name) -> Option<&'z Arc<ZoneRecords>>
     ensures { MatchOption result (first_apex zones.now (self_and_above name) ≡ None)
         (λ zone. IsFirstZone zones.now (self_and_above name) (arc_value zone.now)) }
 {

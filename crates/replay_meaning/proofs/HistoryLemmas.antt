@@ -1,7 +1,7 @@
 -- Histories of one frame after the other: how they grow, and that one worker's is the only one.
 use Rattle.std.proofs.Common.{◌≡◌, ◌≢◌, ℕ, zero, suc, ◌+◌, ◌<◌, ◌≤◌, Bool, true, false, ◌&&◌, ◌==◌, cond, List, [], ◌∷◌, length, refl, sym, ◌∙◌, ap, arith}
 use Rattle.std.specs.List.{All, AllZip, AllPairs, count_by}
-use Rattle.std.proofs.lemmas.Bool.{false≢true}
+use Rattle.std.proofs.lemmas.Bool.{false≢true, ne_eqb}
 use Rattle.std.proofs.lemmas.Bool.Decides.{Decides-eqb}
 use Rattle.std.proofs.lemmas.List.Elements.{All-nil, All-cons, All-head, All-tail, All-weaker}
 use Rattle.std.proofs.lemmas.List.Kept.{AllPairs-cons}
@@ -23,19 +23,12 @@ count_none : {X : Type 0} (p : X → Bool) (xs : List X) → All (λ x. p x ≡ 
 count_none p [] none = refl
 count_none p (x ∷ xs) none = count_no p x xs (All-head (λ y. p y ≡ false) x xs none) ∙ count_none p xs (All-tail (λ y. p y ≡ false) x xs none)
 
-unequal : (n m : ℕ) → (n ≡ m → ⊥) → (n == m) ≡ false
-unequal n m apart = by (n == m) refl
-  where
-    by : (b : Bool) → (n == m) ≡ b → (n == m) ≡ false
-    by true is = absurd (apart ((Decides-eqb n m).0 is))
-    by false is = is
-
 -- an output places no batch of a version where it places none, or has another
 pub places_no : (version : ℕ) (output : Output) → (is_placed output.kind ≡ true → output.version ≡ version → ⊥) → places version output ≡ false
 places_no version output other = by (is_placed output.kind) refl
   where
     by : (b : Bool) → is_placed output.kind ≡ b → places version output ≡ false
-    by true is = ap (λ b. b && (output.version == version)) is ∙ unequal output.version version (other is)
+    by true is = ap (λ b. b && (output.version == version)) is ∙ ne_eqb output.version version (other is)
     by false is = ap (λ b. b && (output.version == version)) is
 
 -- ---- outputs from a version on

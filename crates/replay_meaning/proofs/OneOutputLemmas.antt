@@ -22,7 +22,7 @@ use Rattle.replay_meaning.proofs.StepLemmas.{TellsNoCall, tells_no_call, one_ste
 
 -- ---- one worker
 
-query_worker : (worker version : ℕ) (reply : Option (List ℕ)) → (query_output worker version reply).worker ≡ worker
+pub query_worker : (worker version : ℕ) (reply : Option (List ℕ)) → (query_output worker version reply).worker ≡ worker
 query_worker worker version None = refl
 query_worker worker version (Some octets) = refl
 
@@ -54,7 +54,7 @@ no_gap placed before version input inputs output outputs on call above within th
 
 -- ---- what one output leaves
 
-placed_calls : (kind : OutKind) → is_placed kind ≡ true → is_call kind ≡ true
+pub placed_calls : (kind : OutKind) → is_placed kind ≡ true → is_call kind ≡ true
 placed_calls Reply is = refl
 placed_calls Forward is = refl
 placed_calls Stored is = refl

@@ -7,4 +7,3 @@ pub mod Replay
 pub mod Sound
 pub mod Spelling
 pub mod Step
-pub mod Version

@@ -7,6 +7,6 @@ mod frame;
 mod laws;
 mod out_frame;
 
-pub use frame::{Frame, FrameKind, read_frame};
+pub use frame::{FRAME_HEAD, Frame, FrameKind, read_frame};
 pub use laws::{one_output, one_spelling};
 pub use out_frame::{OutFrame, OutKind};

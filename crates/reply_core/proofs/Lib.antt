@@ -4,4 +4,5 @@ pub mod RcodeLemmas
 pub mod RecordLemmas
 pub mod RelayLemmas
 pub mod ReplyLemmas
+pub mod SectionsLemmas
 pub mod ShownLemmas

@@ -31,7 +31,7 @@ has_put-both ttl before between after count more sum first second one two is = r
       ∙ sym (count16-append first second);
 }
 
-has_put-one : (ttl : ℕ) (before after : Contents) (r : ReplyRecord) → after ≡ put before (record_octets ttl r) → HasPut ttl before after 1 (r ∷ [])
+pub has_put-one : (ttl : ℕ) (before after : Contents) (r : ReplyRecord) → after ≡ put before (record_octets ttl r) → HasPut ttl before after 1 (r ∷ [])
 has_put-one ttl before after r is = record { octets = is ∙ ap (put before) (sym (append-nil (record_octets ttl r))); count = refl }
 
 -- a record, and others after it

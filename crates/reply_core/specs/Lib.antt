@@ -1,6 +1,7 @@
 pub mod Reply
 pub mod Kept
 pub mod Shown
+pub mod Sections
 pub mod Error
 pub mod Ask
 pub mod Relay

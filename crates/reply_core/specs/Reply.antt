@@ -14,7 +14,7 @@ use Rattle.denial_records.specs.declared.verdict.Kind.TheVariants.{Answer, NoDat
 use Rattle.dnswire.specs.declared.edns.TheConstants.{DO, LEAST_PAYLOAD}
 use Rattle.dnswire.specs.declared.flags.TheConstants.{QR, TC, RD, RA, AD, CD}
 use Rattle.reply_core.specs.Kept.{owner_of, rtype_of, items_of, signatures_of, listed}
-use Rattle.reply_core.specs.declared.draft.TheConstants.{MAX_REPLY}
+use Rattle.reply_core.specs.declared.draft.TheConstants.{MAX_REPLY, MAX_LONG_REPLY}
 use Rattle.reply_core.specs.declared.rcode.TheConstants.{NO_ERROR, NAME_ERROR}
 
 -- DO, which the query's OPT record has (RFC 3225, section 3)
@@ -145,8 +145,16 @@ limit_of None = LEAST_PAYLOAD
 limit_of (Some edns) = min MAX_REPLY (max LEAST_PAYLOAD edns.size)
 
 -- the reply that a proof gives, with this TTL: whole where that is within the limit, else truncated
-abbrev pub reply_octets : Question → Proof → ℕ → List ℕ
-reply_octets question proof ttl =
-    if nat_le (length (whole_octets question proof ttl)) (limit_of question.edns)
+abbrev pub limited_octets : ℕ → Question → Proof → ℕ → List ℕ
+limited_octets limit question proof ttl =
+    if nat_le (length (whole_octets question proof ttl)) limit
     then whole_octets question proof ttl
     else truncated_octets question proof.kind
+
+-- within what a datagram of the client takes
+abbrev pub reply_octets : Question → Proof → ℕ → List ℕ
+reply_octets question proof ttl = limited_octets (limit_of question.edns) question proof ttl
+
+-- within what a message on a stream can have, whatever the client takes by datagrams (RFC 1035, section 4.2.2)
+abbrev pub long_octets : Question → Proof → ℕ → List ℕ
+long_octets question proof ttl = limited_octets MAX_LONG_REPLY question proof ttl

@@ -30,6 +30,3 @@ fn ask_flags(question: &Question) -> u16
 {
     RD + AD + flag(question.cd, CD)
 }
-
-#[cfg(test)]
-mod tests;

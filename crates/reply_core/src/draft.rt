@@ -1,6 +1,5 @@
 ghost use Rattle.std.specs.Prelude.{◌≡◌, ◌≤◌, length, is_none};
 ghost use Rattle.reply_core.specs.Draft.{put, set_octet, blank, octets_of};
-ghost use Rattle.reply_core.specs.declared.draft.TheConstants.{MAX_REPLY};
 
 use arrayvec::ArrayVec;
 use std::marker::Model;
@@ -8,19 +7,21 @@ use std::marker::Model;
 /// The octets of the longest reply, and the UDP payload that a reply says it takes.
 pub const MAX_REPLY: usize = 1232;
 
+/// The octets of the longest reply on a stream, whose length two octets hold (RFC 1035, section 4.2.2).
+pub const MAX_LONG_REPLY: usize = 65_535;
+
 /// Octets that are put one after the other, up to a limit. Once they would go beyond it, there are none, and nothing
 /// that is put changes that.
 #[derive(Debug, Drop)]
-pub(crate) struct Draft {
-    octets: ArrayVec<u8, MAX_REPLY>,
+pub(crate) struct Draft<const N: usize> {
+    octets: ArrayVec<u8, N>,
     limit: usize,
     over: bool,
 }
 
-impl Model for Draft {
+impl<const N: usize> Model for Draft<N> {
     ghost use Rattle.std.specs.Prelude.{◌≤◌, length, if◌then◌else◌, Some, None};
     ghost use Rattle.reply_core.specs.Draft.{Contents};
-    ghost use Rattle.reply_core.specs.declared.draft.TheConstants.{MAX_REPLY};
 
     ghost Value = { Contents };
 
@@ -29,13 +30,13 @@ impl Model for Draft {
       written = (if d.over then None else Some d.octets.items);
     } };
 
-    ghost invariant = { λ d. (d.limit ≤ MAX_REPLY) × (length d.octets.items ≤ d.limit) };
+    ghost invariant = { λ d. (d.limit ≤ N) × (length d.octets.items ≤ d.limit) };
 }
 
-impl Draft {
+impl<const N: usize> Draft<N> {
     /// A draft with nothing in it.
-    pub(crate) fn new(limit: usize) -> Draft
-        requires { limit ≤ MAX_REPLY }
+    pub(crate) fn new(limit: usize) -> Draft<N>
+        requires { limit ≤ N }
         ensures { result ≡ blank limit }
     {
         Draft {
@@ -47,7 +48,7 @@ impl Draft {
 
     /// Clears the draft for another limit.
     pub(crate) fn restart(&mut self, limit: usize)
-        requires { limit ≤ MAX_REPLY }
+        requires { limit ≤ N }
         ensures { self.new ≡ blank limit }
     {
         self.octets.clear();
@@ -85,7 +86,7 @@ impl Draft {
 
     pub(crate) fn as_slice(&self) -> &[u8]
         ensures value { result.now ≡ octets_of self.now.written }
-        ensures fits { length result.now ≤ MAX_REPLY }
+        ensures fits { length result.now ≤ N }
     {
         if self.over {
             return &[];

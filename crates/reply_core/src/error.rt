@@ -30,6 +30,3 @@ pub fn write_plain(question: &Question, rcode: u16, out: &mut ReplyBuffer)
     out.draft.restart(MAX_REPLY);
     put_bare(&mut out.draft, question, flags, (rcode / 16) as u8);
 }
-
-#[cfg(test)]
-mod tests;

@@ -57,8 +57,8 @@ pub(crate) fn reply_flags(question: &Question, kind: Kind, truncated: bool) -> u
 }
 
 /// The header, with these numbers of questions and of the records of the three sections.
-pub(crate) fn put_header(
-    draft: &mut Draft,
+pub(crate) fn put_header<const N: usize>(
+    draft: &mut Draft<N>,
     id: u16,
     flags: u16,
     questions: u16,
@@ -73,7 +73,7 @@ pub(crate) fn put_header(
 }
 
 /// Writes these numbers of answers and authorities over those of the header with which the draft begins.
-pub(crate) fn set_counts(draft: &mut Draft, answers: u16, authorities: u16)
+pub(crate) fn set_counts<const N: usize>(draft: &mut Draft<N>, answers: u16, authorities: u16)
     ensures { (limit id flags questions additionals : ℕ) (rest : List ℕ)
         → draft.old ≡ put (blank limit) (header_octets id flags questions 0 0 additionals ++ rest)
         → draft.new ≡ put (blank limit)
@@ -120,7 +120,7 @@ fn header(
 }
 
 /// The question, as it was asked.
-pub(crate) fn put_question(draft: &mut Draft, question: &Question)
+pub(crate) fn put_question<const N: usize>(draft: &mut Draft<N>, question: &Question)
     ensures value { draft.new ≡ put draft.old question.now.asked.items }
     ensures small { length question.now.asked.items ≤ MAX_ASKED }
 {
@@ -128,7 +128,7 @@ pub(crate) fn put_question(draft: &mut Draft, question: &Question)
 }
 
 /// The OPT record of a reply with these upper bits of the RCODE, where the query had one.
-pub(crate) fn put_opt(draft: &mut Draft, upper: u8, edns: Option<Edns>)
+pub(crate) fn put_opt<const N: usize>(draft: &mut Draft<N>, upper: u8, edns: Option<Edns>)
     ensures { draft.new ≡ put draft.old (opt_octets upper edns) }
 {
     match edns {
@@ -149,7 +149,12 @@ fn opt(upper: u8, edns: Edns) -> [u8; 11]
 }
 
 /// A reply without records but OPT, with these flags and upper bits of the RCODE.
-pub(crate) fn put_bare(draft: &mut Draft, question: &Question, flags: u16, upper: u8)
+pub(crate) fn put_bare<const N: usize>(
+    draft: &mut Draft<N>,
+    question: &Question,
+    flags: u16,
+    upper: u8,
+)
     ensures value { draft.new ≡ put draft.old (bare_octets question.now flags upper) }
     ensures small { length (bare_octets question.now flags upper) ≤ LEAST_PAYLOAD }
 {

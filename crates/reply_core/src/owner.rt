@@ -17,7 +17,7 @@ impl Owner<'_> {
     ghost use Rattle.reply_core.specs.Owner.{labels_of};
 
     /// Its wire form, uncompressed.
-    pub(crate) fn put(&self, draft: &mut Draft)
+    pub(crate) fn put<const N: usize>(&self, draft: &mut Draft<N>)
         ensures { draft.new ≡ put draft.old (wire_of (labels_of self.now)) }
     {
         match self {

@@ -7,20 +7,27 @@ ghost use Rattle.reply_core.specs.Count.{HasPut};
 ghost use Rattle.reply_core.specs.Draft.{put};
 ghost use Rattle.reply_core.specs.Reply.{ReplyRecord, record_octets, records_of, signature_records, set_records, proof_records};
 ghost use Rattle.reply_core.specs.Kept.{owner_of, listed};
+ghost use Rattle.reply_core.specs.Sections.{alias_record};
 ghost use Rattle.reply_core.specs.Shown.{denial_in};
 ghost use Rattle.reply_core.specs.Owner.{labels_of};
 
 use crate::draft::Draft;
 use crate::owner::Owner;
 use denial_records::{Denial, KeptNsec, KeptNsec3, KeptSet};
-use dname::types::{IN_CLASS, NSEC_TYPE, NSEC3_TYPE, RRSIG_TYPE};
+use dname::types::{CNAME_TYPE, IN_CLASS, NSEC_TYPE, NSEC3_TYPE, RRSIG_TYPE};
 use dname::{LentName, Name, Packed};
 use nsec3_hash::to_base32hex;
 
 // A number that is given is that of the records that are put, modulo 2^16.
 
 // The records of a set with this owner, and its signatures where the client wants them.
-fn put_set(draft: &mut Draft, ttl: u32, dnssec: bool, owner: LentName<'_>, set: &KeptSet) -> u16
+fn put_set<const N: usize>(
+    draft: &mut Draft<N>,
+    ttl: u32,
+    dnssec: bool,
+    owner: LentName<'_>,
+    set: &KeptSet,
+) -> u16
     ensures { HasPut ttl draft.old draft.new result
         (set_records dnssec owner.entry (kept.Set set.now)) }
 {
@@ -30,7 +37,12 @@ fn put_set(draft: &mut Draft, ttl: u32, dnssec: bool, owner: LentName<'_>, set: 
 }
 
 /// The SOA set, where there is one.
-pub(crate) fn put_soa(draft: &mut Draft, ttl: u32, dnssec: bool, soa: Option<&KeptSet>) -> u16
+pub(crate) fn put_soa<const N: usize>(
+    draft: &mut Draft<N>,
+    ttl: u32,
+    dnssec: bool,
+    soa: Option<&KeptSet>,
+) -> u16
     ensures { HasPut ttl draft.old draft.new result
         (flat_map (λ set. set_records dnssec (owner_of set) set)
         (listed (option_copied soa.entry))) }
@@ -42,8 +54,8 @@ pub(crate) fn put_soa(draft: &mut Draft, ttl: u32, dnssec: bool, soa: Option<&Ke
 }
 
 /// The set that answers, where there is one, with this owner.
-pub(crate) fn put_answer(
-    draft: &mut Draft,
+pub(crate) fn put_answer<const N: usize>(
+    draft: &mut Draft<N>,
     ttl: u32,
     dnssec: bool,
     owner: &Name,
@@ -58,9 +70,18 @@ pub(crate) fn put_answer(
     }
 }
 
+/// A CNAME, without a signature.
+pub(crate) fn put_alias<const N: usize>(draft: &mut Draft<N>, ttl: u32, owner: &Name, target: &Name)
+    ensures { draft.new
+        ≡ put draft.old (record_octets ttl (alias_record owner.now target.now)) }
+{
+    let owner = Owner::Name(owner.lent());
+    put_record(draft, ttl, &owner, CNAME_TYPE, target.wire());
+}
+
 /// The record of a denial and its signatures, where there is one and the client wants them.
-pub(crate) fn put_denial(
-    draft: &mut Draft,
+pub(crate) fn put_denial<const N: usize>(
+    draft: &mut Draft<N>,
     ttl: u32,
     dnssec: bool,
     denial: &Option<Denial<'_>>,
@@ -78,7 +99,7 @@ pub(crate) fn put_denial(
     }
 }
 
-fn put_nsec(draft: &mut Draft, ttl: u32, nsec: &KeptNsec) -> u16
+fn put_nsec<const N: usize>(draft: &mut Draft<N>, ttl: u32, nsec: &KeptNsec) -> u16
     ensures { HasPut ttl draft.old draft.new result (proof_records true (kept.Nsec nsec.now)) }
 {
     let owner = Owner::Name(nsec.owner());
@@ -86,7 +107,7 @@ fn put_nsec(draft: &mut Draft, ttl: u32, nsec: &KeptNsec) -> u16
     put_list(draft, ttl, &owner, RRSIG_TYPE, nsec.signatures()).wrapping_add(1)
 }
 
-fn put_nsec3(draft: &mut Draft, ttl: u32, nsec3: &KeptNsec3) -> u16
+fn put_nsec3<const N: usize>(draft: &mut Draft<N>, ttl: u32, nsec3: &KeptNsec3) -> u16
     ensures { HasPut ttl draft.old draft.new result (proof_records true (kept.Nsec3 nsec3.now)) }
 {
     let owner = Owner::Hashed(to_base32hex(nsec3.hash()), nsec3.zone());
@@ -94,8 +115,8 @@ fn put_nsec3(draft: &mut Draft, ttl: u32, nsec3: &KeptNsec3) -> u16
     put_list(draft, ttl, &owner, RRSIG_TYPE, nsec3.signatures()).wrapping_add(1)
 }
 
-fn put_signatures(
-    draft: &mut Draft,
+fn put_signatures<const N: usize>(
+    draft: &mut Draft<N>,
     ttl: u32,
     dnssec: bool,
     owner: &Owner<'_>,
@@ -111,7 +132,13 @@ fn put_signatures(
     }
 }
 
-fn put_list(draft: &mut Draft, ttl: u32, owner: &Owner<'_>, rtype: u16, items: Packed<'_>) -> u16
+fn put_list<const N: usize>(
+    draft: &mut Draft<N>,
+    ttl: u32,
+    owner: &Owner<'_>,
+    rtype: u16,
+    items: Packed<'_>,
+) -> u16
     ensures { HasPut ttl draft.old draft.new result
         (records_of (labels_of owner.now) rtype items.entry) }
 {
@@ -127,7 +154,13 @@ fn put_list(draft: &mut Draft, ttl: u32, owner: &Owner<'_>, rtype: u16, items: P
     count
 }
 
-fn put_record(draft: &mut Draft, ttl: u32, owner: &Owner<'_>, rtype: u16, rdata: &[u8])
+fn put_record<const N: usize>(
+    draft: &mut Draft<N>,
+    ttl: u32,
+    owner: &Owner<'_>,
+    rtype: u16,
+    rdata: &[u8],
+)
     ensures { draft.new ≡ put draft.old (record_octets ttl
         (record { owner = labels_of owner.now; rtype = rtype; rdata = rdata.now })) }
 {
@@ -136,7 +169,13 @@ fn put_record(draft: &mut Draft, ttl: u32, owner: &Owner<'_>, rtype: u16, rdata:
 }
 
 /// What stands after the owner of a record.
-pub(crate) fn put_rest(draft: &mut Draft, rtype: u16, class: u16, ttl: u32, rdata: &[u8])
+pub(crate) fn put_rest<const N: usize>(
+    draft: &mut Draft<N>,
+    rtype: u16,
+    class: u16,
+    ttl: u32,
+    rdata: &[u8],
+)
     ensures { draft.new ≡ put draft.old (big_bytes 2 rtype ++ big_bytes 2 class ++ big_bytes 4 ttl
         ++ big_bytes 2 (length rdata.now) ++ rdata.now) }
 {

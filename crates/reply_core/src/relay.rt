@@ -1,6 +1,5 @@
 ghost use Rattle.std.specs.Prelude.{◌≡◌, ◌<◌, ◌≤◌, ◌++◌, length, true, Some};
 ghost use Rattle.std.specs.List.{flat_map};
-ghost use Rattle.dnswire.specs.Header.{is_set};
 ghost use Rattle.dnswire.specs.declared.edns.TheConstants.{LEAST_PAYLOAD};
 ghost use Rattle.reply_core.specs.Count.{count16};
 ghost use Rattle.reply_core.specs.Draft.{put};
@@ -9,7 +8,7 @@ ghost use Rattle.reply_core.specs.Relay.{relay_octets, is_whole, whole_relay, tr
 ghost use Rattle.reply_core.specs.declared.rcode.TheConstants.{MAX_RCODE};
 
 use crate::ReplyBuffer;
-use crate::draft::Draft;
+use crate::draft::{Draft, MAX_REPLY};
 use crate::header::{
     flag, flags_of, head_of, opt_count, put_bare, put_header, put_opt, put_question, wants_dnssec,
 };
@@ -30,7 +29,7 @@ pub fn write_relay(question: &Question, message: &Message, out: &mut ReplyBuffer
     fill(&mut out.draft, question, message);
 }
 
-fn fill(draft: &mut Draft, question: &Question, message: &Message)
+fn fill(draft: &mut Draft<MAX_REPLY>, question: &Question, message: &Message)
     requires { message.now.rcode ≤ MAX_RCODE }
     ensures value { draft.new.written ≡ Some (relay_octets question.now message.now) }
     ensures within_limit { length (relay_octets question.now message.now)
@@ -44,13 +43,13 @@ fn fill(draft: &mut Draft, question: &Question, message: &Message)
 }
 
 // Whether the whole reply can be sent; then it is put in place of what the draft held.
-fn put_within(draft: &mut Draft, question: &Question, message: &Message) -> bool
+fn put_within(draft: &mut Draft<MAX_REPLY>, question: &Question, message: &Message) -> bool
     requires { message.now.rcode ≤ MAX_RCODE }
     ensures exact { result ≡ is_whole question.now message.now }
     ensures value { result ≡ true
         → draft.new.written ≡ Some (whole_relay question.now message.now) }
 {
-    if is_set(message.flags, TC) {
+    if message.flags.has_tc() {
         return false;
     }
     draft.restart(limit_of(question.edns));
@@ -58,7 +57,9 @@ fn put_within(draft: &mut Draft, question: &Question, message: &Message) -> bool
     !draft.is_over()
 }
 
-fn put_whole(draft: &mut Draft, question: &Question, message: &Message)
+// The reply with all records that the client gets. They are counted before they are put: their types alone tell which
+// they are, and no octet of them is looked at for that.
+fn put_whole(draft: &mut Draft<MAX_REPLY>, question: &Question, message: &Message)
     requires { message.now.rcode ≤ MAX_RCODE }
     ensures { draft.new ≡ put draft.old (whole_relay question.now message.now) }
 {
@@ -83,7 +84,7 @@ fn put_whole(draft: &mut Draft, question: &Question, message: &Message)
     put_opt(draft, relay_upper(question, message), question.edns);
 }
 
-fn put_truncated(draft: &mut Draft, question: &Question, message: &Message)
+fn put_truncated(draft: &mut Draft<MAX_REPLY>, question: &Question, message: &Message)
     requires { message.now.rcode ≤ MAX_RCODE }
     ensures value { draft.new ≡ put draft.old (truncated_relay question.now message.now) }
     ensures small { length (truncated_relay question.now message.now) ≤ LEAST_PAYLOAD }
@@ -105,7 +106,7 @@ fn count_section(question: &Question, section: &RrList) -> u16
     count
 }
 
-fn put_section(draft: &mut Draft, question: &Question, section: &RrList)
+fn put_section(draft: &mut Draft<MAX_REPLY>, question: &Question, section: &RrList)
     ensures { draft.new
         ≡ put draft.old (flat_map rr_octets (relayed question.now section.now)) }
 {
@@ -119,7 +120,7 @@ fn put_section(draft: &mut Draft, question: &Question, section: &RrList)
     }
 }
 
-fn put_rr(draft: &mut Draft, rr: &Rr)
+fn put_rr(draft: &mut Draft<MAX_REPLY>, rr: &Rr)
     ensures { draft.new ≡ put draft.old (rr_octets rr.now) }
 {
     draft.put(rr.owner.name().wire());
@@ -155,7 +156,7 @@ fn relay_flags(question: &Question, message: &Message, truncated: bool) -> u16
 fn relay_ad(question: &Question, message: &Message) -> bool
     ensures { result ≡ relay_ad question.now message.now }
 {
-    is_set(message.flags, AD) && (question.ad || wants_dnssec(question))
+    message.flags.has_ad() && (question.ad || wants_dnssec(question))
 }
 
 fn relay_upper(question: &Question, message: &Message) -> u8
@@ -174,13 +175,3 @@ fn relay_rcode(question: &Question, message: &Message) -> u16
         message.rcode
     }
 }
-
-fn is_set(flags: u16, bit: u16) -> bool
-    requires { 0 < bit }
-    ensures { result ≡ is_set bit flags }
-{
-    flags / bit % 2 == 1
-}
-
-#[cfg(test)]
-mod tests;

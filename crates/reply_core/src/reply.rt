@@ -1,7 +1,7 @@
 ghost use Rattle.std.specs.Prelude.{◌≡◌, ◌≤◌, length, true, Some};
 ghost use Rattle.reply_core.specs.Count.{HasPut};
 ghost use Rattle.reply_core.specs.Draft.{put, blank};
-ghost use Rattle.reply_core.specs.Reply.{reply_flags, answer_records, authority_records, whole_octets, truncated_octets, reply_octets, limit_of};
+ghost use Rattle.reply_core.specs.Reply.{reply_flags, answer_records, authority_records, whole_octets, truncated_octets, limited_octets, reply_octets, limit_of};
 ghost use Rattle.reply_core.specs.Shown.{shown_by};
 ghost use Rattle.dnswire.specs.declared.edns.TheConstants.{LEAST_PAYLOAD};
 ghost use Rattle.reply_core.specs.declared.draft.TheConstants.{MAX_REPLY};
@@ -21,16 +21,24 @@ pub fn write_reply(question: &Question, verdict: &Verdict<'_>, out: &mut ReplyBu
     ensures value { out.new ≡ reply_octets question.now (shown_by verdict.now) verdict.now.ttl }
     ensures within_limit { length out.new ≤ limit_of question.now.edns }
 {
-    fill(&mut out.draft, question, verdict);
+    fill(&mut out.draft, limit_of(question.edns), question, verdict);
 }
 
-fn fill(draft: &mut Draft, question: &Question, verdict: &Verdict<'_>)
+/// Puts the reply in place of what the draft held: with all its records where that is within the limit, else
+/// truncated.
+pub(crate) fn fill<const N: usize>(
+    draft: &mut Draft<N>,
+    limit: usize,
+    question: &Question,
+    verdict: &Verdict<'_>,
+)
+    requires room { limit ≤ N }
+    requires least { LEAST_PAYLOAD ≤ limit }
     ensures value { draft.new.written
-        ≡ Some (reply_octets question.now (shown_by verdict.now) verdict.now.ttl) }
-    ensures within_limit { length (reply_octets question.now (shown_by verdict.now) verdict.now.ttl)
-        ≤ limit_of question.now.edns }
+        ≡ Some (limited_octets limit question.now (shown_by verdict.now) verdict.now.ttl) }
+    ensures within_limit { length (limited_octets limit question.now (shown_by verdict.now)
+        verdict.now.ttl) ≤ limit }
 {
-    let limit = limit_of(question.edns);
     put_whole(draft, limit, question, verdict);
     if draft.is_over() {
         draft.restart(limit);
@@ -38,9 +46,15 @@ fn fill(draft: &mut Draft, question: &Question, verdict: &Verdict<'_>)
     }
 }
 
-// The reply with all its records, in place of what the draft held.
-fn put_whole(draft: &mut Draft, limit: usize, question: &Question, verdict: &Verdict<'_>)
-    requires { limit ≤ MAX_REPLY }
+// The reply with all its records, in place of what the draft held. They are counted as they are put, though their
+// numbers stand in front of them: to count them first would be to go over each list of signatures twice.
+fn put_whole<const N: usize>(
+    draft: &mut Draft<N>,
+    limit: usize,
+    question: &Question,
+    verdict: &Verdict<'_>,
+)
+    requires { limit ≤ N }
     ensures { draft.new
         ≡ put (blank limit) (whole_octets question.now (shown_by verdict.now) verdict.now.ttl) }
 {
@@ -55,7 +69,7 @@ fn put_whole(draft: &mut Draft, limit: usize, question: &Question, verdict: &Ver
     set_counts(draft, answers, authorities);
 }
 
-fn put_truncated(draft: &mut Draft, question: &Question, kind: Kind)
+fn put_truncated<const N: usize>(draft: &mut Draft<N>, question: &Question, kind: Kind)
     ensures value { draft.new ≡ put draft.old (truncated_octets question.now kind) }
     ensures small { length (truncated_octets question.now kind) ≤ LEAST_PAYLOAD }
 {
@@ -64,7 +78,11 @@ fn put_truncated(draft: &mut Draft, question: &Question, kind: Kind)
 }
 
 // The records of the answer section, and their number modulo 2^16.
-fn put_answers(draft: &mut Draft, question: &Question, verdict: &Verdict<'_>) -> u16
+fn put_answers<const N: usize>(
+    draft: &mut Draft<N>,
+    question: &Question,
+    verdict: &Verdict<'_>,
+) -> u16
     ensures { HasPut verdict.now.ttl draft.old draft.new result
         (answer_records question.now (shown_by verdict.now)) }
 {
@@ -79,7 +97,11 @@ fn put_answers(draft: &mut Draft, question: &Question, verdict: &Verdict<'_>) ->
 }
 
 // The records of the authority section, and their number modulo 2^16.
-fn put_authorities(draft: &mut Draft, question: &Question, verdict: &Verdict<'_>) -> u16
+fn put_authorities<const N: usize>(
+    draft: &mut Draft<N>,
+    question: &Question,
+    verdict: &Verdict<'_>,
+) -> u16
     ensures { HasPut verdict.now.ttl draft.old draft.new result
         (authority_records question.now (shown_by verdict.now)) }
 {
@@ -103,6 +125,3 @@ pub(crate) fn limit_of(edns: Option<Edns>) -> usize
         None => LEAST,
     }
 }
-
-#[cfg(test)]
-mod tests;

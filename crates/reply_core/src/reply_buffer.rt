@@ -7,7 +7,7 @@ use std::marker::Model;
 /// A place for the octets of one reply, seen as their list. No call on it takes memory.
 #[derive(Debug, Drop)]
 pub struct ReplyBuffer {
-    pub(crate) draft: Draft,
+    pub(crate) draft: Draft<MAX_REPLY>,
 }
 
 impl Model for ReplyBuffer {

@@ -3,6 +3,7 @@ use Rattle.std.proofs.Common.{◌≡◌, ◌∙◌, ℕ, zero, suc, ◌+◌, ◌
 use Rattle.std.specs.Prelude.{is_none, ◌&&◌, ◌==◌, ◌*◌, ◌/◌, ◌%◌, slice_get, Option, option_and_then}
 use Rattle.std.specs.Option.{option_map_or}
 use Rattle.std.specs.List.{position_or_len, position, All}
+use Rattle.std.proofs.lemmas.Bool.{not-true}
 use Rattle.std.proofs.lemmas.List.Elements.{All-tail}
 use Rattle.std.proofs.lemmas.List.Quantifiers.{position-Some}
 use Rattle.dname.specs.Name.{Label}
@@ -93,16 +94,12 @@ empty-slots_of (suc n) (l ∷ ls) e turns =
     let rest = empty-slots_of n ls (omega arith) (All-tail (λ (l : Latest). l.turn ≡ 255) l ls turns) in
     (λ i. here i ∷ rest i)
 
-not_true : (b : Bool) → not b ≡ true → b ≡ false
-not_true true e = sym e
-not_true false e = refl
-
 -- a free slot takes an entry, at the turn that it has
 pub takes : (marks : List Bool) (sent : List ℕ) (latest : List Latest) (table : List Slot) (i : ℕ) (d renewed : Latest) (client : ℕ) (question : Question) (now : ℕ) → slots_of marks sent latest ≡ table → length sent ≡ length marks → length latest ≡ length marks → least_free table ≡ Some i → renewed.turn ≡ ((get_or latest i d).turn + 1) % 256 → renewed.client ≡ client → renewed.question ≡ question → (renewed.turn ≡ turn_at table i) × (slots_of (set marks i true) (set sent i now) (set latest i renewed) ≡ with_entry table (Some i) (entry_of client question now))
 takes marks sent latest table i d renewed client question now seen e f free turn whose what =
     let first : position not marks ≡ Some i = sym (least_free-slots_of marks sent latest e f) ∙ ap least_free seen ∙ free in
     let place = position-Some not marks i false first in
-    let unmarked : get_or marks i false ≡ false = not_true (get_or marks i false) place.1 in
+    let unmarked : get_or marks i false ≡ false = not-true (get_or marks i false) place.1 in
     let here : slice_get table i ≡ Some (slot_of false (get_or sent i 0) (get_or latest i d)) =
     ap (λ (t : List Slot). slice_get t i) (sym seen)
     ∙ get-slots_of marks sent latest i d place.0 e f

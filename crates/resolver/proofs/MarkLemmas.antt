@@ -2,6 +2,7 @@
 use Rattle.std.proofs.Common.{◌≡◌, ℕ, ◌<◌, ◌≤◌, Bool, true, false, not, List, length, get_or, Some, None, ap, arith}
 use Rattle.std.specs.Prelude.{◌&&◌, nat_lt}
 use Rattle.std.specs.List.{position}
+use Rattle.std.proofs.lemmas.Bool.{le-ltb}
 use Rattle.std.proofs.lemmas.Bool.Decides.{nat_tests}
 use Rattle.std.proofs.lemmas.List.Sums.{position_or_len_is}
 use Rattle.resolver.specs.Pending.{is_late}
@@ -15,9 +16,6 @@ pub record AreKeptBelow (i now : ℕ) (old : List Bool) (sent : List ℕ) (new :
 is_below : (i n : ℕ) → i < n → nat_lt i n ≡ true
 is_below i n h = grind (arith, nat_tests)
 
-not_below : (n : ℕ) → nat_lt n n ≡ false
-not_below n = grind (arith, nat_tests)
-
 -- the first mark that isn't set
 pub first_free_is : (marks : List Bool) (i : ℕ) → i < length marks → ((k : ℕ) → k < i → get_or marks k false ≡ true) → get_or marks i false ≡ false → position not marks ≡ Some i
 first_free_is marks i within before here =
@@ -27,4 +25,4 @@ first_free_is marks i within before here =
 pub none_free : (marks : List Bool) → ((k : ℕ) → k < length marks → get_or marks k false ≡ true) → position not marks ≡ None
 none_free marks all =
     let first = position_or_len_is not marks (length marks) false (omega arith) (λ k h. ap not (all k h)) (λ h. absurd (omega arith)) in
-    rw (first, not_below (length marks))
+    rw (first, le-ltb (length marks) (length marks) (omega arith))

@@ -54,7 +54,8 @@ least_free table = position (λ slot. is_none slot.entry) table
 abbrev pub turn_at : List Slot → ℕ → ℕ
 turn_at table place = option_map_or (λ slot. slot.turn) (slice_get table place) 0
 
--- the ID is 256 times the slot's turn, and the slot
+-- the ID is 256 times the slot's turn, and the slot. So IDs come in order; RFC 5452, section 9.2, asks for random ones
+-- on a network, and here the upstream is a port of the same host.
 abbrev pub sent_from : List Slot → Option ℕ → Action
 sent_from table None = ServFail
 sent_from table (Some place) = Send (256 * turn_at table place + place)
@@ -70,7 +71,7 @@ abbrev pub asks : List Label → ℕ → ℕ → Question → Bool
 asks name qtype qclass question =
     same_name question.name name && (question.qtype == qtype) && (question.qclass == qclass)
 
--- the slot's entry, where it is taken at this turn by such a question
+-- the slot's entry, where it is taken at this turn by such a question (RFC 5452, section 9.1)
 abbrev pub entry_in : Slot → ℕ → List Label → ℕ → ℕ → Option Entry
 entry_in slot turn name qtype qclass =
     option_and_then

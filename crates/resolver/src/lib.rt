@@ -13,8 +13,6 @@ mod outcome;
 mod proving;
 mod replying;
 mod shared_cache;
-#[cfg(test)]
-mod tests;
 mod worker_core;
 
 pub use action::Action;
@@ -22,5 +20,6 @@ pub use cache_fault::CacheFault;
 pub use event::Event;
 pub use outcome::Outcome;
 pub use proving::{answer, prove};
+pub use replying::reply;
 pub use shared_cache::{CacheSeat, SharedCache};
 pub use worker_core::{SLOTS, WorkerCore};

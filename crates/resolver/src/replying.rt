@@ -13,8 +13,8 @@ use dnswire::Question;
 use record_store::Store;
 use reply_core::{ReplyBuffer, write_reply};
 
-// Whether the records prove an answer at a moment, in seconds. Then the buffer holds the reply, and else it is empty.
-fn reply(store: &Store, question: &Question, now: u32, out: &mut ReplyBuffer) -> bool
+/// Whether the records prove an answer at a moment, in seconds. Then the buffer holds the reply, and else it is empty.
+pub fn reply(store: &Store, question: &Question, now: u32, out: &mut ReplyBuffer) -> bool
     ensures reply { MatchBool result
         (reply_in store.now question.now now ≡ Some out.new)
         ((reply_in store.now question.now now ≡ None) × (out.new ≡ [])) }

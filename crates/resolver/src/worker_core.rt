@@ -14,7 +14,8 @@ use std::marker::Model;
 /// How many queries can wait at once.
 pub const SLOTS: usize = 256;
 
-// How long a query waits, in seconds.
+// How long a query waits, in seconds. A late one keeps its slot until the next question is asked: until then its answer
+// still goes to its client.
 const PATIENCE: u32 = 5;
 
 /// A table of 256 slots, each with a turn and perhaps a query that waits, seen as the list of the slots.

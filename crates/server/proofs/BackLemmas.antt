@@ -6,17 +6,12 @@ use Rattle.std.proofs.lemmas.List.{append-nil}
 use Rattle.std.proofs.lemmas.List.Elements.{All-nil, All-cons}
 use Rattle.std.proofs.lemmas.List.Sums.{sum_by-append, sum_by-cons}
 use Rattle.std.proofs.lemmas.Slice.Zip.{all_zipped_more}
+use Rattle.std.proofs.lemmas.Option.{none-some, same_Some}
 use Rattle.outside_core.specs.Fault.{Rose}
 use Rattle.outside_core.specs.Returned.{Returned, TellsAtMost, returned_of, then_returned}
 use Rattle.outside_core.specs.declared.datagram.Datagram.{Datagram}
 use Rattle.server.specs.Back.{CameBack, Unfailed}
 use Rattle.server.specs.Sight.{Sight, AreBack, IsCounted, faults_of, returned}
-
-pub none_some : {X : Type 0} {x : X} → None ≡ Some x → ⊥
-none_some same = cc
-
-pub some_same : {X : Type 0} {x y : X} → Some x ≡ Some y → x ≡ y
-some_same same = cc
 
 -- ---- one link
 
@@ -29,10 +24,10 @@ pub record IsShown (port upstream : ℕ) (received sent : Option (List Datagram)
   pub faults_are : back.faults ≡ faults
 
 pub shown : (port upstream : ℕ) (received sent : Option (List Datagram)) (faults : ℕ) (back : Returned) → returned_of port upstream received sent faults ≡ Some back → IsShown port upstream received sent faults back
-shown port upstream None sent faults back is = absurd (none_some is)
-shown port upstream (Some came) None faults back is = absurd (none_some is)
+shown port upstream None sent faults back is = absurd (none-some _ is)
+shown port upstream (Some came) None faults back is = absurd (none-some _ is)
 shown port upstream (Some came) (Some went) faults back is =
-    let same = some_same is in
+    let same = same_Some _ _ is in
     record {
       port_is = sym (ap (λ (b : Returned). b.port) same);
       upstream_is = sym (ap (λ (b : Returned). b.upstream) same);
@@ -48,12 +43,12 @@ none_back None = tt
 none_back (Some all) = (all, [], refl, sym (append-nil all), tt)
 
 then_one : (was all : List Returned) (link : Option Returned) → option_map (λ one. was ++ one ∷ []) link ≡ Some all → (one : Returned) × (link ≡ Some one) × (all ≡ was ++ one ∷ [])
-then_one was all None is = absurd (none_some is)
-then_one was all (Some one) is = (one, refl, sym (some_same is))
+then_one was all None is = absurd (none-some _ is)
+then_one was all (Some one) is = (one, refl, sym (same_Some _ _ is))
 
 pub one_back : (before now after : Option (List Returned)) (links : List Sight) (link : Sight) → CameBack before now (AreBack links) → TellsAtMost after (then_returned now (returned link)) → CameBack before after (AreBack (links ++ link ∷ []))
 one_back before now None links link came more = tt
-one_back before None (Some all) links link came more = absurd (none_some more)
+one_back before None (Some all) links link came more = absurd (none-some _ more)
 one_back before (Some was) (Some all) links link came more =
     let one = then_one was all (returned link) more in (
       came.0,

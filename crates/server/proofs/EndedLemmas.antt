@@ -1,11 +1,10 @@
 -- What all workers leave, put together.
-use Rattle.std.proofs.Common.{◌≡◌, ℕ, zero, suc, ◌+◌, ◌<◌, ◌≤◌, Bool, true, false, ◌||◌, cond, List, [], ◌∷◌, ◌++◌, length, map, get_or, refl, sym, ◌∙◌, ap, subst, arith}
-use Rattle.std.specs.Prelude.{Option, Result, Ok, Err, IfOk}
-use denote.Param.Members.{Shared}
-use Rattle.std.specs.Fork.{GivesJobs}
+use Rattle.std.proofs.Common.{◌≡◌, ℕ, suc, ◌+◌, ◌<◌, ◌≤◌, Bool, true, false, ◌||◌, cond, List, [], ◌∷◌, ◌++◌, length, map, get_or, refl, sym, ◌∙◌, ap, subst, arith}
+use Rattle.std.specs.Prelude.{Option, Result, Ok, IfOk}
 use Rattle.std.specs.List.{All, count_by}
-use Rattle.std.proofs.lemmas.List.{length-map, map-append}
+use Rattle.std.proofs.lemmas.List.{length-map, map-append, get_or-map}
 use Rattle.std.proofs.lemmas.List.Sums.{sum_by-append, sum_by-cons}
+use Rattle.facts.proofs.Lists.{some_of}
 use Rattle.denial_records.specs.declared.batch.Batch.{Batch}
 use Rattle.cache_meaning.specs.Held.{Held}
 use Rattle.cache_versions.specs.declared.state.State.{Ghosts}
@@ -17,32 +16,11 @@ use Rattle.server.specs.Watch.{AreParts, HasEnded, HasWatched, HaveEnded, Tells}
 
 -- ---- lists
 
-pub if_ok_weaker : {T E : Type 0} (P Q : T → Type 0) (r : Result T E) → IfOk r P → ((x : T) → P x → Q x) → IfOk r Q
-if_ok_weaker P Q (Ok x) p f = f x p
-if_ok_weaker P Q (Err e) p f = tt
-
-pub map_at : {X Y : Type 0} (f : X → Y) (xs : List X) (k : ℕ) (d : Y) (e : X) → k < length xs → get_or (map f xs) k d ≡ f (get_or xs k e)
-map_at f [] k d e lt = absurd (omega arith)
-map_at f (x ∷ xs) zero d e lt = refl
-map_at f (x ∷ xs) (suc k) d e lt = map_at f xs k d e (omega arith)
-
--- a list with a place has an element
-pub some_of : {X : Type 0} (xs : List X) (k : ℕ) → k < length xs → X
-some_of [] k lt = absurd (omega arith)
-some_of (x ∷ xs) k lt = x
-
--- what each job gave, by what any job gives
-pub gives_each : {F J R : Type 0} (g : Shared F (J × Unit {0}) R) (f : F) (Q : J → R → Type 0) → ((j : J) (r : R) → g.post f (j, tt) r → Q j r) → (js : List J) (rs : List R) → GivesJobs g f js rs
-    → (k : ℕ) (d : R) (e : J) → k < length js → Q (get_or js k e) (get_or rs k d)
-gives_each g f Q says js rs gives k d e lt =
-    let one = (gives k d lt).1 in
-    subst (λ j. Q j (get_or rs k d)) (sym (one.job_is e)) (says one.job (get_or rs k d) one.call.met)
-
 -- what holds of each of a list holds of each that it was made of
 pub all_of_map : {X Y : Type 0} (P : Y → Type 0) (f : X → Y) (xs : List X) (ys : List Y) → map f xs ≡ ys → All P ys → (k : ℕ) (d : X) → k < length xs → P (f (get_or xs k d))
 all_of_map P f xs ys are all k d lt =
     let long : length xs ≡ length ys = sym (length-map xs f) ∙ ap length are in
-    subst P (sym (ap (λ l. get_or l k (f d)) are) ∙ map_at f xs k (f d) d lt) (all k (f d) (omega (arith, lt, long)))
+    subst P (sym (ap (λ l. get_or l k (f d)) are) ∙ get_or-map f xs k d (f d) lt) (all k (f d) (omega (arith, lt, long)))
 
 -- ---- flags
 
@@ -129,7 +107,7 @@ module _ {g : Ghosts Held Batch (Unit {0})} {P J F : Type 0} (seat_of : P → Se
       let parts_many : length parts ≡ length jobs = sym (length-map parts (λ p. Ok p)) ∙ sym (ap length all.are) ∙ many in
       let one : (k : ℕ) (p : P) (e : J) → k < length parts → HasEnded cache datagrams moment (seat_for (get_or jobs k e)) (seat_of (get_or parts k p)) (link_for (get_or jobs k e)) (link_of (get_or parts k p)) (failed_of (get_or parts k p)) =
       λ k p e lt. subst (λ r. IfOk r (λ p. HasEnded cache datagrams moment (seat_for (get_or jobs k e)) (seat_of p) (link_for (get_or jobs k e)) (link_of p) (failed_of p)))
-      (ap (λ l. get_or l k (Ok p)) all.are ∙ map_at (λ p. Ok p) parts k (Ok p) p lt) (each k (Ok p) e (omega (arith, lt, parts_many))) in
+      (ap (λ l. get_or l k (Ok p)) all.are ∙ get_or-map (λ p. Ok p) parts k p (Ok p) lt) (each k (Ok p) e (omega (arith, lt, parts_many))) in
       record {
         seats = ap length all.seats_are ∙ length-map parts seat_of ∙ parts_many ∙ sym (length-map jobs seat_for) ∙ ap length seats_are;
         all = ap length all.links_are ∙ length-map parts link_of ∙ parts_many ∙ sym (length-map jobs link_for) ∙ ap length links_are;
@@ -137,16 +115,16 @@ module _ {g : Ghosts Held Batch (Unit {0})} {P J F : Type 0} (seat_of : P → Se
             let lt' : k < length parts = omega (arith, lt, ap length all.seats_are, length-map parts seat_of) in
             let p = some_of parts k lt' in
             let j = some_of jobs k (omega (arith, lt', parts_many)) in
-            subst (IsSeatOf cache) (sym (ap (λ l. get_or l k d) all.seats_are ∙ map_at seat_of parts k d p lt')) (one k p j lt').object;
+            subst (IsSeatOf cache) (sym (ap (λ l. get_or l k d) all.seats_are ∙ get_or-map seat_of parts k p d lt')) (one k p j lt').object;
         each = λ k d d' e e' lt.
             let inside : k < length jobs = omega (arith, lt, ap length links_are, length-map jobs link_for) in
             let lt' : k < length parts = omega (arith, inside, parts_many) in
             let p = some_of parts k lt' in
             let j = some_of jobs k inside in
-            let seat : seat_for (get_or jobs k j) ≡ get_or before k d = sym (map_at seat_for jobs k d j inside) ∙ ap (λ l. get_or l k d) seats_are in
-            let seat' : seat_of (get_or parts k p) ≡ get_or after k d' = sym (ap (λ l. get_or l k d') all.seats_are ∙ map_at seat_of parts k d' p lt') in
-            let link : link_for (get_or jobs k j) ≡ get_or links k e = sym (map_at link_for jobs k e j inside) ∙ ap (λ l. get_or l k e) links_are in
-            let link' : link_of (get_or parts k p) ≡ get_or links' k e' = sym (ap (λ l. get_or l k e') all.links_are ∙ map_at link_of parts k e' p lt') in
+            let seat : seat_for (get_or jobs k j) ≡ get_or before k d = sym (get_or-map seat_for jobs k j d inside) ∙ ap (λ l. get_or l k d) seats_are in
+            let seat' : seat_of (get_or parts k p) ≡ get_or after k d' = sym (ap (λ l. get_or l k d') all.seats_are ∙ get_or-map seat_of parts k p d' lt') in
+            let link : link_for (get_or jobs k j) ≡ get_or links k e = sym (get_or-map link_for jobs k j e inside) ∙ ap (λ l. get_or l k e) links_are in
+            let link' : link_of (get_or parts k p) ≡ get_or links' k e' = sym (ap (λ l. get_or l k e') all.links_are ∙ get_or-map link_of parts k p e' lt') in
             watched_same cache datagrams moment (failed_of (get_or parts k p)) seat seat' link link' (one k p j lt');
         failed_is = λ new.
             subst (λ l. Tells failed (faults_of l)) (sym all.links_are)

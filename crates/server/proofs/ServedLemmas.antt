@@ -6,6 +6,8 @@ use Rattle.std.proofs.Math.Nat.{suc-mul}
 use Rattle.std.proofs.lemmas.List.{length-map}
 use Rattle.std.proofs.lemmas.List.Sums.{sum_by-cons}
 use Rattle.std.proofs.lemmas.Slice.Zip.{AllZip-long}
+use Rattle.std.proofs.lemmas.Option.{none-some, same_Some}
+use Rattle.facts.proofs.Lists.{some_of}
 use mathlib.Core.List.{IsPrefix}
 use Rattle.denial_records.specs.declared.batch.Batch.{Batch}
 use Rattle.cache_meaning.specs.Held.{Held}
@@ -23,14 +25,13 @@ use Rattle.serving.specs.Turn.{Turn}
 use Rattle.serving.specs.Worker.{Ends, HasFaults, HasServed, more_told}
 use Rattle.serving.specs.declared.serve_fault.ServeFault.{ServeFault}
 use Rattle.serving.specs.declared.serve_fault.ServeFault.TheVariants.{Link, OutOfMemory}
-use Rattle.serving.proofs.LinkLemmas.{links_serve, shift_of}
+use Rattle.serving.proofs.LinkLemmas.{links_serve, shift_of, rose_above}
 use Rattle.server.specs.declared.service.Service.{Service}
 use Rattle.server.specs.Back.{AllServed, AllServedWhole, CameBack, EndsEarly, IsAt, IsUnused, OneFailed, OneUnbound}
 use Rattle.server.specs.declared.serve_error.ServeError.TheVariants.{Harbor}
 use Rattle.server.specs.Sight.{Sight, AreBack, AreNew, IsCounted, IsNew, faults_of, returned}
 use Rattle.server.specs.Watch.{HasWatched, HaveEnded, HaveServed}
-use Rattle.server.proofs.BackLemmas.{all_unfailed, came_weaker, faults_back, none_some, rose_counted, shown, some_same}
-use Rattle.server.proofs.EndedLemmas.{some_of}
+use Rattle.server.proofs.BackLemmas.{all_unfailed, came_weaker, faults_back, rose_counted, shown}
 
 -- ---- lists
 
@@ -49,18 +50,14 @@ product_most (suc n) m small = let rest = product_most n m small in omega (arith
 -- ---- what a new link tells
 
 told_before : (told told' : Option (List Datagram)) (more after : List Datagram) → TellsNone told → told' ≡ more_told told more → told' ≡ Some after → told ≡ Some []
-told_before None told' more after none is tells = absurd (none_some (sym is ∙ tells))
+told_before None told' more after none is tells = absurd (none-some _ (sym is ∙ tells))
 told_before (Some before) told' more after none is tells = ap Some none
 
 nothing_told : (told : Option (List Datagram)) (after : List Datagram) → TellsNone told → told ≡ Some after → after ≡ []
-nothing_told None after none is = absurd (none_some is)
-nothing_told (Some before) after none is = sym (some_same is) ∙ none
+nothing_told None after none is = absurd (none-some _ is)
+nothing_told (Some before) after none is = sym (same_Some _ _ is) ∙ none
 
 -- ---- one worker
-
-rose_above : (faults : ℕ) → Rose 0 faults → 1 ≤ faults
-rose_above faults (inl more) = more
-rose_above faults (inr full) = absurd (omega (arith, full.0))
 
 all_turns : (datagrams faults : ℕ) (turns : List Turn) (lost went : List Datagram) (result : Result (Unit {0}) ServeFault) → (result ≡ Err OutOfMemory → ⊥) → HasFaults 0 faults result → Ends datagrams turns lost went result → faults ≡ 0 → length turns + length lost ≡ datagrams
 all_turns datagrams faults turns lost went (Ok done) memory counts ends none = omega (arith, ends.0, ap length ends.1)
@@ -99,7 +96,7 @@ module _ {g : Ghosts Held Batch (Unit {0})} where
   came_many : (datagrams port upstream : ℕ) (moment : Option ℕ) (before after : Seat Held Batch (Unit {0}) g) (back : Returned) (came : Came datagrams port upstream moment before after back)
       → length back.received ≡ length came.served.turns + length came.served.lost
   came_many datagrams port upstream moment before after back came =
-      let are = ap length (some_same came.served.received_are) in
+      let are = ap length (same_Some _ _ came.served.received_are) in
       let split = length-append (map (λ (t : Turn). t.datagram) came.served.turns) came.served.lost in
       omega (arith, are, split, length-map came.served.turns (λ (t : Turn). t.datagram))
 

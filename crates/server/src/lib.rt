@@ -15,6 +15,3 @@ mod watches;
 pub use forwarder::serve;
 pub use serve_error::ServeError;
 pub use service::Service;
-
-#[cfg(test)]
-mod tests;

@@ -7,6 +7,7 @@ use Rattle.std.specs.Prelude.{Result, Ok, Err}
 use Rattle.std.proofs.lemmas.List.{append-nil, length-map}
 use Rattle.std.proofs.lemmas.List.Elements.{All-nil, All-cons, All-head, All-tail}
 use Rattle.std.proofs.lemmas.List.Sums.{sum_by-cons}
+use Rattle.std.proofs.lemmas.Option.{same_Some}
 use mathlib.Core.List.{IsPrefix}
 use Rattle.denial_records.specs.declared.batch.Batch.{Batch}
 use Rattle.cache_meaning.specs.Held.{Held}
@@ -181,7 +182,7 @@ module _ (datagrams now : ℕ) (journal : List Batch) where
 
 -- ---- a worker's shift
 
-rose_above : (faults : ℕ) → Rose 0 faults → 1 ≤ faults
+pub rose_above : (faults : ℕ) → Rose 0 faults → 1 ≤ faults
 rose_above faults (inl more) = more
 rose_above faults (inr full) = absurd (omega (arith, full.0))
 
@@ -224,8 +225,8 @@ module _ {g : Ghosts Held Batch (Unit {0})} where
       → (served : HasServed datagrams (Some now) before after (Some []) (Some link.received) (Some []) (Some link.sent) result)
       → IsShift datagrams now journal link (record { seen = seen_by after; placed = places_by after; turns = served.turns })
   shift_of datagrams now journal before after link result other seen placed begins faults served =
-      let received : link.received ≡ map (λ turn. turn.datagram) served.turns ++ served.lost = some_same served.received_are in
-      let sent : link.sent ≡ served.went = some_same served.sent_are in
+      let received : link.received ≡ map (λ turn. turn.datagram) served.turns ++ served.lost = same_Some _ _ served.received_are in
+      let sent : link.sent ≡ served.went = same_Some _ _ served.sent_are in
       let both = sent_as datagrams link served.turns served.lost served.went result other faults received sent served.ends in
       let places : places_by after ≡ served.placed = served.places ∙ ap (λ l. l ++ served.placed) placed in
       record {
@@ -235,6 +236,3 @@ module _ {g : Ghosts Held Batch (Unit {0})} where
         received = both.0;
         sent = both.1;
       }
-    where
-      some_same : {X : Type 0} {x y : X} → Some x ≡ Some y → x ≡ y
-      some_same same = cc

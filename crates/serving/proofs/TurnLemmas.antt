@@ -1,11 +1,13 @@
 -- The turns of a worker, one after the other.
-use Rattle.std.proofs.Common.{◌≡◌, ℕ, zero, suc, ◌+◌, ◌-◌, ◌<◌, ◌≤◌, inl, inr, Bool, true, false, cond, List, [], ◌∷◌, ◌++◌, length, take, get_or, Option, None, Some, slice_get, refl, sym, ◌∙◌, ap, subst, arith, length-append}
+use Rattle.std.proofs.Common.{◌≡◌, ℕ, zero, suc, ◌+◌, ◌-◌, ◌<◌, ◌≤◌, inl, inr, Bool, true, false, cond, List, [], ◌∷◌, ◌++◌, length, get_or, Option, None, Some, slice_get, refl, sym, ◌∙◌, ap, subst, arith, length-append}
 use Rattle.std.specs.List.{flat_map}
 use Rattle.std.proofs.lemmas.Bool.{false≢true}
 use Rattle.std.proofs.lemmas.Grind.{flat_map-append}
-use Rattle.std.proofs.lemmas.List.{append-nil, take_all, take-append-le}
+use Rattle.std.proofs.lemmas.List.{append-nil, take_all}
 use Rattle.std.proofs.lemmas.List.Elements.{All-nil, All-push}
 use Rattle.std.proofs.lemmas.List.Quantifiers.{all_pairs_push}
+use Rattle.facts.proofs.Lists.{at_end}
+use Rattle.facts.proofs.Prefixes.{take_prefix}
 use mathlib.Core.List.{IsPrefix}
 use Rattle.denial_records.specs.declared.batch.Batch.{Batch}
 use Rattle.cache_meaning.specs.Held.{Held}
@@ -21,9 +23,6 @@ use Rattle.serving.specs.Round.{left_by}
 use Rattle.serving.specs.Turn.{Turn, AreTurns, AreTurnsOf, IsInTurn, IsKeptAt, IsTurn, places_of}
 
 -- ---- more batches
-
-take_prefix : (seen journal : List Batch) (n : ℕ) → IsPrefix seen journal → n ≤ length seen → take n seen ≡ take n journal
-take_prefix seen journal n begins within = sym (take-append-le n seen begins.0 within) ∙ ap (take n) begins.1
 
 kept_more : (seen journal : List Batch) (version : ℕ) (batch : Option Batch) (placed : Bool) → IsPrefix seen journal → IsKeptAt seen version batch placed → IsKeptAt journal version batch placed
 kept_more seen journal version None placed begins kept = kept
@@ -58,10 +57,6 @@ turns_within journal table (turn ∷ later) are (suc k) d lt = turns_within jour
 
 pub flat_push : {X A : Type 0} (f : X → List A) (xs : List X) (x : X) → flat_map f (xs ++ x ∷ []) ≡ flat_map f xs ++ f x
 flat_push f xs x = flat_map-append f xs (x ∷ []) ∙ ap (λ l. flat_map f xs ++ l) (append-nil (f x))
-
-at_end : (former : List Batch) (batch : Batch) → slice_get (former ++ batch ∷ []) (length former) ≡ Some batch
-at_end [] batch = refl
-at_end (other ∷ former) batch = at_end former batch
 
 module _ {g : Ghosts Held Batch (Unit {0})} where
   -- ---- a batch

@@ -8,7 +8,8 @@ use Rattle.dnswire.specs.declared.query_read.QueryRead.{QueryRead}
 use Rattle.dnswire.specs.declared.query_read.QueryRead.TheVariants as reads
 use Rattle.denial_records.specs.declared.batch.Batch.{Batch}
 use Rattle.cache_meaning.specs.Held.{held_of}
-use Rattle.intake.specs.Batch.{Gives, is_answer}
+use Rattle.dnswire.specs.Header.{is_answer}
+use Rattle.intake.specs.Batch.{Gives}
 use Rattle.intake.specs.declared.taken.Taken.{Taken}
 use Rattle.intake.specs.declared.intake_fault.IntakeFault.{IntakeFault}
 use Rattle.reply_core.specs.Answered.{reply_in}

@@ -1,12 +1,10 @@
 //! An upstream's answer.
 ghost use Rattle.std.specs.Prelude.{◌≡◌, ◌≤◌, IfOk, IfSome, OnOk};
 ghost use Rattle.dnswire.specs.declared.wire_fault.WireFault.{WireFault};
-ghost use Rattle.intake.specs.Batch.{is_answer};
 ghost use Rattle.reply_core.specs.declared.rcode.TheConstants.{MAX_RCODE};
 ghost use Rattle.serving.specs.Done.{IsAnswer};
 
 use dname::OutOfMemory;
-use dnswire::flags::QR;
 use dnswire::{Message, WireFault, read_message};
 use std::alloc::{AllocError, Global};
 
@@ -18,7 +16,7 @@ pub(crate) fn answer_in(alloc: Global, octets: &[u8]) -> Result<Option<Message>,
 {
     match read_message(alloc, octets) {
         Ok(message) => {
-            if is_answer(message.flags) {
+            if message.flags.is_answer() {
                 Ok(Some(message))
             } else {
                 Ok(None)
@@ -42,10 +40,4 @@ fn pass_over(fault: WireFault) -> Result<(), OutOfMemory>
         | WireFault::BadData { at: _ } => Ok(()),
         WireFault::OutOfMemory => Err(AllocError),
     }
-}
-
-fn is_answer(flags: u16) -> bool
-    ensures { result ≡ is_answer flags }
-{
-    flags / QR % 2 == 1 && flags / 0x800 % 16 == 0
 }

@@ -22,6 +22,3 @@ pub use laws::shifts_serve;
 pub use serve_fault::ServeFault;
 pub use why::Why;
 pub use worker::serve_worker;
-
-#[cfg(test)]
-mod tests;

@@ -20,6 +20,8 @@ use resolver::{CacheSeat, SharedCache, WorkerCore};
 use std::alloc::Global;
 use std::sync::Wait;
 
+// An upstream's answer may want memory, and then no other datagram may be left without its deed: so it comes alone.
+
 /// Waits for a datagram. Behind a client's come those of clients that have come already, so many in all at most, as far as
 /// there is room. How many these are.
 pub(crate) fn receive_some<R: Wait, L: Link>(

@@ -2,6 +2,7 @@
 use Rattle.std.proofs.Common.{◌≡◌, ℕ, List, [], ◌∷◌, map, Some, refl}
 use Rattle.std.specs.List.{All}
 use Rattle.std.proofs.lemmas.List.Elements.{All-nil, All-cons, All-map}
+use Rattle.facts.proofs.Lists.{all_one}
 use Rattle.dname.specs.Name.{Label}
 use Rattle.dname.specs.declared.types.TheConstants.{IN_CLASS}
 use Rattle.denial_records.specs.Proof.{Proof}
@@ -21,11 +22,8 @@ use Rattle.soundness.specs.Examples.{kept_set, kept_nsec, came, IsWorked, denied
 use Rattle.soundness.specs.HashedExamples.{hashed_denied, hashed_answered}
 use Rattle.soundness.proofs.QueryLemmas.{outcome_sound}
 
-pub one_holds : {X : Type 0} (P : X → Type 0) (x : X) → P x → All P (x ∷ [])
-one_holds P x is = All-cons P x [] is (All-nil P)
-
 pub two_hold : {X : Type 0} (P : X → Type 0) (x y : X) → P x → P y → All P (x ∷ y ∷ [])
-two_hold P x y is is' = All-cons P x (y ∷ []) is (one_holds P y is')
+two_hold P x y is is' = All-cons P x (y ∷ []) is (all_one P y is')
 
 abbrev pub Proves : List Record → List Label → ℕ → Proof → Type 0
 Proves records name qtype proof = outcome_of (held_of (came records ∷ [])) 1060 name qtype IN_CLASS ≡ Some proof

@@ -2,17 +2,16 @@
 use Rattle.std.proofs.Common.{◌≡◌, ℕ, Bool, true, false, List, [], ◌∷◌, Option, None, Some, refl, sym, ◌∙◌, subst, ap}
 use Rattle.std.specs.Prelude.{◌&&◌, ◌==◌, nat_lt, if◌then◌else◌}
 use Rattle.std.specs.List.{Contains}
-use Rattle.std.specs.Str.{bytes_eq}
 use Rattle.std.specs.Option.{option_or}
 use Rattle.std.specs.Ordering.{nat_cmp}
 use Rattle.std.specs.Cmp.Lexicographic.{slice_cmp}
 use Rattle.std.proofs.lemmas.Bool.{and_parts}
 use Rattle.std.proofs.lemmas.Bool.Decides.{Decides-eqb}
 use Rattle.std.proofs.lemmas.Option.{none-some, same_Some}
-use Rattle.std.proofs.lemmas.Slice.Eq.{bytes_eq-Decides}
 use Rattle.dname.specs.Name.{Label, canonical_cmp}
 use Rattle.dname.specs.Tests.{same_name}
 use Rattle.dname.specs.Arc.{arc_has}
+use Rattle.dname.proofs.SameLemmas.{same_name_decides}
 use Rattle.denial_records.specs.declared.set_rec.SetRec.{SetRec}
 use Rattle.denial_records.specs.declared.nsec_rec.NsecRec.{NsecRec}
 use Rattle.denial_records.specs.declared.nsec3_rec.Nsec3Rec.{Nsec3Rec}
@@ -21,9 +20,9 @@ use Rattle.denial_records.specs.declared.record.Record.TheVariants.{Set, Nsec, N
 use Rattle.cache_meaning.specs.Held.{Held, HashParameters, same_parameters, parameters_of}
 use Rattle.cache_meaning.specs.Zones.{first_of, as_set_at, set_at, as_nsec_at, nsec_at, as_nsec3_at, nsec3_at}
 use Rattle.cache_meaning.specs.Evidence.{usable_set, nsec_for, speaks_of, nsec3_for, hash_by}
+use Rattle.cache_meaning.proofs.ChainLemmas.{parameters_equal}
 use Rattle.soundness.specs.Sound.{IsUsable}
 use Rattle.soundness.proofs.TestLemmas.{if_then, first_is, that_is}
-use Rattle.soundness.proofs.TypeLemmas.{same_name_decides}
 
 -- ---- the first of several
 
@@ -192,13 +191,6 @@ one_nsec3 held apex parameters hash other = same_first HasHashedArc (as_nsec3_at
     (λ a b x y is is' same. nsec3_as apex parameters other hash a b y x is is' (sym same.0, sym same.1))
     held.records
 
-same_chain : (one other : HashParameters) → same_parameters one other ≡ true → one ≡ other
-same_chain one other test =
-    let both = and_parts (bytes_eq one.salt other.salt) (one.iterations == other.iterations) test in
-    let salt = (bytes_eq-Decides one.salt other.salt).0 both.0 in
-    let iterations = (Decides-eqb one.iterations other.iterations).0 both.1 in
-    λ i. record { salt = salt i; iterations = iterations i }
-
 -- the record of the chain that speaks of the name
 pub record Nsec3Speaks (held : Held) (now : ℕ) (apex : List Label) (parameters : HashParameters) (name : List Label) (nsec3 : Nsec3Rec) : Type 0 where
   pub usable : IsUsable held now (Nsec3 nsec3)
@@ -216,6 +208,6 @@ nsec3_found held now apex parameters name nsec3 is =
       usable = record { there = subst (Contains held.records) taken.0 item.1; usable = found.1 };
       first = found.0;
       of_zone = (same_name_decides nsec3.zone apex).0 taken.1.of_zone;
-      of_chain = same_chain (parameters_of nsec3) parameters taken.1.of_chain;
+      of_chain = parameters_equal (parameters_of nsec3) parameters taken.1.of_chain;
       has = taken.1.has;
     }

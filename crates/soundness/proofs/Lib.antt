@@ -3,7 +3,7 @@ mod FoundLemmas
 mod HashFacts
 mod NsecLemmas
 mod Nsec3Lemmas
-mod OnceLemmas
+pub mod OnceLemmas
 pub mod QueryLemmas
 pub mod SoundLemmas
 mod TestLemmas

@@ -6,7 +6,7 @@ use Rattle.std.specs.Option.{option_or, option_map, option_and_then}
 use Rattle.std.specs.Str.{bytes_eq}
 use Rattle.std.specs.Cmp.Lexicographic.{nat_list_cmp_total}
 use Rattle.std.specs.FinMap.{slice_cmp-IsAntisymmetric, nat_cmp-IsAntisymmetric}
-use Rattle.std.proofs.lemmas.Bool.{and_parts}
+use Rattle.std.proofs.lemmas.Bool.{and_parts, not-true}
 use Rattle.std.proofs.lemmas.Option.{none-some, option_and_then_some}
 use Rattle.std.proofs.lemmas.Slice.Eq.{bytes_eq-Decides}
 use Rattle.std.proofs.lemmas.List.Elements.{All-nil, All-cons, All-head, All-tail, All-map}
@@ -15,7 +15,7 @@ use Rattle.dname.specs.Tests.{is_under, each_once}
 use Rattle.dname.specs.Arc.{IsInside}
 use Rattle.dname.specs.declared.types.TheConstants.{DS_TYPE}
 use Rattle.dname.proofs.ArcLemmas.{inside_arc}
-use Rattle.encloser.proofs.UnderLemmas.{under_decides, under_itself, under_through}
+use Rattle.dname.proofs.UnderLemmas.{under_decides, under_itself, under_through}
 use Rattle.denial_records.specs.Proof.{Proof}
 use Rattle.denial_records.specs.declared.nsec3_rec.Nsec3Rec.{Nsec3Rec}
 use Rattle.denial_records.specs.declared.record.Record.{Record}
@@ -33,7 +33,7 @@ use Rattle.cache_meaning.specs.Nsec3Steps as steps
 use Rattle.soundness.specs.True.{set_part, nsec3_part, IsTrueOf, IsClashFreeFor}
 use Rattle.soundness.specs.Sound.{IsUsable}
 use Rattle.soundness.specs.Steps.{IsAsked, IsNextCloserCover, IsEncloserMatch}
-use Rattle.soundness.proofs.TestLemmas.{if_then, if_else, either_of, is_false, mapped, not_both}
+use Rattle.soundness.proofs.TestLemmas.{if_then, if_else, either_of, mapped, not_both}
 use Rattle.soundness.proofs.TypeLemmas.{denies_type, denies_synthesis, hands_nothing_on}
 use Rattle.soundness.proofs.OnceLemmas.{all_once, all_unmapped, all_of_once}
 use Rattle.soundness.proofs.FoundLemmas.{usable_set_found, Nsec3Speaks, nsec3_found, one_nsec3}
@@ -58,7 +58,7 @@ module _ (held : Held) (now : ℕ) (apex : List Label) (parameters : HashParamet
       (speaking.has, λ same. not_both (nsec3_matches parameters nsec3 name) both.0 ((bytes_eq-Decides nsec3.hash (hash_by parameters name)).1 (sym same))) in
       record {
         inside = subst (IsInside hash_cmp nsec3.hash nsec3.next) (sym hashed) inside;
-        no_opt_out = is_false nsec3.opt_out both.1;
+        no_opt_out = not-true nsec3.opt_out both.1;
       }
 
   shows_is : steps.shows_encloser parameters apex name nsec3 ≡ true → IsOpenEncloser (nsec3_part nsec3) name

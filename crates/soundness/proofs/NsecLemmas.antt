@@ -13,9 +13,10 @@ use Rattle.dname.specs.Arc.{IsInside}
 use Rattle.dname.specs.Order.{canonical_total, canonical_equal}
 use Rattle.dname.specs.declared.types.TheConstants.{NS_TYPE, DNAME_TYPE, DS_TYPE}
 use Rattle.dname.proofs.ArcLemmas.{inside_arc}
+use Rattle.dname.proofs.SameLemmas.{same_name_decides}
+use Rattle.dname.proofs.UnderLemmas.{under_decides}
 use Rattle.encloser.specs.Encloser.{encloser_of}
 use Rattle.encloser.proofs.EncloserLemmas.{encloser_is}
-use Rattle.encloser.proofs.UnderLemmas.{under_decides}
 use Rattle.denial_records.specs.Proof.{Proof}
 use Rattle.denial_records.specs.declared.set_rec.SetRec.{SetRec}
 use Rattle.denial_records.specs.declared.nsec_rec.NsecRec.{NsecRec}
@@ -35,7 +36,7 @@ use Rattle.soundness.specs.True.{set_part, nsec_part, IsTrueOf}
 use Rattle.soundness.specs.Sound.{IsUsable}
 use Rattle.soundness.specs.Steps.{IsAsked, IsCover}
 use Rattle.soundness.proofs.TestLemmas.{if_then, if_else, either_of, mapped, not_both}
-use Rattle.soundness.proofs.TypeLemmas.{same_name_decides, denies_type, denies_synthesis, hands_nothing_on}
+use Rattle.soundness.proofs.TypeLemmas.{denies_type, denies_synthesis, hands_nothing_on}
 use Rattle.soundness.proofs.OnceLemmas.{all_once, all_unmapped, all_of_once}
 use Rattle.soundness.proofs.FoundLemmas.{SetAt, usable_set_found, NsecSpeaks, nsec_found, one_nsec}
 use Rattle.soundness.proofs.SoundLemmas.{IsProved, answer_is_sound, denial_is_sound}

@@ -9,7 +9,7 @@ use Rattle.std.proofs.lemmas.List.Elements.{All-nil, All-cons, All-weaker}
 use Rattle.dname.specs.Name.{Label, IsUnder}
 use Rattle.dname.specs.Tests.{same_name}
 use Rattle.dname.specs.declared.types.TheConstants.{DS_TYPE, IN_CLASS, RRSIG_TYPE, NSEC_TYPE, NSEC3_TYPE}
-use Rattle.encloser.proofs.UnderLemmas.{under_itself, under_longer, under_is_longer}
+use Rattle.dname.proofs.UnderLemmas.{under_itself, under_longer, under_is_longer}
 use Rattle.denial_records.specs.Proof.{Proof}
 use Rattle.zone_meaning.specs.Zone.{IsProofType}
 use Rattle.zone_meaning.specs.Lookup.{LooksUp, Answer}

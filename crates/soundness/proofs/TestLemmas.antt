@@ -6,7 +6,7 @@ use Rattle.std.specs.Option.{option_or, option_map}
 use Rattle.std.proofs.lemmas.Bool.{false≢true}
 use Rattle.std.proofs.lemmas.Option.{none-some, same_Some}
 use Rattle.std.proofs.lemmas.List.Elements.{All-head, All-tail}
-use Rattle.zone_meaning.proofs.ZoneTests.{here, later}
+use Rattle.facts.proofs.Lists.{here, there}
 use Rattle.cache_meaning.specs.Zones.{first_of}
 use Rattle.cache_meaning.specs.Evidence.{that}
 
@@ -17,10 +17,6 @@ if_then false o y is = absurd (none-some y is)
 pub if_else : {T : Type 0} (b : Bool) (o : Option T) (y : T) → (if b then None else o) ≡ Some y → (b ≡ false) × (o ≡ Some y)
 if_else true o y is = absurd (none-some y is)
 if_else false o y is = (refl, is)
-
-pub is_false : (b : Bool) → not b ≡ true → b ≡ false
-is_false false is = refl
-is_false true is = absurd (false≢true is)
 
 pub not_both : (b : Bool) → not b ≡ true → b ≡ true → ⊥
 not_both true no' is = false≢true no'
@@ -49,7 +45,7 @@ first_is {A} {B} choose (x ∷ xs) y is = by (either_of (choose x) (first_of cho
   where
     by : (choose x ≡ Some y) ⊎ (first_of choose xs ≡ Some y) → (first_of choose xs ≡ Some y → (z : A) × Contains xs z × (choose z ≡ Some y)) → (z : A) × Contains (x ∷ xs) z × (choose z ≡ Some y)
     by (inl now) more = (x, here x xs, now)
-    by (inr after) more = let found = more after in (found.0, later x xs found.0 found.1, found.2)
+    by (inr after) more = let found = more after in (found.0, there x xs found.0 found.1, found.2)
 
 pub find_is : {A : Type 0} (P : A → Type 0) (test : A → Bool) (xs : List A) (x : A) → All P xs → find test xs ≡ Some x → P x
 find_is P test [] x all is = absurd (none-some x is)

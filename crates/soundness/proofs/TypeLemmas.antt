@@ -2,25 +2,21 @@
 use Rattle.std.proofs.Common.{◌≡◌, ℕ, true, List, [], ◌∷◌, ◌⊎◌, inl, inr, ⊎_elim}
 use Rattle.std.specs.Prelude.{◌&&◌, ◌||◌, ◌==◌}
 use Rattle.std.specs.List.{Contains}
-use Rattle.std.specs.Bool.{Decides}
-use Rattle.std.specs.Cmp.Lexicographic.{pointwise_decides, bytes_decides}
 use Rattle.std.proofs.lemmas.Bool.{and_parts, or_cases, or_left, or_right}
 use Rattle.std.proofs.lemmas.Bool.Decides.{Decides-eqb}
+use Rattle.facts.proofs.Lists.{here_or_there, nothing_in}
 use Rattle.dname.specs.Name.{Label}
 use Rattle.dname.specs.Tests.{same_name}
+use Rattle.dname.proofs.SameLemmas.{name_equal}
 use Rattle.dname.specs.declared.types.TheConstants.{NS_TYPE, CNAME_TYPE, DNAME_TYPE, DS_TYPE}
 use Rattle.zone_meaning.specs.Zone.{IsProofType}
 use Rattle.zone_meaning.specs.Denial.{DeniesType, DeniesSynthesis}
-use Rattle.zone_meaning.proofs.ZoneTests.{first_or_later, nowhere}
 use Rattle.cache_meaning.specs.Evidence.{has_type, lacks_type, deny_type, deny_type_below, hand_nothing_on}
 use Rattle.soundness.proofs.TestLemmas.{not_both}
 
-pub same_name_decides : (x y : List Label) → Decides (same_name x y) (x ≡ y)
-same_name_decides x y = pointwise_decides bytes_decides x y
-
 member_has : (types : List ℕ) (rtype : ℕ) → Contains types rtype → has_type types rtype ≡ true
-member_has [] rtype member = absurd (nowhere rtype member)
-member_has (x ∷ types) rtype member = by (first_or_later x types rtype member) (member_has types rtype)
+member_has [] rtype member = absurd (nothing_in rtype member)
+member_has (x ∷ types) rtype member = by (here_or_there x types rtype member) (member_has types rtype)
   where
     by : (x ≡ rtype) ⊎ Contains types rtype → (Contains types rtype → has_type types rtype ≡ true) → has_type (x ∷ types) rtype ≡ true
     by (inl same) others = or_left (x == rtype) (has_type types rtype) ((Decides-eqb x rtype).1 same)
@@ -40,7 +36,7 @@ denies_type types apex name qtype ordinary test =
       side = λ member apart. ⊎_elim
           (λ no_ns. absurd (lacks types NS_TYPE no_ns member))
           (λ more. ⊎_elim
-          (λ same. absurd (apart ((same_name_decides name apex).0 same)))
+          (λ same. absurd (apart (name_equal name apex same)))
           (λ ds. (Decides-eqb qtype DS_TYPE).0 ds)
           (or_cases (same_name name apex) (qtype == DS_TYPE) more))
           (or_cases (lacks_type types NS_TYPE) at_cut others.1);
@@ -66,6 +62,6 @@ hands_nothing_on types apex name test =
       lacks types DNAME_TYPE both.0,
       λ member. ⊎_elim
           (λ no_ns. absurd (lacks types NS_TYPE no_ns member))
-          (λ same. (same_name_decides name apex).0 same)
+          (λ same. name_equal name apex same)
           (or_cases (lacks_type types NS_TYPE) (same_name name apex) both.1),
     )

@@ -1,4 +1,4 @@
--- What the NSEC record that speaks of a name says of it.
+-- No public clause cites this module: what the NSEC record that speaks of a name says of it.
 use Rattle.std.specs.Prelude.{List, IsTrue}
 use Rattle.dname.specs.Name.{Label}
 use Rattle.denial_records.specs.declared.nsec_rec.NsecRec.{NsecRec}

@@ -1,4 +1,4 @@
--- An NSEC3 chain of a zone at a moment.
+-- No public clause cites this module: an NSEC3 chain of a zone at a moment.
 use Rattle.std.specs.Prelude.{ℕ, List, Option}
 use Rattle.dname.specs.Name.{Label}
 use Rattle.denial_records.specs.declared.nsec3_rec.Nsec3Rec.{Nsec3Rec}

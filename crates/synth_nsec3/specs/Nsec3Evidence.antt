@@ -1,4 +1,4 @@
--- What the NSEC3 record that speaks of a name says of it.
+-- No public clause cites this module: what the NSEC3 record that speaks of a name says of it.
 use Rattle.std.specs.Prelude.{◌≡◌, List, IsTrue, IfSome, false, Option}
 use Rattle.std.specs.Option.{option_map}
 use Rattle.dname.specs.Name.{Label}

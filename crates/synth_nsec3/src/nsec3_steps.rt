@@ -1,7 +1,6 @@
 ghost use Rattle.std.specs.Prelude.{◌≡◌, ◌∷◌, IfSome, IsTrue, if◌then◌else◌, Some, None};
 ghost use Rattle.std.specs.Option.{option_or, option_and_then};
 ghost use Rattle.dname.specs.Name.{Label, asterisk};
-ghost use Rattle.dname.specs.Tests.{is_under};
 ghost use Rattle.cache_meaning.specs.Lent.{parameters_by};
 ghost use Rattle.cache_meaning.specs.Evidence.{nsec3_matches, nsec3_covers};
 ghost use Rattle.cache_meaning.specs.Nsec3Steps.{no_data_by_match, shows_encloser, no_data_by_wildcard, name_error, denial_at_source, denial_below, by_cover, by_enclosers, nsec3_proof};
@@ -16,6 +15,7 @@ use crate::nsec3_evidence::{Asked, Nsec3Evidence};
 use crate::nsec3s_once::nsec3s_once;
 use denial_records::KeptNsec3;
 use dname::Name;
+use encloser::{Ancestors, next_closer};
 use record_store::ZoneRef;
 use soundness::each_nsec3_proof_is_sound;
 use synth_nsec::{
@@ -95,8 +95,8 @@ fn no_data_by_match<'a>(
     }
 }
 
-// By the ancestors of the name, each as the encloser of the name that is a label longer. What was found of the one is what
-// the next turn asks of.
+// By the ancestors of the name, each as the encloser of its next closer name. What was found of the one is what the next
+// turn asks of.
 fn by_enclosers<'a>(
     chain: &HashedChain<'_, 'a>,
     name: &Name,
@@ -108,17 +108,16 @@ fn by_enclosers<'a>(
         ≡ by_enclosers chain.now.held chain.now.moment chain.now.apex chain.now.parameters qtype
         name.now }
 {
-    let mut next_closer = name.copy();
+    if !name.is_under(chain.apex()) {
+        return None;
+    }
     let mut asked = Asked::Before(evidence);
-    while let Some(encloser) = next_closer.parent() {
-        if !is_under(&encloser, chain.apex()) {
-            return None;
-        }
-        let (proof, of_encloser) = at_encloser(chain, qtype, &next_closer, &encloser, asked);
+    for encloser in Ancestors::of(name, chain.apex()) {
+        let closer = next_closer(name, &encloser);
+        let (proof, of_encloser) = at_encloser(chain, qtype, &closer, &encloser, asked);
         if let Some(proof) = proof {
             return Some(proof);
         }
-        next_closer = encloser;
         asked = of_encloser;
     }
     None
@@ -313,10 +312,4 @@ fn no_data_by_wildcard<'a>(
     } else {
         None
     }
-}
-
-fn is_under(name: &Name, other: &Name) -> bool
-    ensures { result ≡ is_under name.now other.now }
-{
-    name.is_under(other)
 }

@@ -8,7 +8,7 @@ use Rattle.atomic_table.specs.Table.{State, step, Act, keeps, takes, gives, step
 use Rattle.atomic_table.proofs.Lists.{at_set, set_here, at_snoc}
 use Rattle.tied_lock.specs.Rule.{AtHomeWhileFree, sat, grabbed}
 
-word_set : (ws : List ℕ) (n : ℕ) → length ws ≡ 1 → slice_index (set ws 0 n) 0 ≡ n
+pub word_set : (ws : List ℕ) (n : ℕ) → length ws ≡ 1 → slice_index (set ws 0 n) 0 ≡ n
 word_set [] n e = absurd (omega arith)
 word_set (x ∷ xs) n e = refl
 

@@ -1,4 +1,4 @@
--- The rule of the table, and what its steps tell. A seat's view is the key.
+-- No public clause cites this module: the rule of the table, and what its steps tell. A seat's view is the key.
 use Rattle.std.specs.Prelude.{◌≡◌, ◌≢◌, ℕ, ◌∷◌, length, slice_index, Option, Some}
 use mathlib.Core.Option.{some}
 use lib.ListN.{get_elem?}

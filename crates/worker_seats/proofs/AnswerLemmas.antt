@@ -1,7 +1,7 @@
 -- An answer over batches that were seen is one over all that were placed; and what a frame has placed.
 use Rattle.std.proofs.Common.{◌≡◌, ℕ, ◌<◌, ◌≤◌, ◌⊎◌, inl, inr, true, false, List, length, take, Option, None, Some, refl, sym, ◌∙◌, ap, arith}
 use Rattle.std.proofs.lemmas.Bool.{false≢true}
-use Rattle.std.proofs.lemmas.List.{take-append-le}
+use Rattle.facts.proofs.Prefixes.{take_prefix}
 use mathlib.Core.List.{IsPrefix}
 use Rattle.denial_records.specs.declared.batch.Batch.{Batch}
 use Rattle.intake.specs.Batch.{IsTaken}
@@ -23,9 +23,6 @@ use Rattle.worker_seats.specs.Answer.{LAST, IsSpent, IsAnswered, spent_output}
 use Rattle.worker_seats.specs.OneFrame.{HasPlacedAtMost}
 
 -- ---- more batches
-
-take_prefix : (seen journal : List Batch) (n : ℕ) → IsPrefix seen journal → n ≤ length seen → take n seen ≡ take n journal
-take_prefix seen journal n begins within = sym (take-append-le n seen begins.0 within) ∙ ap (take n) begins.1
 
 says_more : (seen journal : List Batch) (input : Input) (step : Step) (output : Output) → IsPrefix seen journal → IsOutputOf seen input step output → IsOutputOf journal input step output
 says_more seen journal input (Query question) output begins (version, within, is) = (

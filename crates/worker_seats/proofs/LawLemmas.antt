@@ -4,8 +4,9 @@ use Rattle.std.specs.List.{All, AllZip, AllPairs, flat_map, count_by}
 use Rattle.std.proofs.lemmas.Bool.Decides.{nat_tests}
 use Rattle.std.proofs.lemmas.List.Elements.{All-nil, All-cons, All-head, All-tail}
 use Rattle.std.proofs.lemmas.List.Sums.{sum_by-append, sum_by-cons}
-use Rattle.std.proofs.lemmas.List.{length-map}
+use Rattle.std.proofs.lemmas.List.{length-map, get_or-map}
 use Rattle.std.proofs.lemmas.Slice.Zip.{AllZip-long}
+use Rattle.facts.proofs.Lists.{some_of}
 use mathlib.Core.List.{IsPrefix}
 use Rattle.denial_records.specs.declared.batch.Batch.{Batch}
 use Rattle.cache_meaning.specs.Held.{Held}
@@ -165,16 +166,6 @@ module _ (workers : ℕ) (journal : List Batch) (inputs : List Input) (outputs :
 
 -- ---- the seats of a new cache that was closed
 
-pub map_at : {X Y : Type 0} (f : X → Y) (xs : List X) (k : ℕ) (d : Y) (e : X) → k < length xs → get_or (map f xs) k d ≡ f (get_or xs k e)
-map_at f [] k d e lt = absurd (omega arith)
-map_at f (x ∷ xs) zero d e lt = refl
-map_at f (x ∷ xs) (suc k) d e lt = map_at f xs k d e (omega arith)
-
--- a list with a place has an element
-pub some_of : {X : Type 0} (xs : List X) (k : ℕ) → k < length xs → X
-some_of [] k lt = absurd (omega arith)
-some_of (x ∷ xs) k lt = x
-
 module _ {g : Ghosts Held Batch (Unit {0})} where
   flat_of_map : (seats : List (Seat Held Batch (Unit {0}) g)) → flat_map (λ (p : List ℕ). p) (map places_by seats) ≡ flat_map places_by seats
   flat_of_map [] = refl
@@ -196,15 +187,15 @@ module _ {g : Ghosts Held Batch (Unit {0})} where
     begins = λ worker lt.
         let d = some_of before worker lt in
         let lt' : worker < length after = omega (arith, lt, all) in
-        subst (λ l. IsPrefix l journal) (sym (map_at seen_by after worker [] d lt')) (seen worker d lt');
+        subst (λ l. IsPrefix l journal) (sym (get_or-map seen_by after worker d [] lt')) (seen worker d lt');
     once = subst (AreAllBelow (length journal)) (sym (flat_of_map after)) once;
     shifts = λ worker lt.
         let d = some_of before worker lt in
         let lt' : worker < length after = omega (arith, lt, all) in
         let one = worked.each worker d lt in
         let placed : one.placed ≡ get_or (map places_by after) worker [] =
-        sym (map_at places_by after worker [] d lt' ∙ one.places ∙ ap (λ l. l ++ one.placed) (fresh worker d lt)) in
-        subst (λ l. IsShift l (get_or (map places_by after) worker []) (inputs_of worker inputs) (outputs_of worker worked.outputs)) (sym (map_at seen_by after worker [] d lt'))
+        sym (get_or-map places_by after worker d [] lt' ∙ one.places ∙ ap (λ l. l ++ one.placed) (fresh worker d lt)) in
+        subst (λ l. IsShift l (get_or (map places_by after) worker []) (inputs_of worker inputs) (outputs_of worker worked.outputs)) (sym (get_or-map seen_by after worker d [] lt'))
         (subst (λ l. IsShift (seen_by (get_or after worker d)) l (inputs_of worker inputs) (outputs_of worker worked.outputs)) placed one.shift);
   }
 

@@ -3,10 +3,11 @@ use Rattle.std.proofs.Common.{◌≡◌, ℕ, suc, zero, ◌+◌, ◌<◌, ◌�
 use Rattle.std.specs.List.{All, AllZip}
 use Rattle.std.proofs.lemmas.Bool.{false≢true}
 use Rattle.std.proofs.lemmas.Bool.Decides.{Decides-eqb}
-use Rattle.std.proofs.lemmas.List.{append-nil, drop_at, drop_more, get_or-set_same, get_or-set_other, length-drop, length-map, take-append-drop, take_all, take_more}
+use Rattle.std.proofs.lemmas.List.{append-nil, drop_at, drop_more, get_or-set_same, get_or-set_other, length-drop, length-map, take-append-drop, take_all, take_more, get_or-map}
 use Rattle.std.proofs.lemmas.List.Concat.{flat_map-append}
 use Rattle.std.proofs.lemmas.List.Elements.{All-head, All-tail, filter-append}
 use Rattle.std.proofs.lemmas.Slice.Zip.{AllZip-long}
+use Rattle.facts.proofs.Lists.{some_of}
 use Rattle.outside_core.specs.Told.{append_told}
 use Rattle.outside_core.proofs.ToldLemmas.{append_told-append_told}
 use Rattle.replay_meaning.specs.Frame.{Input, IsInput, input_spelling, inputs_spelling}
@@ -20,7 +21,6 @@ use Rattle.worker_seats.specs.Ranges.{ArePlacesAt}
 use Rattle.worker_seats.specs.Workers.{HasSameWorker, outputs_of}
 use Rattle.worker_seats.proofs.FramesLemmas.{no_left}
 use Rattle.worker_seats.proofs.GatherLemmas.{part_within}
-use Rattle.worker_seats.proofs.LawLemmas.{map_at, some_of}
 use Rattle.worker_seats.proofs.OwnLemmas.{own_here, own_push, own_push_other}
 
 abbrev worker_of : Output → ℕ
@@ -188,7 +188,7 @@ module _ (outputs : List Part) (inputs : List Input) (n : ℕ) (rest places : Li
 
   module _ (octets : List ℕ) (part : (d : Part) → octets ≡ (get_or outputs owner d).octets) where
     octets_is : octets ≡ get_or (parts_of outputs) owner []
-    octets_is = let d = some_of outputs owner at.below in part d ∙ sym (map_at (λ (p : Part). p.octets) outputs owner [] d at.below)
+    octets_is = let d = some_of outputs owner at.below in part d ∙ sym (get_or-map (λ (p : Part). p.octets) outputs owner d [] at.below)
 
     module _ (all : List ℕ) (merged : AreMerged (parts_of outputs) inputs all) where
       from : place ≡ length (outputs_spelling (outputs_of owner (take n merged.outputs)))
@@ -293,7 +293,7 @@ all_own (input ∷ inputs) (output ∷ outputs) same below =
 
 module _ (outputs : List Part) (inputs : List Input) (one : length outputs ≡ 1) (below : All (λ input. input.worker < length outputs) inputs) (octets : List ℕ) (is : (d : Part) → octets ≡ (get_or outputs 0 d).octets) where
   first : octets ≡ get_or (parts_of outputs) 0 []
-  first = let lt : 0 < length outputs = omega (arith, one) in let d = some_of outputs 0 lt in is d ∙ sym (map_at (λ (p : Part). p.octets) outputs 0 [] d lt)
+  first = let lt : 0 < length outputs = omega (arith, one) in let d = some_of outputs 0 lt in is d ∙ sym (get_or-map (λ (p : Part). p.octets) outputs 0 d [] lt)
 
   merged_by_one : (whole : List ℕ) → AreMerged (parts_of outputs) inputs whole → whole ≡ octets
   merged_by_one whole m =

@@ -1,25 +1,19 @@
 -- Lists whose elements belong to one of some numbers, and what holds of the elements of each number.
 use Rattle.std.proofs.Common.{◌≡◌, ℕ, zero, suc, ◌+◌, ◌<◌, ◌≤◌, Bool, true, false, not, ◌==◌, cond, List, [], ◌∷◌, ◌++◌, length, get_or, refl, sym, ◌∙◌, ap, subst, arith, length-append}
 use Rattle.std.specs.List.{All, AllZip, AllPairs, filter, flat_map, count_by, sum_by}
-use Rattle.std.proofs.lemmas.Bool.{false≢true}
+use Rattle.std.proofs.lemmas.Bool.{false≢true, ne_eqb}
 use Rattle.std.proofs.lemmas.Bool.Decides.{Decides-eqb}
 use Rattle.std.proofs.lemmas.List.{append-nil}
 use Rattle.std.proofs.lemmas.List.Elements.{All-nil, All-cons, All-head, All-tail, All-filter, filter-append, filter_passes}
 use Rattle.std.proofs.lemmas.List.Filters.{sum_by-filter_both, length-filter_both}
 use Rattle.std.proofs.lemmas.List.Kept.{AllPairs-cons}
 use Rattle.std.proofs.lemmas.List.Sums.{sum_by-append, sum_by-cons, length-filter, count_by-le-length}
+use Rattle.facts.proofs.Pairs.{pairs_head, pairs_tail}
 
 -- ---- tests
 
 pub equal_test : (n m : ℕ) → n ≡ m → (n == m) ≡ true
 equal_test n m same = (Decides-eqb n m).1 same
-
-pub unequal_test : (n m : ℕ) → (n ≡ m → ⊥) → (n == m) ≡ false
-unequal_test n m apart = by (n == m) refl
-  where
-    by : (b : Bool) → (n == m) ≡ b → (n == m) ≡ false
-    by true is = absurd (apart ((Decides-eqb n m).0 is))
-    by false is = is
 
 module _ {X : Type 0} (key : X → ℕ) where
   -- the elements of one number, in order
@@ -30,7 +24,7 @@ module _ {X : Type 0} (key : X → ℕ) where
   own_here n x xs is = ap (λ b. cond b (x ∷ own n xs) (own n xs)) (equal_test (key x) n is)
 
   pub own_other : (n : ℕ) (x : X) (xs : List X) → (key x ≡ n → ⊥) → own n (x ∷ xs) ≡ own n xs
-  own_other n x xs other = ap (λ b. cond b (x ∷ own n xs) (own n xs)) (unequal_test (key x) n other)
+  own_other n x xs other = ap (λ b. cond b (x ∷ own n xs) (own n xs)) (ne_eqb (key x) n other)
 
   pub own_push : (n : ℕ) (xs : List X) (x : X) → key x ≡ n → own n (xs ++ x ∷ []) ≡ own n xs ++ x ∷ []
   own_push n xs x is =
@@ -38,7 +32,7 @@ module _ {X : Type 0} (key : X → ℕ) where
 
   pub own_push_other : (n : ℕ) (xs : List X) (x : X) → (key x ≡ n → ⊥) → own n (xs ++ x ∷ []) ≡ own n xs
   own_push_other n xs x other =
-      filter-append (λ y. key y == n) xs (x ∷ []) ∙ ap (λ b. own n xs ++ cond b (x ∷ []) []) (unequal_test (key x) n other) ∙ append-nil (own n xs)
+      filter-append (λ y. key y == n) xs (x ∷ []) ∙ ap (λ b. own n xs ++ cond b (x ∷ []) []) (ne_eqb (key x) n other) ∙ append-nil (own n xs)
 
   -- a longer list has as many of each number at least
   pub own_more : (n : ℕ) (xs ys : List X) → length (own n xs) ≤ length (own n (xs ++ ys))
@@ -105,12 +99,6 @@ module _ {X : Type 0} (key : X → ℕ) (R : X → X → Type 0) (n : ℕ) where
   abbrev pub Related : X → X → Type 0
   Related x y = key x ≡ key y → R x y
 
-  pairs_head : (x : X) (xs : List X) → AllPairs R (x ∷ xs) → All (R x) xs
-  pairs_head x xs pairs = λ k d lt. pairs 0 (suc k) d (omega arith) (omega arith)
-
-  pairs_tail : (x : X) (xs : List X) → AllPairs R (x ∷ xs) → AllPairs R xs
-  pairs_tail x xs pairs = λ i j d lt lt'. pairs (suc i) (suc j) d (omega arith) (omega arith)
-
   all_own_step : (P : X → Type 0) (m : ℕ) (x : X) (xs : List X) → All P (own key m (x ∷ xs)) → (b : Bool) → (key x == m) ≡ b → All P (own key m xs) × (m ≡ key x → P x)
   all_own_step P m x xs all true is =
       let whole = subst (All P) (own_here key m x xs ((Decides-eqb (key x) m).0 is)) all in
@@ -127,7 +115,7 @@ module _ {X : Type 0} (key : X → ℕ) (R : X → X → Type 0) (n : ℕ) where
       All-cons (λ y. m ≡ key y → P y) x xs step.1 (all_own P m xs step.0)
 
   pairs_step : (x : X) (xs : List X) (m : ℕ) → AllPairs R (own key m (x ∷ xs)) → (b : Bool) → (key x == m) ≡ b → AllPairs R (own key m xs)
-  pairs_step x xs m pairs true is = pairs_tail x (own key m xs) (subst (AllPairs R) (own_here key m x xs ((Decides-eqb (key x) m).0 is)) pairs)
+  pairs_step x xs m pairs true is = pairs_tail R x (own key m xs) (subst (AllPairs R) (own_here key m x xs ((Decides-eqb (key x) m).0 is)) pairs)
   pairs_step x xs m pairs false is = subst (AllPairs R) (own_other key m x xs (λ e. false≢true (sym is ∙ (Decides-eqb (key x) m).1 e))) pairs
 
   -- what holds of each two elements of each number holds of all two of one number
@@ -135,7 +123,7 @@ module _ {X : Type 0} (key : X → ℕ) (R : X → X → Type 0) (n : ℕ) where
   pairs_own [] below each = λ i j d lt lt'. absurd (omega arith)
   pairs_own (x ∷ xs) below each =
       let here = subst (AllPairs R) (own_here key (key x) x xs refl) (each (key x) (All-head (λ y. key y < n) x xs below)) in
-      AllPairs-cons Related x xs (all_own (R x) (key x) xs (pairs_head x (own key (key x) xs) here))
+      AllPairs-cons Related x xs (all_own (R x) (key x) xs (pairs_head R x (own key (key x) xs) here))
       (pairs_own xs (All-tail (λ y. key y < n) x xs below) (λ m lt. pairs_step x xs m (each m lt) (key x == m) refl))
 
 -- ---- sums

@@ -3,6 +3,7 @@ use Rattle.std.proofs.Common.{◌≡◌, ℕ, ◌+◌, ◌*◌, ◌<◌, ◌≤�
 use Rattle.std.specs.Prelude.{Result, Ok, IfOk}
 use Rattle.std.proofs.lemmas.List.{take-append-drop}
 use Rattle.std.proofs.lemmas.List.Concat.{flat_map-append}
+use Rattle.facts.proofs.Lists.{some_of}
 use Rattle.outside_core.specs.Told.{append_told}
 use Rattle.outside_core.proofs.ToldLemmas.{append_told-append_told}
 use Rattle.replay_meaning.specs.Frame.{Input}
@@ -12,7 +13,6 @@ use Rattle.worker_seats.specs.Gather.{IsPartWritten}
 use Rattle.worker_seats.specs.Merge.{AreWritten, AreWrittenInPart, CanBeMerged}
 use Rattle.worker_seats.specs.Ranges.{AreOfRange, WritesInPart, WritesRanges, WritesRest}
 use Rattle.worker_seats.specs.declared.cut.TheConstants.{RANGE}
-use Rattle.worker_seats.proofs.LawLemmas.{some_of}
 use Rattle.worker_seats.proofs.GatherLemmas.{part_within, told_none}
 use Rattle.worker_seats.proofs.MergeLemmas.{all_done}
 

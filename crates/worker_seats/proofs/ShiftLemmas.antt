@@ -1,7 +1,7 @@
 -- One worker's shift, frame by frame.
 use Rattle.std.proofs.Common.{◌≡◌, ℕ, zero, suc, ◌+◌, ◌-◌, ◌^◌, ◌<◌, ◌≤◌, ◌⊎◌, inl, inr, Bool, true, false, cond, ◌==◌, List, [], ◌∷◌, ◌++◌, length, take, get_or, Option, None, Some, slice_get, refl, sym, ◌∙◌, ap, subst, arith, append_assoc, length-append}
 use Rattle.std.specs.List.{AllZip}
-use Rattle.std.proofs.lemmas.Bool.{false≢true}
+use Rattle.std.proofs.lemmas.Bool.{false≢true, ne_eqb}
 use Rattle.std.proofs.lemmas.List.{append-nil}
 use Rattle.std.proofs.lemmas.List.Elements.{All-nil, All-push, filter-append}
 use Rattle.std.proofs.lemmas.List.Quantifiers.{all_pairs_push}
@@ -23,6 +23,7 @@ use Rattle.replay_meaning.specs.declared.out_frame.OutKind.{OutKind}
 use Rattle.replay_meaning.specs.declared.out_frame.OutKind.TheVariants.{Reply, Forward, Stored, Refused, Dropped, Error}
 use Rattle.replay_meaning.proofs.FrameLemmas.{spelling-push}
 use Rattle.replay_meaning.proofs.StepLemmas.{TellsNoCall, tells_no_call}
+use Rattle.replay_meaning.proofs.OneOutputLemmas.{query_worker, placed_calls}
 use Rattle.worker_seats.specs.Answer.{IsSpent, IsAnswered}
 use Rattle.worker_seats.specs.Cuts.{AreCuts}
 use Rattle.worker_seats.specs.Frames.{AreSpelled}
@@ -35,7 +36,7 @@ use Rattle.worker_seats.proofs.AnswerLemmas.{answered_more}
 use Rattle.worker_seats.proofs.FramesLemmas.{Walks, next_left, split_next, walk_all}
 use Rattle.worker_seats.proofs.LawLemmas.{zip_weaker}
 use Rattle.worker_seats.proofs.NotedLemmas.{AreNoted, noted_all, noted_here, noted_input, noted_none, noted_output}
-use Rattle.worker_seats.proofs.OwnLemmas.{equal_test, unequal_test}
+use Rattle.worker_seats.proofs.OwnLemmas.{equal_test}
 use Rattle.worker_seats.proofs.TurnLemmas.{answered_sound}
 
 -- ---- lists
@@ -67,7 +68,7 @@ own_push worker inputs input same =
 other_push : (worker : ℕ) (inputs : List Input) (input : Input) → (input.worker ≡ worker → ⊥) → inputs_of worker (inputs ++ input ∷ []) ≡ inputs_of worker inputs
 other_push worker inputs input other =
     filter-append (λ (i : Input). i.worker == worker) inputs (input ∷ [])
-    ∙ ap (λ (b : Bool). inputs_of worker inputs ++ cond b (input ∷ []) []) (unequal_test input.worker worker other)
+    ∙ ap (λ (b : Bool). inputs_of worker inputs ++ cond b (input ∷ []) []) (ne_eqb input.worker worker other)
     ∙ append-nil (inputs_of worker inputs)
 
 -- ---- what an answer tells
@@ -75,10 +76,6 @@ other_push worker inputs input other =
 query_version : (worker version : ℕ) (reply : Option (List ℕ)) → (query_output worker version reply).version ≡ version
 query_version worker version None = refl
 query_version worker version (Some octets) = refl
-
-query_worker : (worker version : ℕ) (reply : Option (List ℕ)) → (query_output worker version reply).worker ≡ worker
-query_worker worker version None = refl
-query_worker worker version (Some octets) = refl
 
 worker_is : (seen : List Batch) (input : Input) (step : Step) (output : Output) → IsOutputOf seen input step output → output.worker ≡ input.worker
 worker_is seen input (Query question) output (version, within, is) = ap (λ (o : Output). o.worker) is ∙ query_worker input.worker version (reply_in (held_of (take version seen)) question input.now)
@@ -125,14 +122,6 @@ call_step seen input (Tell kind body) output tells (inr spent) call = told_no_in
   where
     told_no_insert : (kind : OutKind) (body : List ℕ) (taken : _) → Tell kind body ≡ Insert taken → ⊥
     told_no_insert kind body taken same = cc
-
-placed_calls : (kind : OutKind) → is_placed kind ≡ true → is_call kind ≡ true
-placed_calls Reply placed = refl
-placed_calls Forward placed = refl
-placed_calls Stored placed = refl
-placed_calls Refused placed = placed
-placed_calls Dropped placed = placed
-placed_calls Error placed = placed
 
 -- ---- a shift
 

@@ -3,9 +3,10 @@ use Rattle.std.proofs.Common.{◌≡◌, ℕ, zero, suc, ◌+◌, ◌*◌, ◌<�
 use Rattle.std.specs.List.{All, AllZip}
 use Rattle.std.proofs.lemmas.Bool.{false≢true}
 use Rattle.std.proofs.lemmas.Bool.Decides.{Decides-eqb}
-use Rattle.std.proofs.lemmas.List.{drop_at, get_or-set_same, get_or-set_other, length-map, take_at, take-append-drop}
+use Rattle.std.proofs.lemmas.List.{drop_at, get_or-set_same, get_or-set_other, length-map, take_at, take-append-drop, get_or-map}
 use Rattle.std.proofs.lemmas.List.Concat.{flat_map-append}
 use Rattle.std.proofs.lemmas.List.Elements.{All-drop, All-filter, All-head, filter-append}
+use Rattle.facts.proofs.Lists.{some_of}
 use Rattle.replay_meaning.specs.Frame.{Input, IsInput, input_spelling, inputs_spelling}
 use Rattle.replay_meaning.specs.OutFrame.{Output, IsOutput, outputs_spelling}
 use Rattle.worker_seats.specs.Cuts.{AreCut, AreCuts, IsCut, Part, cuts_in, parts_of}
@@ -15,7 +16,6 @@ use Rattle.worker_seats.specs.Ranges.{IsCutBefore}
 use Rattle.worker_seats.specs.Workers.{HasSameWorker, inputs_of, outputs_of}
 use Rattle.worker_seats.specs.declared.cut.Cut.{Cut}
 use Rattle.worker_seats.specs.declared.cut.TheConstants.{RANGE}
-use Rattle.worker_seats.proofs.LawLemmas.{map_at, some_of}
 
 -- ---- the input
 
@@ -68,7 +68,7 @@ place_of_cut parts inputs n worker part cut lt is cuts octets merged =
     let mine = outputs_of worker (take n merged.outputs) in
     let others = outputs_of worker (drop n merged.outputs) in
     let own : part.octets ≡ outputs_spelling (outputs_of worker merged.outputs) =
-    ap (λ (p : Part). p.octets) is ∙ sym (map_at (λ (p : Part). p.octets) parts worker [] part lt) ∙ merged.each worker [] (omega (arith, lt, length-map parts (λ (p : Part). p.octets))) in
+    ap (λ (p : Part). p.octets) is ∙ sym (get_or-map (λ (p : Part). p.octets) parts worker part [] lt) ∙ merged.each worker [] (omega (arith, lt, length-map parts (λ (p : Part). p.octets))) in
     let whole : outputs_of worker merged.outputs ≡ mine ++ others =
     ap (outputs_of worker) (sym (take-append-drop n merged.outputs)) ∙ filter-append (λ (o : Output). o.worker == worker) (take n merged.outputs) (drop n merged.outputs) in
     let many = length (inputs_of worker (take n inputs)) in

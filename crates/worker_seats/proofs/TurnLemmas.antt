@@ -3,6 +3,7 @@ use Rattle.std.proofs.Common.{◌≡◌, ℕ, ◌+◌, ◌-◌, ◌⊎◌, inl, 
 use Rattle.std.specs.Prelude.{Result, Ok, Err, OnOk, OnErr}
 use Rattle.std.proofs.lemmas.Bool.{false≢true}
 use Rattle.std.proofs.lemmas.List.{append-nil, take_all}
+use Rattle.facts.proofs.Lists.{at_end}
 use Rattle.dnswire.specs.Query.{IsReadAs}
 use Rattle.dnswire.specs.declared.question.Question.{Question}
 use Rattle.dnswire.specs.declared.query_read.QueryRead.{QueryRead}
@@ -71,10 +72,6 @@ same_places places output none = sym (append-nil places) ∙ ap (λ l. places ++
 query_places_none : (worker version : ℕ) (reply : Option (List ℕ)) → is_placed (query_output worker version reply).kind ≡ false
 query_places_none worker version None = refl
 query_places_none worker version (Some octets) = refl
-
-at_end : (former : List Batch) (batch : Batch) → slice_get (former ++ batch ∷ []) (length former) ≡ Some batch
-at_end [] batch = refl
-at_end (other ∷ former) batch = at_end former batch
 
 module _ {g : Ghosts Held Batch (Unit {0})} where
   pub told_frame : (seat : Seat Held Batch (Unit {0}) g) (input : Input) (kind : OutKind) (body octets octets' : List ℕ) → Does input (Tell kind body) → Writes (told_output input.worker kind body) octets octets' → DoesOneFrame seat seat input octets octets'

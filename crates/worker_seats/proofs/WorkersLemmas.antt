@@ -1,12 +1,11 @@
 -- The work of all workers, put together.
 use Rattle.std.proofs.Common.{◌≡◌, ℕ, ◌<◌, ◌==◌, List, [], length, map, get_or, sym, ◌∙◌, ap, subst, arith}
 use Rattle.std.specs.Prelude.{Result, Ok, Err, IfOk}
-use denote.Param.Members.{Shared}
-use Rattle.std.specs.Fork.{GivesJobs}
 use Rattle.std.specs.List.{All}
-use Rattle.std.proofs.lemmas.List.{length-map}
+use Rattle.std.proofs.lemmas.List.{length-map, get_or-map}
 use Rattle.std.proofs.lemmas.List.Elements.{All-filter}
 use Rattle.std.proofs.lemmas.Slice.Zip.{AllZip-long}
+use Rattle.facts.proofs.Lists.{some_of}
 use Rattle.denial_records.specs.declared.batch.Batch.{Batch}
 use Rattle.cache_meaning.specs.Held.{Held}
 use Rattle.cache_versions.specs.declared.state.State.{Ghosts}
@@ -20,19 +19,10 @@ use Rattle.worker_seats.specs.Answer.{IsAnswered}
 use Rattle.worker_seats.specs.Merge.{AreOutputsOf, AreMerged}
 use Rattle.worker_seats.specs.Work.{IsWork}
 use Rattle.worker_seats.specs.Workers.{HasWorked, HaveWorked, inputs_of, outputs_of}
-use Rattle.worker_seats.proofs.LawLemmas.{map_at, some_of}
 
 -- ---- lists
 
-pub if_ok_weaker : {T E : Type 0} (P Q : T → Type 0) (r : Result T E) → IfOk r P → ((x : T) → P x → Q x) → IfOk r Q
-if_ok_weaker P Q (Ok x) p f = f x p
-if_ok_weaker P Q (Err e) p f = tt
-
--- the same, of what two clauses say
-pub if_ok_from : {T E : Type 0} (r : Result T E) (P Q : T → Type 0) → IfOk r P → ((x : T) → P x → Q x) → IfOk r Q
-if_ok_from (Ok x) P Q p f = f x p
-if_ok_from (Err e) P Q p f = tt
-
+-- what follows from what two clauses say
 pub if_ok_both : {T E : Type 0} (r : Result T E) (P Q R : T → Type 0) → IfOk r P → IfOk r Q → ((x : T) → P x → Q x → R x) → IfOk r R
 if_ok_both (Ok x) P Q R p q f = f x p q
 if_ok_both (Err e) P Q R p q f = tt
@@ -41,12 +31,12 @@ pub all_map : {X Y : Type 0} (P : Y → Type 0) (f : X → Y) (xs : List X) → 
 all_map P f xs each = λ k d lt.
     let lt' : k < length xs = omega (arith, lt, length-map xs f) in
     let e = some_of xs k lt' in
-    subst P (sym (map_at f xs k d e lt')) (each k e lt')
+    subst P (sym (get_or-map f xs k e d lt')) (each k e lt')
 
 -- the job at a place
 pub job_at : {J A : Type 0} (worker_of : J → ℕ) (seat_of : J → A) (jobs : List J) (seats : List A) (k : ℕ) (d : J) (e : A) → map seat_of jobs ≡ seats
     → ((place : ℕ) (d : J) → place < length jobs → worker_of (get_or jobs place d) ≡ place) → k < length jobs → (worker_of (get_or jobs k d) ≡ k) × (seat_of (get_or jobs k d) ≡ get_or seats k e)
-job_at worker_of seat_of jobs seats k d e are placed lt = (placed k d lt, sym (map_at seat_of jobs k e d lt) ∙ ap (λ l. get_or l k e) are)
+job_at worker_of seat_of jobs seats k d e are placed lt = (placed k d lt, sym (get_or-map seat_of jobs k d e lt) ∙ ap (λ l. get_or l k e) are)
 
 pub jobs_length : {J A : Type 0} (seat_of : J → A) (jobs : List J) (seats : List A) → map seat_of jobs ≡ seats → length jobs ≡ length seats
 jobs_length seat_of jobs seats are = sym (length-map jobs seat_of) ∙ ap length are
@@ -54,19 +44,12 @@ jobs_length seat_of jobs seats are = sym (length-map jobs seat_of) ∙ ap length
 -- what holds of each seat holds of each job's
 pub all_jobs : {J A : Type 0} (P : A → Type 0) (seat_of : J → A) (jobs : List J) (seats : List A) → map seat_of jobs ≡ seats → All P seats → (k : ℕ) (d : J) → k < length jobs → P (seat_of (get_or jobs k d))
 all_jobs P seat_of jobs seats are all k d lt =
-    let same : get_or seats k (seat_of d) ≡ seat_of (get_or jobs k d) = sym (ap (λ l. get_or l k (seat_of d)) are) ∙ map_at seat_of jobs k (seat_of d) d lt in
+    let same : get_or seats k (seat_of d) ≡ seat_of (get_or jobs k d) = sym (ap (λ l. get_or l k (seat_of d)) are) ∙ get_or-map seat_of jobs k d (seat_of d) lt in
     subst P same (all k (seat_of d) (omega (arith, lt, jobs_length seat_of jobs seats are)))
-
--- what each job gave, by what any job gives
-pub gives_each : {F J R : Type 0} (g : Shared F (J × Unit {0}) R) (f : F) (Q : J → R → Type 0) → ((j : J) (r : R) → g.post f (j, tt) r → Q j r) → (js : List J) (rs : List R) → GivesJobs g f js rs
-    → (k : ℕ) (d : R) (e : J) → k < length js → Q (get_or js k e) (get_or rs k d)
-gives_each g f Q says js rs gives k d e lt =
-    let one = (gives k d lt).1 in
-    subst (λ j. Q j (get_or rs k d)) (sym (one.job_is e)) (says one.job (get_or rs k d) one.call.met)
 
 -- what holds of each result, if it is one, holds of what they are
 pub shift_at : {T E : Type 0} (P : T → Type 0) (results : List (Result T E)) (shifts : List T) (k : ℕ) (x : T) → results ≡ map (λ s. Ok s) shifts → k < length shifts → IfOk (get_or results k (Ok x)) P → P (get_or shifts k x)
-shift_at P results shifts k x are lt all = subst (λ r. IfOk r P) (ap (λ l. get_or l k (Ok x)) are ∙ map_at (λ s. Ok s) shifts k (Ok x) x lt) all
+shift_at P results shifts k x are lt all = subst (λ r. IfOk r P) (ap (λ l. get_or l k (Ok x)) are ∙ get_or-map (λ s. Ok s) shifts k x (Ok x) lt) all
 
 pub results_length : {T E : Type 0} (results : List (Result T E)) (shifts : List T) → results ≡ map (λ s. Ok s) shifts → length shifts ≡ length results
 results_length results shifts are = sym (length-map shifts (λ s. Ok s)) ∙ sym (ap length are)
@@ -98,8 +81,8 @@ module _ {g : Ghosts Held Batch (Unit {0})} {X : Type 0} (seat_of : X → Seat H
         let e = some_of parts worker lt' in
         let work = each worker d e lt' in
         let mine : work.outputs ≡ outputs_of worker merged.outputs =
-        outputs_have_one.whole work.outputs (outputs_of worker merged.outputs) work.valid (All-filter (λ (o : Output). o.worker == worker) IsOutput merged.outputs merged.valid) (sym work.written ∙ sym (map_at octets_of parts worker [] e lt') ∙ merged.each worker [] (omega (arith, lt', length-map parts octets_of))) in
-        subst (λ s. HasWorked (get_or before worker d) s (inputs_of worker inputs) (outputs_of worker merged.outputs)) (sym (map_at seat_of parts worker d e lt'))
+        outputs_have_one.whole work.outputs (outputs_of worker merged.outputs) work.valid (All-filter (λ (o : Output). o.worker == worker) IsOutput merged.outputs merged.valid) (sym work.written ∙ sym (get_or-map octets_of parts worker e [] lt') ∙ merged.each worker [] (omega (arith, lt', length-map parts octets_of))) in
+        subst (λ s. HasWorked (get_or before worker d) s (inputs_of worker inputs) (outputs_of worker merged.outputs)) (sym (get_or-map seat_of parts worker e d lt'))
         (subst (λ l. HasWorked (get_or before worker d) (seat_of (get_or parts worker e)) (inputs_of worker inputs) l) mine work.worked);
   }
 
@@ -108,4 +91,4 @@ module _ {g : Ghosts Held Batch (Unit {0})} {X : Type 0} (seat_of : X → Seat H
   numbers_all before parts all numbered same = λ worker d lt.
       let lt' : worker < length parts = omega (arith, lt, length-map parts seat_of) in
       let e = some_of parts worker lt' in
-      ap number_by (map_at seat_of parts worker d e lt') ∙ same worker d e lt' ∙ numbered worker d (omega (arith, lt', all))
+      ap number_by (get_or-map seat_of parts worker e d lt') ∙ same worker d e lt' ∙ numbered worker d (omega (arith, lt', all))

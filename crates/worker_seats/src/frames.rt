@@ -4,11 +4,8 @@ ghost use Rattle.replay_meaning.specs.Replay.{AreFrames, SpellsFrames};
 ghost use Rattle.worker_seats.specs.Frames.{AreSpelled};
 
 use dname::{octets_from, u16_at};
-use replay_meaning::{Frame, read_frame};
+use replay_meaning::{FRAME_HEAD, Frame, read_frame};
 use std::marker::Model;
-
-/// The octets of a frame before its message.
-const HEAD: usize = 8;
 
 /// Octets that spell frames, and lend their messages. It is seen as these frames, in order.
 #[derive(Drop)]
@@ -96,11 +93,11 @@ pub(crate) fn skip_frame(octets: &[u8]) -> Option<(u8, &[u8])>
         (λ read. (read.0 ≡ input.worker) × (read.1.now ≡ rest)) }
     ensures shorter { IfSome result (λ read. length read.1.now < length octets.now) }
 {
-    if octets.len() < HEAD {
+    if octets.len() < FRAME_HEAD {
         return None;
     }
     let size = usize::from(u16_at(octets, 6));
-    let rest = octets_from(octets, HEAD);
+    let rest = octets_from(octets, FRAME_HEAD);
     if rest.len() < size {
         return None;
     }

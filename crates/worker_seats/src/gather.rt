@@ -3,8 +3,7 @@ ghost use Rattle.outside_core.specs.Told.{append_told};
 ghost use Rattle.outside_core.specs.Fault.{Rose};
 ghost use Rattle.worker_seats.specs.Gather.{Gathers, IsPartWritten};
 
-use crate::writing::write_whole;
-use outside_core::{Failed, Sink};
+use outside_core::{Failed, Sink, write_whole};
 
 /// As many octets are gathered at most before they are written.
 const ROOM: usize = 65_536;

@@ -17,7 +17,6 @@ mod rounds;
 mod shift;
 mod starts;
 mod workers;
-mod writing;
 
 pub use answering::one_frame;
 pub use frames::Frames;
@@ -25,7 +24,3 @@ pub use laws::shifts_fit;
 pub use merge::write_outputs;
 pub use outputs::Outputs;
 pub use workers::run_workers;
-pub use writing::write_whole;
-
-#[cfg(test)]
-mod tests;

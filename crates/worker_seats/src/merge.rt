@@ -11,15 +11,12 @@ use crate::gather::{flush, put};
 use crate::outputs::Outputs;
 use crate::rounds::write_rounds;
 use crate::starts::{places_at, ranges_of, rest_at};
-use crate::writing::write_whole;
 use dname::{octets_from, u16_at};
-use outside_core::{Failed, Sink};
+use outside_core::{Failed, Sink, write_whole};
+use replay_meaning::FRAME_HEAD;
 use std::alloc::Global;
 use std::sync::Wait;
 use std::thread::Threads;
-
-/// The octets of an output frame before its body.
-const HEAD: usize = 8;
 
 /// Writes the output frames of all workers, in the order of the frames that they are for. After a failure a strict prefix of
 /// them was written.
@@ -120,7 +117,7 @@ pub(crate) fn front_frame(octets: &[u8]) -> &[u8]
         → octets.now ≡ output_spelling output ++ rest → result.now
         ≡ output_spelling output }
 {
-    let size = HEAD + usize::from(u16_at(octets, 6));
+    let size = FRAME_HEAD + usize::from(u16_at(octets, 6));
     let (frame, _) = octets.split_at(size);
     frame
 }

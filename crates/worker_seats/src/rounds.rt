@@ -9,8 +9,7 @@ use crate::frames::Frames;
 use crate::merge::write_from;
 use crate::outputs::Outputs;
 use crate::ranges::{jobs_from, merge_ranges};
-use crate::writing::write_whole;
-use outside_core::{Failed, Sink};
+use outside_core::{Failed, Sink, write_whole};
 use std::alloc::Global;
 use std::thread::Threads;
 

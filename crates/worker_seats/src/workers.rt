@@ -94,7 +94,7 @@ fn do_jobs<R: Threads + Wait + Sync, G: Gate>(
     thread::map_vec(rt, jobs, &work)
 }
 
-// Each seat with its place.
+// Each seat with its place, since a seat doesn't tell its number.
 fn jobs_of(alloc: Global, seats: Vec<CacheSeat>) -> Result<Vec<Job>, OutOfMemory>
     ensures seats { IfOk result (λ jobs. map (λ job. job.seat) jobs.items ≡ seats.items) }
     ensures places { IfOk result (λ jobs. ArePlaced jobs.items) }

@@ -10,6 +10,7 @@ use Rattle.std.specs.FinMap.{slice_cmp-IsAntisymmetric, nat_cmp-IsAntisymmetric}
 use Rattle.std.proofs.lemmas.Cmp.{nat_list_cmp_total, tied_itself}
 use Rattle.std.proofs.lemmas.List.{append-nil}
 use Rattle.std.proofs.lemmas.List.Elements.{All-contains, Contains-append_left, Contains-append_right, Contains-append_cases}
+use Rattle.facts.proofs.Lists.{here, nothing_in}
 use Rattle.dname.specs.Name.{Label, canonical_cmp}
 use Rattle.dname.specs.Arc.{arc_has}
 use Rattle.dname.specs.Order.{canonical_equal, canonical_same}
@@ -26,11 +27,12 @@ use Rattle.cache_meaning.specs.declared.place.Place.{Place}
 use Rattle.range_index.specs.declared.place.Place.{Place as RingPlace}
 use Rattle.range_index.specs.Place.{place_of}
 use Rattle.range_index.specs.Arcs.{span_has}
-use Rattle.range_index.proofs.MemberLemmas.{stays, stayed}
+use Rattle.facts.proofs.Filters.{kept, was_kept}
 use Rattle.zone_chains.specs.Zone.{OneChain, IsChosen}
 use Rattle.zone_chains.specs.Views.{AreOf, AreNsec3s, IsNsec, IsNsec3, nsec_start, nsec_end, nsec3_start, nsec3_end, placed, AreChains}
-use Rattle.zone_chains.proofs.ListLemmas.{here, nothing_in}
-use Rattle.zone_chains.proofs.ChainLemmas.{name_itself, parameters_itself, nsec_kind, nsec3_kind}
+use Rattle.zone_chains.proofs.ChainLemmas.{nsec_kind, nsec3_kind}
+use Rattle.dname.proofs.SameLemmas.{name_itself}
+use Rattle.cache_meaning.proofs.ChainLemmas.{parameters_itself}
 
 -- ---- the choice at a record of the chain
 
@@ -53,10 +55,10 @@ module _ {A F : Type 0} (choose : Record → Option A) (as_record : A → Record
   chosen_by value None is = λ item has. by item has (test item) refl
     where
       by : (item : Record) → Contains records item → (b : Bool) → test item ≡ b → choose item ≡ None
-      by item has true passes = absurd (nothing_in item (subst (λ xs. Contains xs item) is (stays test records item has passes)))
+      by item has true passes = absurd (nothing_in item (subst (λ xs. Contains xs item) is (kept test records item has passes)))
       by item has false fails = (each item has).2 ∙ rw fails refl
   chosen_by value (Some found) is =
-      let one = stayed test records (as_record (value found)) (subst (λ xs. Contains xs (as_record (value found))) (sym is) (here (as_record (value found)) [])) in
+      let one = was_kept test records (as_record (value found)) (subst (λ xs. Contains xs (as_record (value found))) (sym is) (here (as_record (value found)) [])) in
       let its = each (as_record (value found)) one.0 in
       (as_record (value found), one.0, its.2 ∙ rw one.1 (ap (λ a. Some a) (sym (unique (value found) its.0 its.1))))
 
@@ -134,7 +136,7 @@ nsec3_placed place ring item nsec3 hash is at same =
 -- ---- that it is of its kind
 
 found_in : (test : Record → Bool) (records : List Record) (item : Record) → filter test records ≡ item ∷ [] → Contains records item
-found_in test records item is = (stayed test records item (subst (λ xs. Contains xs item) (sym is) (here item []))).0
+found_in test records item is = (was_kept test records item (subst (λ xs. Contains xs item) (sym is) (here item []))).0
 
 pub found_nsec : (zone : List Label) (records : List Record) → AreOf (record { zone = zone; chain = NsecChain }) records → (test : Record → Bool) (item : Record) → filter test records ≡ item ∷ [] → IsNsec item
 found_nsec zone records all test item is =

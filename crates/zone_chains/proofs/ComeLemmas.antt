@@ -1,9 +1,10 @@
 -- What a zone's chains are after a record comes or goes.
-use Rattle.std.proofs.Common.{◌++◌, length, get_or, ℕ, ◌<◌, ◌+◌, arith, ◌≡◌, ◌≢◌, ◌↔◌, Bool, true, false, not, ◌||◌, true≢false, ◌⊎◌, inl, inr, ⊎_elim, List, [], ◌∷◌, cond, map, Contains, MatchOption, Option, Some, None, Result, Ok, Err, IfOk, refl, sym, ◌∙◌, ap, subst}
+use Rattle.std.proofs.Common.{◌++◌, length, get_or, ℕ, ◌<◌, ◌+◌, arith, ◌≡◌, ◌≢◌, ◌↔◌, Bool, true, false, not, ◌||◌, true≢false, ◌⊎◌, inl, inr, ⊎_elim, List, [], ◌∷◌, cond, map, Contains, MatchOption, Option, Some, None, refl, sym, ◌∙◌, ap, subst}
 use Rattle.std.specs.List.{flat_map, list_any}
-use Rattle.std.specs.Option.{option_map}
 use Rattle.std.proofs.lemmas.List.{append-nil, length-append}
 use Rattle.std.proofs.lemmas.List.Elements.{All-contains, Contains-append_left, Contains-append_right, Contains-append_cases}
+use Rattle.std.proofs.lemmas.Option.{same_Some}
+use Rattle.facts.proofs.Lists.{here, there, first_or_there, nothing_in}
 use Rattle.dname.specs.Name.{Label}
 use Rattle.denial_records.specs.declared.record.Record.{Record}
 use Rattle.denial_records.specs.declared.record.Record.TheVariants.{Set, Nsec, Nsec3}
@@ -12,11 +13,10 @@ use Rattle.range_index.specs.Arcs.{FailInRuns}
 use Rattle.zone_chains.specs.Zone.{OneChain, OneZone, chains_in, records_in, IsDenialOf, chains_with, third_for, DisplacesAt, is_of}
 use Rattle.zone_chains.specs.Views.{apart_in, IsChain, IsChainOf, AreChains}
 use Rattle.zone_chains.specs.Changes.{alone, joined, parted, came, DisplacesIn, went, OneHas}
-use Rattle.zone_chains.specs.Met.{IsMet}
 use Rattle.zone_chains.specs.Chains.{chains_by, zone_by}
 use Rattle.zone_chains.specs.declared.zone_chains.ZoneChains.{ZoneChains}
-use Rattle.zone_chains.proofs.ListLemmas.{here, there, here_or_there, nothing_in}
-use Rattle.zone_chains.proofs.ChainLemmas.{some_same, other_way, of_chain, is_of_it, apart_is, of_two_chains}
+use Rattle.zone_chains.proofs.ChainLemmas.{apart_is, of_two_chains}
+use Rattle.cache_meaning.proofs.ChainLemmas.{other_way, of_chain, is_of_it}
 use Rattle.zone_chains.proofs.JoinedLemmas.{alone_is, joined_is, joined_has, parted_is, parted_has, parted_count}
 
 abbrev listed : List OneChain → List ZoneChain
@@ -71,8 +71,8 @@ or_it b is = rw is refl
 module _ (apex : List Label) (chain : ZoneChain) (new : Record) (of_it : chain_of new ≡ Some chain) (denial : IsDenialOf apex new) where
   its_zone : (item : Record) → chain_of item ≡ Some chain → IsDenialOf apex item → chain.zone ≡ apex
   its_zone (Set set) is h = absurd h
-  its_zone (Nsec nsec) is h = ap (λ (c : ZoneChain). c.zone) (sym (some_same is)) ∙ h
-  its_zone (Nsec3 nsec3) is h = ap (λ (c : ZoneChain). c.zone) (sym (some_same is)) ∙ h
+  its_zone (Nsec nsec) is h = ap (λ (c : ZoneChain). c.zone) (sym (same_Some _ _ is)) ∙ h
+  its_zone (Nsec3 nsec3) is h = ap (λ (c : ZoneChain). c.zone) (sym (same_Some _ _ is)) ∙ h
 
   its_own : IsChainOf apex (alone chain new)
   its_own = record { here = its_zone new of_it denial; chain = alone_is chain new of_it }
@@ -93,13 +93,13 @@ module _ (apex : List Label) (chain : ZoneChain) (new : Record) (of_it : chain_o
 
   -- the record's chain is the first
   differs_from : (a b : OneChain) → same_zone_chain a.chain b.chain ≡ false → is_of_chain a.chain new ≡ true → same_zone_chain chain b.chain ≡ false
-  differs_from a b differ is = ap (λ c. same_zone_chain c b.chain) (some_same (sym of_it ∙ of_chain a.chain new is)) ∙ differ
+  differs_from a b differ is = ap (λ c. same_zone_chain c b.chain) (same_Some _ _ (sym of_it ∙ of_chain a.chain new is)) ∙ differ
 
   came_none : HasCome apex chain new [] (alone chain new ∷ [])
   came_none = record {
     chains = its_own;
     names = refl;
-    members = λ r. nothing_goes new r None refl ((λ h. ⊎_elim (λ same. inl same) (λ k. absurd (nothing_in r k)) (here_or_there new [] r h)), λ h. ⊎_elim (λ same. subst (λ z. Contains (z ∷ []) r) same (here r [])) (λ k. absurd (nothing_in r k.0)) h);
+    members = λ r. nothing_goes new r None refl ((λ h. ⊎_elim (λ same. inl same) (λ k. absurd (nothing_in r k)) (first_or_there new [] r h)), λ h. ⊎_elim (λ same. subst (λ z. Contains (z ∷ []) r) same (here r [])) (λ k. absurd (nothing_in r k.0)) h);
   }
 
   came_one : (a : OneChain) → IsChainOf apex a → (b : Bool) → is_of_chain a.chain new ≡ b → HasCome apex chain new (a ∷ []) (cond b (joined new a ∷ []) (alone chain new ∷ a ∷ []))
@@ -118,7 +118,7 @@ module _ (apex : List Label) (chain : ZoneChain) (new : Record) (of_it : chain_o
         chains = (its_own, it, test);
         names = rw test refl;
         members = λ r. nothing_goes new r (third_for (listed (a ∷ [])) (Some chain)) (rw test refl)
-            ((λ h. ⊎_elim (λ same. inl same) (λ k. inr (k, spared a it.chain test r (in_one a r k))) (here_or_there new (held (a ∷ [])) r h)), λ h. ⊎_elim (λ same. subst (λ z. Contains (z ∷ held (a ∷ [])) r) same (here r (held (a ∷ [])))) (λ k. there new (held (a ∷ [])) r k.0) h);
+            ((λ h. ⊎_elim (λ same. inl same) (λ k. inr (k, spared a it.chain test r (in_one a r k))) (first_or_there new (held (a ∷ [])) r h)), λ h. ⊎_elim (λ same. subst (λ z. Contains (z ∷ held (a ∷ [])) r) same (here r (held (a ∷ [])))) (λ k. there new (held (a ∷ [])) r k.0) h);
       }
 
   came_two : (a b : OneChain) → AreChains apex (a ∷ b ∷ []) → (t u : Bool) → is_of_chain a.chain new ≡ t → is_of_chain b.chain new ≡ u → HasCome apex chain new (a ∷ b ∷ []) (cond t (joined new a ∷ b ∷ []) (cond u (a ∷ joined new b ∷ []) (alone chain new ∷ a ∷ [])))
@@ -151,7 +151,7 @@ module _ (apex : List Label) (chain : ZoneChain) (new : Record) (of_it : chain_o
       record {
         chains = (its_own, it.0, test);
         names = rw (test, second) refl;
-        members = λ r. rw (test, second) ((λ h. ⊎_elim (λ same. inl same) (λ k. stays_in r test (in_one a r k)) (here_or_there new (held (a ∷ [])) r h)), λ h. from r h);
+        members = λ r. rw (test, second) ((λ h. ⊎_elim (λ same. inl same) (λ k. stays_in r test (in_one a r k)) (first_or_there new (held (a ∷ [])) r h)), λ h. from r h);
       }
     where
       stays_in : (r : Record) → same_zone_chain chain a.chain ≡ false → Contains a.records r → (r ≡ new) ⊎ (Contains (held (a ∷ b ∷ [])) r × (displaces new r ≡ false) × (is_of_chain b.chain r ≡ false))
@@ -246,17 +246,6 @@ older_has a b item (inr is) other = is
 
 -- ---- what a new record displaces
 
-displaced_in : (each : OneChain) → IsChain each → (new old : Record) → chain_of new ≡ Some each.chain → Contains each.records old → apart_in each.chain.chain new old ≡ not (displaces new old)
-displaced_in each it new old of_it has = apart_is each.chain.zone each.chain.chain new old of_it (its_chain each it old has)
-
-not_not : (a b : Bool) → a ≡ not b → a ≡ false → b ≡ true
-not_not a true is h = refl
-not_not a false is h = absurd (true≢false (sym is ∙ h))
-
-not_true : (a b : Bool) → a ≡ not b → a ≡ true → b ≡ false
-not_true a true is h = absurd (true≢false (sym h ∙ is))
-not_true a false is h = refl
-
 -- a record of any of the chains
 among : (apex : List Label) (xs : List OneChain) → AreChains apex xs → (r : Record) → Contains (held xs) r → (each : OneChain) × Contains xs each × IsChain each × Contains each.records r
 among apex [] it r has = absurd (nothing_in r has)
@@ -288,53 +277,13 @@ displaces_in new tested chains each asked changed lent from to last has asks tes
   runs = subst (λ (e : OneChain). FailInRuns (λ old. not (displaces new old)) e.records from to last) (changes ∙ sym lends) runs;
 }
 
-module _ (new : Record) {F : Type 0} (value : F → Record) where
-  abbrev AreMet : List Record → Option F → Type 0
-  AreMet records o = MatchOption o ((old : Record) → Contains records old → displaces new old ≡ false) (λ old. Contains records (value old) × (displaces new (value old) ≡ true))
-
-  met_among : (each : OneChain) → IsChain each → chain_of new ≡ Some each.chain → (records : List Record) → ((r : Record) → Contains each.records r → Contains records r) → ((r : Record) → Contains records r → Contains each.records r ⊎ (displaces new r ≡ false)) → (o : Option F) → IsMet (apart_in each.chain.chain new) each.records (option_map value o) → AreMet records o
-  met_among each it of_it records are or_apart None met = λ r has. ⊎_elim (λ h. not_true _ _ (displaced_in each it new r of_it h) (met r h)) (λ h. h) (or_apart r has)
-  met_among each it of_it records are or_apart (Some old) met =
-      (are (value old) met.0, not_not _ _ (displaced_in each it new (value old) of_it met.0) met.1)
-
-  met_in : (apex : List Label) (xs : List OneChain) → AreChains apex xs → (each : OneChain) → Contains xs each → chain_of new ≡ Some each.chain → (o : Option F) → IsMet (apart_in each.chain.chain new) each.records (option_map value o) → AreMet (held xs) o
-  met_in apex [] it each has of_it o met = absurd (nothing_in each has)
-  met_in apex (a ∷ []) it each has of_it o met = ⊎_elim by (λ h. absurd (nothing_in each h)) (here_or_there a [] each has)
-    where
-      by : each ≡ a → AreMet (held (a ∷ [])) o
-      by same = met_among a it.chain (of_it ∙ ap (λ (e : OneChain). Some e.chain) same) (held (a ∷ [])) (is_in_one a) (λ r h. inl (in_one a r h)) o
-          (subst (λ (e : OneChain). IsMet (apart_in e.chain.chain new) e.records (option_map value o)) same met)
-  met_in apex (a ∷ b ∷ []) it each has of_it o met = ⊎_elim first (λ h. ⊎_elim second (λ k. absurd (nothing_in each k)) (here_or_there b [] each h)) (here_or_there a (b ∷ []) each has)
-    where
-      first : each ≡ a → AreMet (held (a ∷ b ∷ [])) o
-      first same =
-          let of_a : chain_of new ≡ Some a.chain = of_it ∙ ap (λ (e : OneChain). Some e.chain) same in
-          met_among a it.0.chain of_a (held (a ∷ b ∷ [])) (λ r h. is_in_two a b r (inl h))
-          (λ r h. ⊎_elim (λ k. inl k) (λ k. inr (of_two_chains a.chain b.chain new r of_a (its_chain b it.1.chain r k) it.2)) (in_two a b r h)) o
-          (subst (λ (e : OneChain). IsMet (apart_in e.chain.chain new) e.records (option_map value o)) same met)
-
-      second : each ≡ b → AreMet (held (a ∷ b ∷ [])) o
-      second same =
-          let of_b : chain_of new ≡ Some b.chain = of_it ∙ ap (λ (e : OneChain). Some e.chain) same in
-          met_among b it.1.chain of_b (held (a ∷ b ∷ [])) (λ r h. is_in_two a b r (inr h))
-          (λ r h. ⊎_elim (λ k. inr (of_two_chains b.chain a.chain new r of_b (its_chain a it.0.chain r k) (other_way b.chain a.chain ∙ it.2))) (λ k. inl k) (in_two a b r h)) o
-          (subst (λ (e : OneChain). IsMet (apart_in e.chain.chain new) e.records (option_map value o)) same met)
-  met_in apex (a ∷ b ∷ c ∷ rest) it each has of_it o met = absurd it
-
-  pub met_in_zone : (apex : List Label) (xs : List OneChain) → AreChains apex xs → (each : OneChain) → Contains xs each → is_of_chain each.chain new ≡ true → (o : Option F) → IsMet (apart_in each.chain.chain new) each.records (option_map value o) → MatchOption o ((old : Record) → Contains (held xs) old → displaces new old ≡ false) (λ old. Contains (held xs) (value old) × (displaces new (value old) ≡ true))
-  met_in_zone apex xs it each has of_it o met = met_in apex xs it each has (of_chain each.chain new of_it) o met
-
-pub met_if_ok : {A E : Type 0} {P Q : A → Type 0} → ((a : A) → P a → Q a) → (r : Result A E) → IfOk r P → IfOk r Q
-met_if_ok more (Ok a) h = more a h
-met_if_ok more (Err e) h = tt
-
 not_any : (p : ZoneChain → Bool) (xs : List OneChain) → list_any p (listed xs) ≡ false → (each : OneChain) → Contains xs each → p each.chain ≡ false
 not_any p [] is each has = absurd (nothing_in each has)
 not_any p (x ∷ xs) is each has = by (p x.chain) refl is (not_any p xs)
   where
     by : (b : Bool) → p x.chain ≡ b → (b || list_any p (listed xs)) ≡ false → (list_any p (listed xs) ≡ false → (e : OneChain) → Contains xs e → p e.chain ≡ false) → p each.chain ≡ false
     by true it h rest = absurd (true≢false h)
-    by false it h rest = ⊎_elim (λ same. ap (λ (e : OneChain). p e.chain) same ∙ it) (λ k. rest h each k) (here_or_there x xs each has)
+    by false it h rest = ⊎_elim (λ same. ap (λ (e : OneChain). p e.chain) same ∙ it) (λ k. rest h each k) (first_or_there x xs each has)
 
 pub none_met : (apex : List Label) (xs : List OneChain) → AreChains apex xs → (new : Record) → IsDenialOf apex new → list_any (λ chain. is_of_chain chain new) (listed xs) ≡ false → (old : Record) → Contains (held xs) old → displaces new old ≡ false
 none_met apex xs it new denial none old has = by new denial none

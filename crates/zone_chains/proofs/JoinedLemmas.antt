@@ -7,20 +7,24 @@ use Rattle.std.specs.Cmp.{IsTotalOrder}
 use Rattle.std.specs.Cmp.Lexicographic.{slice_cmp}
 use Rattle.std.proofs.lemmas.Cmp.{nat_list_cmp_total, tied_itself}
 use Rattle.std.proofs.lemmas.List.Elements.{All-nil, All-cons, All-contains, All-filter, Contains-get_or}
+use Rattle.facts.proofs.Orderings.{less_not_equal}
+use Rattle.facts.proofs.Pairs.{pairs_head, pairs_tail}
+use Rattle.facts.proofs.Lists.{first_or_there, nothing_in}
+use Rattle.facts.proofs.Filters.{filter_all}
 use Rattle.dname.specs.Name.{Label, canonical_cmp}
 use Rattle.dname.specs.Order.{canonical_total}
 use Rattle.denial_records.specs.declared.record.Record.{Record}
 use Rattle.cache_meaning.specs.Held.{ZoneChain, Chain, NsecChain, Nsec3Chain, chain_of, displaces}
 use Rattle.range_index.specs.Arcs.{starts_before, starts_elsewhere}
-use Rattle.range_index.proofs.RunLemmas.{filter_all}
-use Rattle.range_index.proofs.MemberLemmas.{stays, stayed, members_with}
+use Rattle.facts.proofs.Filters.{kept, was_kept}
+use Rattle.range_index.proofs.MemberLemmas.{members_with}
 use Rattle.range_index.proofs.WithLemmas.{IsArcs-with, IsArcs-filter}
 use Rattle.zone_chains.specs.Zone.{OneChain}
 use Rattle.zone_chains.specs.Views.{nsec_start, nsec_end, nsec3_start, nsec3_end, apart_in, AreArcs, IsChain}
 use Rattle.zone_chains.specs.Spans.{kind_by, records_by, chain_by}
 use Rattle.zone_chains.specs.Changes.{records_with, records_without, alone, joined, parted}
 use Rattle.zone_chains.specs.declared.chain_records.ChainSpans.{ChainSpans}
-use Rattle.zone_chains.proofs.ListLemmas.{here_or_there, nothing_in, AllPairs-one, AllPairs-head, AllPairs-tail}
+use Rattle.zone_chains.proofs.ListLemmas.{AllPairs-one}
 use Rattle.zone_chains.proofs.ChainLemmas.{apart_is, not_true}
 
 -- ---- a record alone
@@ -99,10 +103,10 @@ module _ {S K : Type 0} (cmp : K → K → Ordering) (total : IsTotalOrder cmp) 
   -- of spans in order of start, one starts at a key
   one_start : (xs : List S) → AllPairs (λ span other. starts_before cmp start other span ≡ true) xs → (x y : S) → Contains xs x → Contains xs y → is_eq (cmp (start x) (start y)) ≡ true → x ≡ y
   one_start [] order x y has has' eq = absurd (nothing_in x has)
-  one_start (z ∷ xs) order x y has has' eq = by (here_or_there z xs x has) (here_or_there z xs y has') (λ h h'. one_start xs (AllPairs-tail (λ span other. starts_before cmp start other span ≡ true) z xs order) x y h h' eq)
+  one_start (z ∷ xs) order x y has has' eq = by (first_or_there z xs x has) (first_or_there z xs y has') (λ h h'. one_start xs (pairs_tail (λ span other. starts_before cmp start other span ≡ true) z xs order) x y h h' eq)
     where
       behind : (w : S) → Contains xs w → is_lt (cmp (start z) (start w)) ≡ true
-      behind w h = All-contains (λ other. starts_before cmp start other z ≡ true) xs w (AllPairs-head (λ span other. starts_before cmp start other span ≡ true) z xs order) h
+      behind w h = All-contains (λ other. starts_before cmp start other z ≡ true) xs w (pairs_head (λ span other. starts_before cmp start other span ≡ true) z xs order) h
 
       by : (x ≡ z) ⊎ Contains xs x → (y ≡ z) ⊎ Contains xs y → (Contains xs x → Contains xs y → x ≡ y) → x ≡ y
       by (inl same) (inl same') rest = same ∙ sym same'
@@ -111,7 +115,7 @@ module _ {S K : Type 0} (cmp : K → K → Ordering) (total : IsTotalOrder cmp) 
       by (inr h) (inr h') rest = rest h h'
 
   elsewhere : (xs : List S) → AllPairs (λ span other. starts_before cmp start other span ≡ true) xs → (item : S) → Contains xs item → (r : S) → Contains (filter (starts_elsewhere cmp start (start item)) xs) r ↔ (Contains xs r × (r ≢ item))
-  elsewhere xs order item has r = let test : S → Bool = starts_elsewhere cmp start (start item) in (λ h. ((stayed test xs r h).0, λ same. true≢false (sym (stayed test xs r h).1 ∙ itself same)), λ h. stays test xs r h.0 (by (is_eq (cmp (start r) (start item))) refl h.0 h.1))
+  elsewhere xs order item has r = let test : S → Bool = starts_elsewhere cmp start (start item) in (λ h. ((was_kept test xs r h).0, λ same. true≢false (sym (was_kept test xs r h).1 ∙ itself same)), λ h. kept test xs r h.0 (by (is_eq (cmp (start r) (start item))) refl h.0 h.1))
     where
       itself : r ≡ item → not (is_eq (cmp (start r) (start item))) ≡ false
       itself same = ap (λ w. not (is_eq (cmp (start w) (start item)))) same ∙ ap (λ o. not (is_eq o)) (tied_itself total (start item))
@@ -120,11 +124,6 @@ module _ {S K : Type 0} (cmp : K → K → Ordering) (total : IsTotalOrder cmp) 
       by true eq h other = absurd (other (one_start xs order r item h has eq))
       by false eq h other = ap not eq
 
-not_level : (r : Ordering) → is_lt r ≡ true → not (is_eq r) ≡ true
-not_level Less lt = refl
-not_level Equal lt = absurd (true≢false (sym lt))
-not_level Greater lt = refl
-
 module _ {S K : Type 0} (cmp : K → K → Ordering) (total : IsTotalOrder cmp) (start : S → K) where
   either_side : (a b : K) → is_lt (cmp a b) ≡ true → not (is_eq (cmp b a)) ≡ true
   either_side a b lt = grind (arith, total)
@@ -132,10 +131,10 @@ module _ {S K : Type 0} (cmp : K → K → Ordering) (total : IsTotalOrder cmp) 
   count_elsewhere : (xs : List S) → AllPairs (λ span other. starts_before cmp start other span ≡ true) xs → (item : S) → Contains xs item → length (filter (starts_elsewhere cmp start (start item)) xs) + 1 ≡ length xs
   count_elsewhere [] order item has = absurd (nothing_in item has)
   count_elsewhere (z ∷ xs) order item has =
-      ⊎_elim at (λ h. later h (count_elsewhere xs (AllPairs-tail (λ span other. starts_before cmp start other span ≡ true) z xs order) item h)) (here_or_there z xs item has)
+      ⊎_elim at (λ h. later h (count_elsewhere xs (pairs_tail (λ span other. starts_before cmp start other span ≡ true) z xs order) item h)) (first_or_there z xs item has)
     where
       behind : (w : S) → Contains xs w → is_lt (cmp (start z) (start w)) ≡ true
-      behind w h = All-contains (λ other. starts_before cmp start other z ≡ true) xs w (AllPairs-head (λ span other. starts_before cmp start other span ≡ true) z xs order) h
+      behind w h = All-contains (λ other. starts_before cmp start other z ≡ true) xs w (pairs_head (λ span other. starts_before cmp start other span ≡ true) z xs order) h
 
       at : item ≡ z → length (filter (starts_elsewhere cmp start (start item)) (z ∷ xs)) + 1 ≡ length (z ∷ xs)
       at same =
@@ -147,7 +146,7 @@ module _ {S K : Type 0} (cmp : K → K → Ordering) (total : IsTotalOrder cmp) 
 
       later : Contains xs item → length (filter (starts_elsewhere cmp start (start item)) xs) + 1 ≡ length xs → length (filter (starts_elsewhere cmp start (start item)) (z ∷ xs)) + 1 ≡ length (z ∷ xs)
       later h rest =
-          let passes : starts_elsewhere cmp start (start item) z ≡ true = not_level (cmp (start z) (start item)) (behind item h) in
+          let passes : starts_elsewhere cmp start (start item) z ≡ true = less_not_equal (cmp (start z) (start item)) (behind item h) in
           rw passes (omega arith)
 
 pub parted_count : (each : OneChain) (item : Record) → IsChain each → Contains each.records item → length (parted item each).records + 1 ≡ length each.records

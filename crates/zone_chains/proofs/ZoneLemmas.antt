@@ -1,5 +1,5 @@
 -- What holds of a zone's chains.
-use Rattle.std.proofs.Common.{◌≡◌, Bool, true, false, not, ◌||◌, List, [], ◌∷◌, ◌++◌, Contains, AllPairs, Some, refl, sym, ◌∙◌, ap, subst, arith}
+use Rattle.std.proofs.Common.{◌≡◌, Bool, true, false, not, ◌||◌, List, [], ◌∷◌, ◌++◌, cond, filter, Contains, AllPairs, Some, refl, sym, ◌∙◌, ap, subst, arith}
 use Rattle.std.specs.List.{list_any}
 use Rattle.std.proofs.lemmas.List.{append-nil}
 use Rattle.std.proofs.lemmas.List.Elements.{All-nil, All-cons, All-contains}
@@ -9,10 +9,11 @@ use Rattle.denial_records.specs.declared.record.Record.{Record}
 use Rattle.denial_records.specs.declared.set_rec.SetRec.{SetRec}
 use Rattle.denial_records.specs.declared.record.Record.TheVariants.{Set, Nsec, Nsec3}
 use Rattle.cache_meaning.specs.Held.{ZoneChain, same_zone_chain, chain_of, is_of_chain, displaces}
-use Rattle.zone_chains.specs.Zone.{OneChain, OneZone, IsOfItsChain, IsOneZone, is_new_to}
+use Rattle.zone_chains.specs.Zone.{OneChain, OneZone, IsOfItsChain, IsOneZone, is_new_to, has_records}
 use Rattle.zone_chains.specs.Views.{IsChain, AreChains}
 use Rattle.zone_chains.proofs.ListLemmas.{AllPairs-nil, AllPairs-one, AllPairs-append}
-use Rattle.zone_chains.proofs.ChainLemmas.{other_way, of_two_chains, none_displaces}
+use Rattle.zone_chains.proofs.ChainLemmas.{of_two_chains, none_displaces}
+use Rattle.cache_meaning.proofs.ChainLemmas.{other_way}
 
 apart_in_one : (only : OneChain) → IsChain only → AllPairs (λ one other. displaces one other ≡ false) (only.records ++ [])
 apart_in_one only it = rw append-nil (none_displaces only it)
@@ -60,6 +61,17 @@ one_zone apex (newer ∷ older ∷ third ∷ rest) it = absurd it
 
 pub is_one_zone : (zone : OneZone) → AreChains zone.apex zone.chains → IsOneZone zone
 is_one_zone zone are = one_zone zone.apex zone.chains are
+
+-- those that have records
+pub held_chains : (apex : List Label) (xs : List OneChain) → AreChains apex xs → AreChains apex (filter has_records xs)
+held_chains apex [] it = it
+held_chains apex (only ∷ []) it = elim (has_records only) as (λ b. AreChains apex (cond b (only ∷ []) [])) [ true ↦ it | false ↦ tt ]
+held_chains apex (newer ∷ older ∷ []) it =
+    elim (has_records newer) as (λ b. AreChains apex (cond b (newer ∷ filter has_records (older ∷ [])) (filter has_records (older ∷ [])))) [
+      | true ↦ elim (has_records older) as (λ b. AreChains apex (newer ∷ cond b (older ∷ []) [])) [ true ↦ it | false ↦ it.0 ]
+      | false ↦ held_chains apex (older ∷ []) it.1
+    ]
+held_chains apex (newer ∷ older ∷ third ∷ rest) it = absurd it
 
 -- ---- whether a chain is among them
 

@@ -3,5 +3,4 @@ pub mod Views
 pub mod Spans
 pub mod Chains
 pub mod Changes
-pub mod Met
 pub mod ApexHashes

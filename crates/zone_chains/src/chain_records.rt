@@ -4,7 +4,7 @@ ghost use Rattle.std.specs.Arc.{arc_value};
 ghost use Rattle.std.specs.Option.{option_map};
 ghost use Rattle.std.specs.Str.{bytes_eq};
 ghost use Rattle.cache_meaning.specs.Held.{chain_of, is_of_chain, displaces, same_parameters, zone_of};
-ghost use Rattle.range_index.specs.Arcs.{AreOfFrame, FailInRuns};
+ghost use Rattle.range_index.specs.Arcs.{AreOfOrigin, FailInRuns};
 ghost use Rattle.range_index.specs.Marks.{name_mark};
 ghost use Rattle.cache_meaning.specs.Zones.{as_nsec_at, as_nsec3_at};
 ghost use Rattle.cache_meaning.specs.Evidence.{nsec_matches};
@@ -14,10 +14,8 @@ ghost use Rattle.zone_chains.specs.Zone.{IsChosen};
 ghost use Rattle.zone_chains.specs.Views.{IsDenial, IsOfKind, apart_in};
 ghost use Rattle.zone_chains.specs.Spans.{kind_by, records_by};
 ghost use Rattle.zone_chains.specs.Changes.{joined, parted, records_with, records_without};
-ghost use Rattle.zone_chains.specs.Met.{IsMet};
 
 use crate::apex_hashes::{ApexHashes, hashes_for, shared};
-use crate::met::one_met;
 use crate::nsec_span::{ByOwner, nsec_in, zone_of};
 use crate::nsec3_span::{ByHash, NO_HASH, nsec3_in};
 use cache_meaning::{Chain, Place};
@@ -222,18 +220,6 @@ impl ChainRecords {
             hashes: shared(&self.hashes)?,
         })
     }
-
-    /// A record that a new one of the chain displaces.
-    pub(crate) fn displaced_by(&self, new: &Record) -> Option<&Arc<Record>>
-        requires { chain_of new.now ≡ Some self.now.chain }
-        ensures { IsMet (apart_in self.now.chain.chain new.now)
-            self.now.records (option_map (λ old. arc_value old.now) result) }
-    {
-        match &self.spans {
-            ChainSpans::Nsec(arcs) => one_met(arcs, new),
-            ChainSpans::Nsec3 { arcs, .. } => one_met(arcs, new),
-        }
-    }
 }
 
 // Whether the salts and the numbers of iterations are the same.
@@ -273,7 +259,7 @@ fn spans_with(
     item: Arc<Record>,
 ) -> Result<(ChainSpans, Met), OutOfMemory>
     requires kind { IsOfKind (kind_by spans.now) (arc_value item) }
-    requires zone { AreOfFrame zone_of name_mark (zone_of (arc_value item)) (records_by spans.now) }
+    requires zone { AreOfOrigin zone_of name_mark (zone_of (arc_value item)) (records_by spans.now) }
     ensures kind { IfOk result (λ made. kind_by made.0 ≡ kind_by spans.now) }
     ensures records { IfOk result (λ made. records_by made.0
         ≡ records_with (kind_by spans.now) (arc_value item) (records_by spans.now)) }
@@ -308,7 +294,7 @@ fn spans_without(
     item: &Record,
 ) -> Result<ChainSpans, OutOfMemory>
     requires kind { IsOfKind (kind_by spans.now) item.now }
-    requires zone { AreOfFrame zone_of name_mark (zone_of item.now) (records_by spans.now) }
+    requires zone { AreOfOrigin zone_of name_mark (zone_of item.now) (records_by spans.now) }
     ensures kind { IfOk result (λ made. kind_by made ≡ kind_by spans.now) }
     ensures records { IfOk result (λ made. records_by made
         ≡ records_without (kind_by spans.now) item.now (records_by spans.now)) }

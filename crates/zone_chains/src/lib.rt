@@ -7,7 +7,6 @@
 mod apex_hashes;
 mod chain_records;
 mod changes;
-mod met;
 mod nsec3_span;
 mod nsec_span;
 mod placed;

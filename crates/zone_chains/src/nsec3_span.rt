@@ -30,9 +30,9 @@ impl RingSpan<Record> for ByHash {
 
     ghost end = { nsec3_end };
 
-    ghost frame = { λ item. no_hash };
+    ghost origin = { λ item. no_hash };
 
-    ghost mark = { λ frame key. hash_mark key };
+    ghost mark = { λ origin key. hash_mark key };
 
     fn start_key(item: &Record) -> [u8; HASH_OCTETS] {
         *start_of(item)
@@ -42,7 +42,7 @@ impl RingSpan<Record> for ByHash {
         *end_of(item)
     }
 
-    fn frame(_item: &Record) -> [u8; HASH_OCTETS] {
+    fn origin(_item: &Record) -> [u8; HASH_OCTETS] {
         *NO_HASH
     }
 
@@ -62,7 +62,7 @@ impl RingSpan<Record> for ByHash {
         hash_mark(key)
     }
 
-    ghost marks_rise = { λ frame. hashes_rise };
+    ghost marks_rise = { λ origin. hashes_rise };
 }
 
 // The hash at which an NSEC3 record's span starts.

@@ -29,7 +29,7 @@ impl RingSpan<Record> for ByOwner {
 
     ghost end = { nsec_end };
 
-    ghost frame = { zone_of };
+    ghost origin = { zone_of };
 
     ghost mark = { name_mark };
 
@@ -41,7 +41,7 @@ impl RingSpan<Record> for ByOwner {
         end_of(item).name()
     }
 
-    fn frame(item: &Record) -> Name {
+    fn origin(item: &Record) -> Name {
         zone_of(item).name()
     }
 

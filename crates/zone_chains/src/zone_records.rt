@@ -146,20 +146,6 @@ impl ZoneRecords {
         }
     }
 
-    /// A record that the new one displaces.
-    pub fn displaced_by(&self, new: &Record) -> Option<&Arc<Record>>
-        requires { IsDenialOf self.now.apex new.now }
-        ensures { MatchOption result
-            ((old : Record) → Contains (records_in self.now) old → displaces new.now old ≡ false)
-            (λ old. Contains (records_in self.now) (arc_value old.now)
-            × (displaces new.now (arc_value old.now) ≡ true)) }
-    {
-        match self.chain_for(new) {
-            Some(chain) => chain.displaced_by(new),
-            None => None,
-        }
-    }
-
     /// Whether the record's chain isn't among the zone's.
     pub fn is_new(&self, item: &Record) -> bool
         ensures { result ≡ is_new_to (chains_in self.now) (chain_of item.now) }
@@ -172,11 +158,8 @@ impl ZoneRecords {
 
     // The chain that the record is of.
     fn chain_for(&self, item: &Record) -> Option<&ChainRecords>
-        ensures zone { AreChains self.now.apex self.now.chains }
-        ensures listed { is_some result
+        ensures { is_some result
             ≡ list_any (λ chain. is_of_chain chain item.now) (chains_in self.now) }
-        ensures held { IfSome result (λ chain. Contains self.now.chains chain.now) }
-        ensures of_it { IfSome result (λ chain. is_of_chain chain.now.chain item.now ≡ true) }
     {
         match &self.chains {
             ZoneChains::One(only) if only.is_of(item) => Some(only),
@@ -221,6 +204,7 @@ impl ZoneRecords {
             → displaces (arc_value item) old ≡ false)
             (λ met. DisplacesAt (arc_value item) self.now met.0.now
             met.1.from met.1.to met.1.last)) }
+        ensures whole { IfOk result (λ made. IsOneZone made.0) }
     {
         let (chains, met) = chains_with(alloc, &self.chains, item)?;
         let made = ZoneRecords {
@@ -239,6 +223,7 @@ impl ZoneRecords {
             ↔ (Contains (records_in self.now) each × (each ≢ item.now))) }
         ensures count { IfOk result (λ made.
             length (records_in made) + 1 ≡ length (records_in self.now)) }
+        ensures whole { IfOk result (λ made. IsOneZone made) }
     {
         let chains = chains_without(alloc, &self.chains, item)?;
         Ok(ZoneRecords {
@@ -252,6 +237,7 @@ impl ZoneRecords {
         ensures apex { IfOk result (λ made. made.apex ≡ self.now.apex) }
         ensures chains { IfOk result (λ made.
             made.chains ≡ filter has_records self.now.chains) }
+        ensures whole { IfOk result (λ made. IsOneZone made) }
     {
         let chains = chains_held(&self.chains)?;
         Ok(ZoneRecords {
@@ -260,6 +246,3 @@ impl ZoneRecords {
         })
     }
 }
-
-#[cfg(test)]
-mod tests;

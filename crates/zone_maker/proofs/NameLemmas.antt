@@ -40,7 +40,7 @@ label_gives_number i j small small' same =
     let e : i / 10 ≡ j / 10 = same_number (i / 10) (j / 10) (omega (arith, d)) (ap (λ l. get_or l 5 0) same) in
     same_number i j e (ap (λ l. get_or l 6 0) same)
 
-digit_lower : (n : ℕ) (rest : List ℕ) → lowered rest ≡ rest → lowered (digit n ∷ rest) ≡ digit n ∷ rest
+pub digit_lower : (n : ℕ) (rest : List ℕ) → lowered rest ≡ rest → lowered (digit n ∷ rest) ≡ digit n ∷ rest
 digit_lower n rest same =
     let low : to_ascii_lowercase (digit n) ≡ digit n = (lowercase_is (digit n)).1 (omega arith) in
     ap (λ c. c ∷ lowered rest) low ∙ ap (λ l. digit n ∷ l) same

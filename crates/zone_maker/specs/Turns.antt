@@ -1,4 +1,4 @@
--- What a turn of the code is among those of the made zone.
+-- No public clause cites this module. What a turn of the code is among those of the made zone.
 use Rattle.zone_maker.specs.Made as made
 use Rattle.zone_maker.specs.declared.turn.Turn.{Turn}
 use Rattle.zone_maker.specs.declared.turn.Turn.TheVariants as coded

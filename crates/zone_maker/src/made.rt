@@ -31,6 +31,3 @@ pub fn make(alloc: Global, seed: u32, names: u32) -> Result<Made, OutOfMemory>
         messages: messages(alloc, seed, names)?,
     })
 }
-
-#[cfg(test)]
-mod tests;

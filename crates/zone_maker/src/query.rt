@@ -97,6 +97,3 @@ fn asked_second(turn: Turn, i: u32) -> Asked
     };
     Asked { name, qtype }
 }
-
-#[cfg(test)]
-mod tests;

@@ -13,12 +13,14 @@ use Rattle.std.proofs.lemmas.List.Elements.{All-cons, All-head, All-tail, All-se
 use Rattle.std.proofs.lemmas.List.Sorted.{IsPermutation-sym, IsPermutation-trans, IsPermutation-append_right, IsPermutation-middle, IsPermutation-to_front, All-permutation}
 use Rattle.std.proofs.lemmas.Map.Keys.{IsDistinct-cons, IsDistinct-IsPermutation}
 use Rattle.std.proofs.lemmas.Map.Made.{AllPairs-from_IsDistinct, IsDistinct-from_AllPairs}
+use Rattle.facts.proofs.Lists.{here, there, nothing_in, here_or_there, all_by_member}
 use Rattle.dname.specs.Name.{Label, IsUnder}
+use Rattle.dname.specs.Tests.{same_octets}
 use Rattle.zone_meaning.specs.Zone.{Zone, ZoneRecord, IsProofType, HasData}
 use Rattle.zone_meaning.specs.ZoneTable.{zone_record, records_of, records_in, zone_in, IsOf, AreApart, IsTable}
 use Rattle.zone_meaning.specs.declared.group.Group.{Group}
 use Rattle.zone_meaning.proofs.TableLemmas.{data_at, no_data}
-use Rattle.zone_meaning.proofs.ZoneTests.{here, later, nowhere, first_or_later, all_by_member, same_octets, is_at, at_decides, record_at}
+use Rattle.zone_meaning.proofs.ZoneTests.{is_at, at_decides, record_at}
 
 -- ---- each once
 
@@ -87,11 +89,11 @@ set_permutes (h ∷ groups) (suc place) g octets short read =
 
 set_cases : {X : Type 0} (xs : List X) (place : ℕ) (v x : X) → Contains (set xs place v) x → Contains xs x ⊎ (v ≡ x)
 set_cases [] place v x in' = inl in'
-set_cases (y ∷ ys) zero v x in' = ⊎_elim (λ same. inr same) (λ more. inl (later y ys x more)) (first_or_later v ys x in')
+set_cases (y ∷ ys) zero v x in' = ⊎_elim (λ same. inr same) (λ more. inl (there y ys x more)) (here_or_there v ys x in')
 set_cases (y ∷ ys) (suc place) v x in' = ⊎_elim
     (λ same. inl (subst (Contains (y ∷ ys)) same (here y ys)))
-    (λ more. ⊎_elim (λ among. inl (later y ys x among)) (λ same. inr same) (set_cases ys place v x more))
-    (first_or_later y (set ys place v) x in')
+    (λ more. ⊎_elim (λ among. inl (there y ys x among)) (λ same. inr same) (set_cases ys place v x more))
+    (here_or_there y (set ys place v) x in')
 
 apart_set : (groups : List Group) (place : ℕ) (g v : Group) → place < length groups → get_or groups place g ≡ g → IsOf v g.owner g.rtype → AreApart groups → AreApart (set groups place v)
 apart_set [] place g v short read of apart = absurd (omega arith)
@@ -109,7 +111,7 @@ apart_set (h ∷ groups) (suc place) g v short read of apart = (
     shorter = omega arith
 
 apart_push : (groups : List Group) (g : Group) → All (λ x. IsOf x g.owner g.rtype → ⊥) groups → AreApart groups → AreApart (groups ++ g ∷ [])
-apart_push [] g none apart = (λ x in' of. nowhere x in', tt)
+apart_push [] g none apart = (λ x in' of. nothing_in x in', tt)
 apart_push (h ∷ groups) g none apart = (
   λ x in' of. ⊎_elim
       (λ among. apart.0 x among of)

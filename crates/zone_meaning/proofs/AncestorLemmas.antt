@@ -3,9 +3,9 @@ use Rattle.std.proofs.Common.{◌≡◌, Bool, List, [], ◌∷◌, refl, sym, s
 use Rattle.std.specs.Bool.{Decides}
 use Rattle.std.proofs.lemmas.List.{append-nil}
 use Rattle.dname.specs.Name.{Label, IsUnder}
+use Rattle.dname.proofs.UnderLemmas.{under_itself, under_through, under_both, under_step}
 use Rattle.zone_meaning.specs.Zone.{IsBelow}
-use Rattle.zone_meaning.proofs.ZoneLemmas.{so_or_not, under_itself, under_through, under_both}
-use Rattle.zone_meaning.proofs.ZoneTests.{under_step}
+use Rattle.zone_meaning.proofs.ZoneLemmas.{so_or_not}
 
 module _ (P : List Label → Type 0) (p : List Label → Bool) (decides : (x : List Label) → Decides (p x) (P x)) where
   -- the topmost of them of which P holds, or none

@@ -2,10 +2,10 @@
 use Rattle.std.proofs.Common.{◌≡◌, ◌≢◌, ℕ, List, [], ◌∷◌, refl, sym, subst, arith, inl, inr, ⊎_elim}
 use Rattle.dname.specs.Name.{Label, IsUnder, asterisk}
 use Rattle.dname.specs.declared.types.TheConstants.{DNAME_TYPE, DS_TYPE, NS_TYPE}
-use Rattle.dname.proofs.CommonLemmas.{under_is_longer}
+use Rattle.dname.proofs.SameLemmas.{same_or_not}
+use Rattle.dname.proofs.UnderLemmas.{under_is_longer, under_itself, under_through, under_both}
 use Rattle.zone_meaning.specs.Zone.{Zone, IsBelow, IsCut, IsBar, IsLive, IsOwner, Exists}
 use Rattle.zone_meaning.specs.Lookup.{MeetsCut, MeetsDname, MeetsNothing}
-use Rattle.zone_meaning.proofs.ZoneLemmas.{same_or_not, under_itself, under_through, under_both}
 use Rattle.zone_meaning.proofs.ZoneTests.{is_bar, bar_decides}
 use Rattle.zone_meaning.proofs.AncestorLemmas.{topmost_or_none}
 

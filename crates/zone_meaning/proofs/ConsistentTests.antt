@@ -7,15 +7,19 @@ use Rattle.std.specs.declared.cmp.Ordering.{Ordering}
 use Rattle.std.specs.declared.cmp.Ordering.TheVariants.{Equal}
 use Rattle.std.specs.Cmp.{IsTotalOrder}
 use Rattle.std.proofs.lemmas.Bool.Decides.{Decides-eqb, Decides-like, Decides-not, Decides-and, Decides-or, not_from_Decides}
+use Rattle.facts.proofs.Lists.{all_by_member}
 use Rattle.dname.specs.Name.{Label, IsUnder, canonical_cmp}
 use Rattle.dname.specs.Arc.{arc_has, IsInside}
 use Rattle.dname.specs.Order.{canonical_total, canonical_equal}
 use Rattle.dname.specs.declared.types.TheConstants.{CNAME_TYPE, DS_TYPE, NSEC3_TYPE, NSEC_TYPE, NS_TYPE, RRSIG_TYPE}
 use Rattle.dname.proofs.ArcLemmas.{inside_arc}
+use Rattle.dname.proofs.SameLemmas.{same_name_decides}
+use Rattle.dname.proofs.UnderLemmas.{under_decides}
+use Rattle.dname.specs.Tests.{same_name, is_under}
 use Rattle.zone_meaning.specs.Zone.{Zone, ZoneRecord, IsZone, IsProofType, HasType, IsCut, IsLive}
 use Rattle.zone_meaning.specs.Consistent.{TypesAgree, IsParentType, SetPart, NsecPart, IsConsistentNsec, IsConsistentSet}
 use Rattle.zone_meaning.proofs.LookupTests.{has_just, has_just_decides}
-use Rattle.zone_meaning.proofs.ZoneTests.{all_by_member, any_of, any_decides, all_of, all_decides, if_decides, same_name, same_name_decides, is_under, under_decides, has_type, has_type_decides, is_cut, cut_decides, is_live, live_decides}
+use Rattle.zone_meaning.proofs.ZoneTests.{any_of, any_decides, all_of, all_decides, if_decides, has_type, has_type_decides, is_cut, cut_decides, is_live, live_decides}
 
 -- ---- arcs
 

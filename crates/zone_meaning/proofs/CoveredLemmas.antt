@@ -6,31 +6,31 @@ use Rattle.dname.specs.Order.{canonical_total, canonical_equal}
 use Rattle.dname.specs.Arc.{IsInside}
 use Rattle.dname.specs.declared.types.TheConstants.{CNAME_TYPE, NS_TYPE}
 use Rattle.dname.proofs.TogetherLemmas.{above_is_first, stands_together}
-use Rattle.dname.proofs.ArcLemmas.{not_before_itself, not_both_ways, before_or_after, left_of_inside, right_of_inside}
+use Rattle.dname.proofs.ArcLemmas.{not_before_itself, before_or_after, left_of_inside, right_of_inside}
+use Rattle.dname.proofs.SameLemmas.{same_or_not}
+use Rattle.dname.proofs.OrderLemmas.{not_before}
+use Rattle.dname.proofs.UnderLemmas.{longer_is_under, under_itself, under_through, under_both}
 use Rattle.zone_meaning.specs.Zone.{Zone, IsZone, IsBelow, IsBar, IsLive, IsOwner, HasType, Exists}
 use Rattle.zone_meaning.specs.Lookup.{LooksUp, NoData, MeetsNothing, IsClosestEncloser, at_the_name}
 use Rattle.zone_meaning.specs.Consistent.{NsecPart, IsConsistentNsec}
 use Rattle.zone_meaning.specs.Denial.{SpeaksBelow, IsEncloserBy}
-use Rattle.zone_meaning.proofs.ZoneLemmas.{no_more, same_or_not, under_itself, under_through, under_both, above_one_name, owner_within}
+use Rattle.zone_meaning.proofs.ZoneLemmas.{owner_within}
 use Rattle.zone_meaning.proofs.BarLemmas.{live_bar, unbarred_meets_nothing, exists_unbarred}
 use Rattle.zone_meaning.proofs.DenialLemmas.{no_bar_by_types}
 
 -- ---- names
 
 -- what is not before a name that is not before another is not before that
-not_before : (x y z : List Label) → canonical_cmp x y ≢ Less → canonical_cmp y z ≢ Less → canonical_cmp x z ≢ Less
-not_before x y z h g less = ⊎_elim
+not_before_through : (x y z : List Label) → canonical_cmp x y ≢ Less → canonical_cmp y z ≢ Less → canonical_cmp x z ≢ Less
+not_before_through x y z h g less = ⊎_elim
     (λ same. g (subst (λ n. canonical_cmp n z ≡ Less) same less))
     (λ (apart : x ≢ y). ⊎_elim h (λ back. g (canonical_total.trans y x z back less)) (before_or_after canonical_cmp canonical_total canonical_equal x y apart))
     (same_or_not x y)
 
-pub after_not_before : (x y : List Label) → canonical_cmp x y ≡ Less → canonical_cmp y x ≢ Less
-after_not_before x y less back = not_both_ways canonical_cmp canonical_total x y less back
-
 under_not_before : (name ancestor : List Label) → IsUnder name ancestor → canonical_cmp name ancestor ≢ Less
 under_not_before name ancestor under less = ⊎_elim
     (λ same. not_before_itself canonical_cmp canonical_total ancestor (subst (λ n. canonical_cmp n ancestor ≡ Less) same less))
-    (λ (apart : name ≢ ancestor). after_not_before ancestor name (above_is_first name ancestor under apart) less)
+    (λ (apart : name ≢ ancestor). not_before ancestor name (above_is_first name ancestor under apart) less)
     (same_or_not name ancestor)
 
 -- ---- one NSEC, and a name inside its arc
@@ -47,14 +47,14 @@ module _ (zone : Zone) (part : NsecPart) (nsec : IsConsistentNsec zone part) (na
   owner_between above y over live under less =
       let h : (canonical_cmp part.owner name ≡ Less) × (canonical_cmp part.owner y ≢ Less) =
       left_of_inside canonical_cmp canonical_total canonical_equal part.owner part.next name y inside less (outside y live) in
-      stands_together above part.owner name over (not_before part.owner y above h.1 (under_not_before y above under)) (after_not_before part.owner name h.0)
+      stands_together above part.owner name over (not_before_through part.owner y above h.1 (under_not_before y above under)) (not_before part.owner name h.0)
 
   -- and of one after it, above the next owner
   pub next_between : (above y : List Label) → IsUnder name above → IsLive zone y → IsUnder y above → canonical_cmp name y ≡ Less → IsUnder part.next above
   next_between above y over live under less =
       let h : (canonical_cmp name part.next ≡ Less) × (canonical_cmp y part.next ≢ Less) =
       right_of_inside canonical_cmp canonical_total canonical_equal part.owner part.next name y inside less (outside y live) in
-      stands_together above part.next y under (not_before part.next name above (after_not_before name part.next h.0) (under_not_before name above over)) h.1
+      stands_together above part.next y under (not_before_through part.next name above (not_before name part.next h.0) (under_not_before name above over)) h.1
 
   pub end_between : (above y : List Label) → IsUnder name above → IsLive zone y → IsUnder y above → IsUnder part.owner above ⊎ IsUnder part.next above
   end_between above y over live under = ⊎_elim
@@ -144,12 +144,8 @@ longer_is_nearest : (part : NsecPart) (name long short : List Label) → IsUnder
 longer_is_nearest part name long short shared above above' longer each = record {
   above = above;
   shared = shared;
-  longest = λ another under ends. ⊎_elim (λ up. up) (λ up. under_through long short another (short_above (above_one_name name long short above above')) up) (each another under ends);
+  longest = λ another under ends. ⊎_elim (λ up. up) (λ up. under_through long short another (longer_is_under name long short above above' longer) up) (each another under ends);
 }
-  where
-    short_above : IsUnder long short ⊎ IsUnder short long → IsUnder long short
-    short_above (inl up) = up
-    short_above (inr down) = subst (IsUnder long) (sym (no_more down.0 long short down.1 longer)) (under_itself long)
 
 pub with_owner_is_nearest : (part : NsecPart) (name first second : List Label) → IsCommon name part.owner first → IsCommon name part.next second → length second ≤ length first → IsEncloserBy part name first
 with_owner_is_nearest part name first second common common' longer = longer_is_nearest part name first second (inl common.second) common.first common'.first longer

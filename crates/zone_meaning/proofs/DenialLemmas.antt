@@ -2,6 +2,7 @@
 use Rattle.std.proofs.Common.{◌≡◌, ◌≢◌, ℕ, List, [], ◌∷◌, refl, sym, ◌∙◌, subst, arith, inl, inr, ⊎_elim}
 use Rattle.std.specs.List.{Contains}
 use Rattle.std.proofs.lemmas.List.Elements.{All-contains}
+use Rattle.facts.proofs.Lists.{here}
 use Rattle.dname.specs.Name.{Label, IsUnder, asterisk}
 use Rattle.dname.specs.declared.types.TheConstants.{CNAME_TYPE, DNAME_TYPE, DS_TYPE, NS_TYPE}
 use Rattle.zone_meaning.specs.Zone.{Zone, ZoneRecord, IsZone, IsCut, IsBar, IsLive, IsProofType, HasType, Exists}
@@ -9,7 +10,6 @@ use Rattle.zone_meaning.specs.Lookup.{LooksUp, Answer, NoData, AnswersAt, Synthe
 use Rattle.zone_meaning.specs.Consistent.{NsecPart, SetPart, IsConsistentNsec, IsConsistentSet, TypesAgree}
 use Rattle.zone_meaning.specs.Denial.{DeniesType, DeniesSynthesis, IsMatchWithoutType, IsSetAtSource}
 use Rattle.zone_meaning.proofs.ZoneLemmas.{live_exists}
-use Rattle.zone_meaning.proofs.ZoneTests.{here}
 use Rattle.zone_meaning.proofs.BarLemmas.{unbarred_meets_nothing, exists_unbarred, longer_is_not_above}
 
 -- ---- type bit maps

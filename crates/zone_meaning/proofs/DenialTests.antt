@@ -6,10 +6,13 @@ use Rattle.std.specs.List.{Contains}
 use Rattle.std.proofs.lemmas.Bool.Decides.{Decides-eqb, Decides-like, Decides-not, Decides-and, Decides-or}
 use Rattle.dname.specs.Name.{Label, IsUnder, asterisk}
 use Rattle.dname.specs.declared.types.TheConstants.{CNAME_TYPE, DNAME_TYPE, DS_TYPE, NS_TYPE}
+use Rattle.dname.proofs.SameLemmas.{same_name_decides}
+use Rattle.dname.proofs.UnderLemmas.{under_decides}
+use Rattle.dname.specs.Tests.{same_name, is_under}
 use Rattle.zone_meaning.specs.Zone.{IsProofType}
 use Rattle.zone_meaning.specs.Consistent.{NsecPart, SetPart}
 use Rattle.zone_meaning.specs.Denial.{DeniesType, DeniesSynthesis, IsMatchWithoutType, SpeaksBelow, IsNoName, IsEmptyName, IsEncloserBy, IsMissingName, IsNameError, IsWildcardWithoutType, IsEmptyWildcard, IsSetAtSource, IsWildcardAnswer}
-use Rattle.zone_meaning.proofs.ZoneTests.{all_of, all_decides, if_decides, same_name, same_name_decides, ancestors, is_among, is_under, under_decides}
+use Rattle.zone_meaning.proofs.ZoneTests.{all_of, all_decides, if_decides, ancestors, is_among}
 use Rattle.zone_meaning.proofs.ConsistentTests.{is_inside, inside_decides, has_bit, bit_decides, is_proof_type, proof_type_decides}
 
 -- ---- type bit maps

@@ -1,5 +1,5 @@
 -- The steps of the loops over groups and items.
-use Rattle.std.proofs.Common.{◌≡◌, ◌≢◌, ℕ, ◌+◌, ◌<◌, ◌≤◌, true, false, List, [], ◌∷◌, ◌++◌, length, get_or, refl, sym, ap, subst, arith, ⊎_elim}
+use Rattle.std.proofs.Common.{◌≡◌, ◌≢◌, ℕ, ◌+◌, ◌<◌, ◌≤◌, true, false, List, length, get_or, refl, sym, ap, subst, arith, ⊎_elim}
 use Rattle.std.specs.List.{AllWithin, Any, Contains}
 use Rattle.std.specs.Ordering.{nat_cmp, is_gt}
 use Rattle.std.specs.Cmp.Lexicographic.{slice_cmp, nat_list_cmp_total}
@@ -7,9 +7,8 @@ use Rattle.std.proofs.lemmas.Cmp.{tied_itself, upto}
 use Rattle.std.proofs.lemmas.Bool.{cases_lt, cases_Bool}
 use Rattle.std.proofs.lemmas.List.Elements.{AllWithin-none, AllWithin-more, at_read}
 use Rattle.dname.specs.Name.{Label, IsUnder, IsCommon}
+use Rattle.dname.proofs.UnderLemmas.{under_through, longer_is_under}
 use Rattle.zone_meaning.specs.declared.group.Group.{Group}
-use Rattle.zone_meaning.proofs.ZoneLemmas.{under_itself, under_through, above_one_name}
-use Rattle.dname.proofs.CommonLemmas.{under_is_longer}
 use Rattle.zone_meaning.proofs.SomeAnswer.{turned_back}
 
 -- ---- the nearest name
@@ -22,17 +21,6 @@ pub record IsNearest (groups : List Group) (apex name : List Label) (count : ℕ
   pub above : IsUnder name found
   pub shared : found ≢ apex → Any (λ group. IsUnder group.owner found) groups
   pub longest : AllWithin (IsAboveShared name found) groups 0 count
-
--- of two names above one name, the shorter is above the longer
-shorter_above : (name x y : List Label) → IsUnder name x → IsUnder name y → length y ≤ length x → IsUnder x y
-shorter_above name x y under under' short = ⊎_elim
-    (λ up. up)
-    (λ (down : IsUnder y x). by down.0 down.1)
-    (above_one_name name x y under under')
-  where
-    by : (front : List Label) → y ≡ front ++ x → IsUnder x y
-    by [] is = subst (IsUnder x) (sym is) (under_itself x)
-    by (label ∷ front) is = absurd (omega (arith, short, ap length is, under_is_longer (front ++ x) x (front, refl)))
 
 module _ (groups : List Group) (apex name : List Label) where
   pub nearest_begins : IsUnder name apex → IsNearest groups apex name 0 apex
@@ -53,7 +41,7 @@ module _ (groups : List Group) (apex name : List Label) where
         above = is.first;
         shared = λ _. (i, g, short, sym read, is.second);
         longest = AllWithin-more (IsAboveShared name common) groups 0 i
-            (λ k d low high other under under'. under_through common found other (shorter_above name common found is.first nearest.above (omega arith)) (nearest.longest k d low high other under under'))
+            (λ k d low high other under under'. under_through common found other (longer_is_under name common found is.first nearest.above (omega arith)) (nearest.longest k d low high other under under'))
             (at_read groups (IsAboveShared name common) i g short read is.longest);
       }
 
@@ -62,7 +50,7 @@ module _ (groups : List Group) (apex name : List Label) where
         above = nearest.above;
         shared = nearest.shared;
         longest = AllWithin-more (IsAboveShared name found) groups 0 i nearest.longest
-            (at_read groups (IsAboveShared name found) i g short read (λ other under under'. under_through found common other (shorter_above name found common nearest.above is.first most) (is.longest other under under')));
+            (at_read groups (IsAboveShared name found) i g short read (λ other under under'. under_through found common other (longer_is_under name found common nearest.above is.first most) (is.longest other under under')));
       }
 
 -- ---- the least item

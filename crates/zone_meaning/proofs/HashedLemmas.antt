@@ -1,13 +1,14 @@
 -- What NSEC3s that are true of a zone prove of it.
 use Rattle.std.proofs.Common.{◌≡◌, ◌≢◌, ℕ, List, [], ◌∷◌, refl, sym, ◌∙◌, subst, ◌⊎◌, inl, inr, ⊎_elim}
 use Rattle.dname.specs.Name.{Label, IsUnder, asterisk}
+use Rattle.dname.proofs.SameLemmas.{same_or_not}
+use Rattle.dname.proofs.UnderLemmas.{under_itself, under_through, under_step}
 use Rattle.zone_meaning.specs.Zone.{Zone, IsBelow, IsBar, IsLive, Exists}
 use Rattle.zone_meaning.specs.Lookup.{Looked, Answer, NoData, NxDomain, LooksUp, IsClosestEncloser, Synthesizes, by_no_source, by_a_wildcard}
 use Rattle.zone_meaning.specs.Consistent.{SetPart, IsConsistentSet, TypesAgree}
 use Rattle.zone_meaning.specs.Hashed.{Nsec3Part, IsConsistentNsec3, IsClashFree}
 use Rattle.zone_meaning.specs.HashedDenial.{IsHashedMatchWithoutType, IsNoHashedName, IsNextCloserMissing, IsHashedNameError, IsHashedWildcardWithoutType, IsHashedWildcardAnswer}
-use Rattle.zone_meaning.proofs.ZoneLemmas.{same_or_not, under_itself, under_through, above_one_name}
-use Rattle.zone_meaning.proofs.ZoneTests.{under_step}
+use Rattle.zone_meaning.proofs.ZoneLemmas.{above_one_name}
 use Rattle.zone_meaning.proofs.LookupLemmas.{one_encloser}
 use Rattle.zone_meaning.proofs.BarLemmas.{live_bar, unbarred_meets_nothing, exists_unbarred, exists_above, source_within, longer_is_not_above}
 use Rattle.zone_meaning.proofs.DenialLemmas.{no_data_by_types, no_bar_by_types, made_by_types, made_by_set}

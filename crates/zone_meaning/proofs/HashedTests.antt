@@ -9,10 +9,13 @@ use Rattle.std.proofs.lemmas.Bool.Decides.{Decides-like, Decides-not, Decides-an
 use Rattle.dname.specs.Name.{Label, asterisk}
 use Rattle.dname.specs.Arc.{IsInside}
 use Rattle.dname.specs.declared.types.TheConstants.{DNAME_TYPE}
+use Rattle.dname.proofs.SameLemmas.{same_name_decides}
+use Rattle.dname.proofs.UnderLemmas.{under_decides}
+use Rattle.dname.specs.Tests.{same_octets, same_name, is_under}
 use Rattle.zone_meaning.specs.Zone.{Zone, ZoneRecord, IsOwner, Exists}
 use Rattle.zone_meaning.specs.Hashed.{Nsec3Part, hash_cmp, IsConsistentNsec3, IsClashFree}
 use Rattle.zone_meaning.specs.HashedDenial.{IsHashedMatchWithoutType, IsNoHashedName, IsNextCloserMissing, IsOpenEncloser, IsHashedNameError, IsHashedWildcardWithoutType}
-use Rattle.zone_meaning.proofs.ZoneTests.{all_of, all_decides, if_decides, same_octets, same_name, same_name_decides, ancestors, below_is_ancestor, is_among, is_under, under_decides, does_exist, exists_decides}
+use Rattle.zone_meaning.proofs.ZoneTests.{all_of, all_decides, if_decides, ancestors, below_is_ancestor, is_among, does_exist, exists_decides}
 use Rattle.zone_meaning.proofs.ConsistentTests.{is_within, within_decides, do_types_agree, types_agree}
 use Rattle.zone_meaning.proofs.DenialTests.{shows_no_cut, no_cut_decides, lacks_bit, lacks_decides, denies_type, denies_decides, denies_synthesis, synthesis_decides}
 

@@ -3,7 +3,7 @@ use Rattle.std.proofs.Common.{◌≡◌, ℕ, ◌<◌, List, length, take, drop,
 use Rattle.std.specs.Prelude.{Option, Some, None, IfNone}
 use Rattle.dname.specs.Name.{Label, IsUnder}
 use Rattle.dname.specs.declared.types.TheConstants.{DNAME_TYPE, NS_TYPE}
-use Rattle.dname.proofs.CommonLemmas.{under_is_longer}
+use Rattle.dname.proofs.UnderLemmas.{under_is_longer}
 use Rattle.zone_meaning.specs.Zone.{Zone, IsZone, HasType, IsCut, IsOwner, Exists}
 use Rattle.zone_meaning.specs.Lookup.{Looked, NoData, Referral, Redirect, MeetsCut, MeetsDname, Meets, MeetsFirst, AnswersAt, Synthesizes, by_its_dname, as_itself, LooksUp, at_a_cut, at_a_dname}
 use Rattle.zone_meaning.specs.ZoneTable.{looked_of}

@@ -7,9 +7,11 @@ use Rattle.std.specs.declared.cmp.Ordering.TheVariants.{Less, Equal, Greater}
 use Rattle.std.specs.FinMap.{slice_cmp-IsAntisymmetric, nat_cmp-IsAntisymmetric}
 use Rattle.dname.specs.Name.{Label, IsUnder, asterisk}
 use Rattle.dname.specs.declared.types.TheConstants.{DNAME_TYPE}
+use Rattle.dname.proofs.SameLemmas.{same_or_not}
+use Rattle.dname.proofs.UnderLemmas.{under_itself, under_both}
 use Rattle.zone_meaning.specs.Zone.{Zone, HasType, IsCut}
 use Rattle.zone_meaning.specs.Lookup.{Looked, Answer, Alias, NoData, NxDomain, Referral, Redirect, Undefined, MeetsCut, MeetsDname, Meets, MeetsFirst, AnswersAt, IsClosestEncloser, Synthesizes, by_no_source, by_its_ns, by_its_dname, as_itself, Finds, at_a_cut, at_a_dname, at_the_name, by_a_wildcard, with_no_encloser, LooksUp, IsSameAnswer}
-use Rattle.zone_meaning.proofs.ZoneLemmas.{same_or_not, under_itself, under_both, above_one_name}
+use Rattle.zone_meaning.proofs.ZoneLemmas.{above_one_name}
 
 pub met_above : (zone : Zone) (name : List Label) (rtype : ℕ) (other : List Label) → Meets zone name rtype other → IsUnder name other
 met_above zone name rtype other met = ⊎_elim (λ (cut : MeetsCut zone name rtype other). cut.above) (λ (dname : MeetsDname zone name other). dname.above.0) met

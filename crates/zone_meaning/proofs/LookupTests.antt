@@ -10,9 +10,12 @@ use Rattle.std.specs.Cmp.Lexicographic.{slice_cmp, bytes_decides}
 use Rattle.std.proofs.lemmas.Bool.Decides.{Decides-eqb, Decides-like, Decides-not, Decides-and, Decides-or, not_from_Decides}
 use Rattle.dname.specs.Name.{Label, IsUnder, asterisk}
 use Rattle.dname.specs.declared.types.TheConstants.{CNAME_TYPE, DNAME_TYPE, DS_TYPE, NS_TYPE}
+use Rattle.dname.proofs.SameLemmas.{same_name_decides}
+use Rattle.dname.proofs.UnderLemmas.{under_decides}
+use Rattle.dname.specs.Tests.{same_octets, same_name, is_under}
 use Rattle.zone_meaning.specs.Zone.{Zone, HasData, Exists}
 use Rattle.zone_meaning.specs.Lookup.{Looked, Answer, Alias, NoData, NxDomain, Referral, Redirect, MeetsCut, MeetsDname, Meets, MeetsFirst, MeetsNothing, AnswersAt, IsClosestEncloser, Synthesizes, by_no_source, as_itself, at_a_cut, at_a_dname, at_the_name, by_a_wildcard, LooksUp, IsZoneFor}
-use Rattle.zone_meaning.proofs.ZoneTests.{any_of, any_decides, all_of, all_decides, if_decides, same_octets, same_name, same_name_decides, ancestors, ancestors_are_below, below_is_ancestor, is_among, is_below, below_decides, is_under, under_decides, is_at, at_decides, record_at, has_type, has_type_decides, has_data, has_data_decides, is_cut, cut_decides, does_exist, exists_decides}
+use Rattle.zone_meaning.proofs.ZoneTests.{any_of, any_decides, all_of, all_decides, if_decides, ancestors, ancestors_are_below, below_is_ancestor, is_among, is_below, below_decides, is_at, at_decides, record_at, has_type, has_type_decides, has_data, has_data_decides, is_cut, cut_decides, does_exist, exists_decides}
 use Rattle.zone_meaning.proofs.LookupLemmas.{met_above}
 
 -- ---- on the way

@@ -6,11 +6,11 @@ use Rattle.std.proofs.lemmas.List.Elements.{All-head, All-tail}
 use Rattle.dname.specs.Name.{Label, IsLabel, IsName, IsUnder, asterisk, wire_of, canonical_cmp}
 use Rattle.dname.specs.Order.{canonical_total}
 use Rattle.dname.specs.Arc.{IsInside}
+use Rattle.dname.proofs.OrderLemmas.{not_before}
 use Rattle.dname.proofs.TogetherLemmas.{above_is_first, stands_together}
 use Rattle.dname.proofs.ArcLemmas.{no_end_inside}
 use Rattle.zone_meaning.specs.Consistent.{NsecPart}
 use Rattle.zone_meaning.specs.Denial.{IsNoName, IsEncloserBy}
-use Rattle.zone_meaning.proofs.CoveredLemmas.{after_not_before}
 
 -- where the next owner isn't below a name inside the arc, the owner isn't either
 owner_elsewhere : (part : NsecPart) (name : List Label) → IsNoName part name → IsUnder part.owner name → ⊥
@@ -23,10 +23,10 @@ owner_elsewhere part name none under = by none.inside
     first = above_is_first part.owner name under apart
 
     by : IsInside canonical_cmp part.owner part.next name → ⊥
-    by (inl h) = after_not_before name part.owner first h.1
+    by (inl h) = not_before name part.owner first h.1
     by (inr h) = ⊎_elim
-        (λ after. after_not_before name part.owner first after)
-        (λ short. none.next_elsewhere (stands_together name part.next part.owner under (after_not_before name part.next short) h.0))
+        (λ after. not_before name part.owner first after)
+        (λ short. none.next_elsewhere (stands_together name part.next part.owner under (not_before name part.next short) h.0))
         h.2
 
 not_itself : (part : NsecPart) (name encloser : List Label) → IsNoName part name → IsEncloserBy part name encloser → name ≢ encloser

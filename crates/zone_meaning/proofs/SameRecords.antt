@@ -1,13 +1,13 @@
 -- What holds of a zone holds of one with the same records, in whatever order and however often they come.
 use Rattle.std.proofs.Common.{ℕ, List, ◌∷◌, sym, ◌∙◌, subst, inl, inr, ⊎_elim}
 use Rattle.std.proofs.lemmas.List.Elements.{All-contains}
+use Rattle.facts.proofs.Lists.{all_by_member}
 use Rattle.dname.specs.Name.{Label, IsUnder, asterisk}
 use Rattle.dname.specs.declared.types.TheConstants.{CNAME_TYPE, DNAME_TYPE, NS_TYPE}
 use Rattle.zone_meaning.specs.Zone.{Zone, ZoneRecord, IsSameZone, IsZone, IsProofType, HasType, IsCut, IsBar, IsLive, Exists}
 use Rattle.zone_meaning.specs.Lookup.{Looked, Answer, Alias, NoData, NxDomain, Referral, Redirect, Undefined, MeetsCut, MeetsDname, Meets, MeetsFirst, MeetsNothing, AnswersAt, IsClosestEncloser, Synthesizes, by_no_source, by_its_ns, by_its_dname, as_itself, Finds, at_a_cut, at_a_dname, at_the_name, by_a_wildcard, with_no_encloser, LooksUp}
 use Rattle.zone_meaning.specs.Hashed.{Nsec3Part, IsConsistentNsec3, IsClashFree}
 use Rattle.zone_meaning.specs.Consistent.{SetPart, NsecPart, IsConsistentSet, IsConsistentNsec, TypesAgree}
-use Rattle.zone_meaning.proofs.ZoneTests.{all_by_member}
 
 back : (z w : Zone) → IsSameZone z w → IsSameZone w z
 back z w same = record { apex_same = sym same.apex_same; records_same = λ r. ((same.records_same r).1, (same.records_same r).0) }

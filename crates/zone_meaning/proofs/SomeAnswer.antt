@@ -8,12 +8,13 @@ use Rattle.std.specs.Ordering.{nat_cmp, is_gt, ordering_reverse}
 use Rattle.std.specs.Cmp.Lexicographic.{slice_cmp, nat_list_cmp_total}
 use Rattle.std.proofs.lemmas.Cmp.{tied_itself, upto}
 use Rattle.std.proofs.lemmas.Bool.{cases_Bool}
+use Rattle.facts.proofs.Lists.{here, there, nothing_in, here_or_there}
 use Rattle.dname.specs.Name.{Label, IsUnder, asterisk}
 use Rattle.dname.specs.declared.types.TheConstants.{CNAME_TYPE, DNAME_TYPE, NS_TYPE}
 use Rattle.zone_meaning.specs.Zone.{Zone, ZoneRecord, HasData, HasType, IsBelow, Exists}
 use Rattle.zone_meaning.specs.Lookup.{Looked, Answer, Alias, NoData, NxDomain, Referral, Redirect, Undefined, Meets, MeetsFirst, MeetsNothing, AnswersAt, Synthesizes, by_no_source, by_its_ns, by_its_dname, as_itself, at_a_cut, at_a_dname, at_the_name, by_a_wildcard, with_no_encloser, LooksUp}
 use Rattle.zone_meaning.proofs.ZoneLemmas.{so_or_not}
-use Rattle.zone_meaning.proofs.ZoneTests.{here, later, nowhere, first_or_later, is_at, at_decides, record_at, has_type, has_type_decides, is_cut, cut_decides, does_exist, exists_decides}
+use Rattle.zone_meaning.proofs.ZoneTests.{is_at, at_decides, record_at, has_type, has_type_decides, is_cut, cut_decides, does_exist, exists_decides}
 use Rattle.zone_meaning.proofs.AncestorLemmas.{topmost_or_none, lowest_or_none}
 use Rattle.zone_meaning.proofs.LookupTests.{meets, meets_decides}
 use Rattle.zone_meaning.proofs.LookupLemmas.{met_above}
@@ -21,7 +22,7 @@ use Rattle.zone_meaning.proofs.LookupLemmas.{met_above}
 -- ---- at a name
 
 collected : (owner : List Label) (rtype : ℕ) (records : List ZoneRecord) → (items : List (List ℕ)) × ((octets : List ℕ) → Contains items octets ↔ Contains records (record { owner = owner; rtype = rtype; octets = octets }))
-collected owner rtype [] = ([], λ octets. (λ in'. absurd (nowhere octets in'), λ in'. absurd (nowhere _ in')))
+collected owner rtype [] = ([], λ octets. (λ in'. absurd (nothing_in octets in'), λ in'. absurd (nothing_in _ in')))
 collected owner rtype (r ∷ records) =
     let rest : (items : List (List ℕ)) × ((octets : List ℕ) → Contains items octets ↔ Contains records (record { owner = owner; rtype = rtype; octets = octets })) = collected owner rtype records in
     ⊎_elim
@@ -30,22 +31,22 @@ collected owner rtype (r ∷ records) =
       λ octets. (
         λ in'. ⊎_elim
             (λ same. subst (Contains (r ∷ records)) (record_at r owner rtype at.0 at.1 ∙ ap (λ (o : List ℕ). let x : ZoneRecord = record { owner = owner; rtype = rtype; octets = o } in x) same) (here r records))
-            (λ more. later r records _ ((rest.1 octets).0 more))
-            (first_or_later r.octets rest.0 octets in'),
+            (λ more. there r records _ ((rest.1 octets).0 more))
+            (here_or_there r.octets rest.0 octets in'),
         λ in'. ⊎_elim
             (λ same. subst (Contains (r.octets ∷ rest.0)) (ap (λ (x : ZoneRecord). x.octets) same) (here r.octets rest.0))
-            (λ more. later r.octets rest.0 octets ((rest.1 octets).1 more))
-            (first_or_later r records _ in'),
+            (λ more. there r.octets rest.0 octets ((rest.1 octets).1 more))
+            (here_or_there r records _ in'),
       ),
     ))
     (λ elsewhere. (
       rest.0,
       λ octets. (
-        λ in'. later r records _ ((rest.1 octets).0 in'),
+        λ in'. there r records _ ((rest.1 octets).0 in'),
         λ in'. ⊎_elim
             (λ same. absurd (elsewhere (ap (λ (x : ZoneRecord). x.owner) same, ap (λ (x : ZoneRecord). x.rtype) same)))
             (λ more. (rest.1 octets).1 more)
-            (first_or_later r records _ in'),
+            (here_or_there r records _ in'),
       ),
     ))
     (so_or_not (is_at owner rtype r) (at_decides owner rtype r))
@@ -65,18 +66,18 @@ not_greater r most e = differs (sym (ap is_gt e) ∙ most)
 
 -- of octets that are not none, the least
 least : (x : List ℕ) (items : List (List ℕ)) → (low : List ℕ) × Contains (x ∷ items) low × ((octets : List ℕ) → Contains (x ∷ items) octets → is_gt (slice_cmp nat_cmp low octets) ≡ false)
-least x [] = (x, here x [], λ octets in'. ⊎_elim (λ same. by_tie octets same) (λ none. absurd (nowhere octets none)) (first_or_later x [] octets in'))
+least x [] = (x, here x [], λ octets in'. ⊎_elim (λ same. by_tie octets same) (λ none. absurd (nothing_in octets none)) (here_or_there x [] octets in'))
   where
     by_tie : (octets : List ℕ) → x ≡ octets → is_gt (slice_cmp nat_cmp x octets) ≡ false
     by_tie octets same = ap is_gt (subst (λ o. slice_cmp nat_cmp x o ≡ Equal) same (tied_itself nat_list_cmp_total x))
 least x (y ∷ ys) = by (least y ys) (cases_Bool (is_gt (slice_cmp nat_cmp x (least y ys).0)))
   where
     by : (h : (low : List ℕ) × Contains (y ∷ ys) low × ((octets : List ℕ) → Contains (y ∷ ys) octets → is_gt (slice_cmp nat_cmp low octets) ≡ false)) → (is_gt (slice_cmp nat_cmp x h.0) ≡ true) ⊎ (is_gt (slice_cmp nat_cmp x h.0) ≡ false) → (low : List ℕ) × Contains (x ∷ y ∷ ys) low × ((octets : List ℕ) → Contains (x ∷ y ∷ ys) octets → is_gt (slice_cmp nat_cmp low octets) ≡ false)
-    by h (inl greater) = (h.0, later x (y ∷ ys) h.0 h.1, λ octets in'. ⊎_elim (λ same. subst (λ o. is_gt (slice_cmp nat_cmp h.0 o) ≡ false) same (turned greater)) (λ more. h.2 octets more) (first_or_later x (y ∷ ys) octets in'))
+    by h (inl greater) = (h.0, there x (y ∷ ys) h.0 h.1, λ octets in'. ⊎_elim (λ same. subst (λ o. is_gt (slice_cmp nat_cmp h.0 o) ≡ false) same (turned greater)) (λ more. h.2 octets more) (here_or_there x (y ∷ ys) octets in'))
       where
         turned : is_gt (slice_cmp nat_cmp x h.0) ≡ true → is_gt (slice_cmp nat_cmp h.0 x) ≡ false
         turned greater = turned_back (slice_cmp nat_cmp x h.0) (slice_cmp nat_cmp h.0 x) (nat_list_cmp_total.antisymm x h.0) greater
-    by h (inr most) = (x, here x (y ∷ ys), λ octets in'. ⊎_elim (λ same. subst (λ o. is_gt (slice_cmp nat_cmp x o) ≡ false) same (ap is_gt (tied_itself nat_list_cmp_total x))) (λ more. upto nat_list_cmp_total x h.0 octets most (h.2 octets more)) (first_or_later x (y ∷ ys) octets in'))
+    by h (inr most) = (x, here x (y ∷ ys), λ octets in'. ⊎_elim (λ same. subst (λ o. is_gt (slice_cmp nat_cmp x o) ≡ false) same (ap is_gt (tied_itself nat_list_cmp_total x))) (λ more. upto nat_list_cmp_total x h.0 octets most (h.2 octets more)) (here_or_there x (y ∷ ys) octets in'))
 
 some_at : (zone : Zone) (name : List Label) (rtype : ℕ) → (answer : Looked) × AnswersAt zone name rtype answer
 some_at zone name rtype = ⊎_elim
@@ -88,7 +89,7 @@ some_at zone name rtype = ⊎_elim
     (so_or_not (has_type zone name rtype) (has_type_decides zone name rtype))
   where
     by_alias : (HasType zone name rtype → ⊥) → (items : List (List ℕ)) → ((octets : List ℕ) → Contains items octets ↔ HasData zone name CNAME_TYPE octets) → HasType zone name CNAME_TYPE → (answer : Looked) × AnswersAt zone name rtype answer
-    by_alias none [] all cname = absurd (nowhere cname.0 ((all cname.0).1 cname.1))
+    by_alias none [] all cname = absurd (nothing_in cname.0 ((all cname.0).1 cname.1))
     by_alias none (x ∷ items) all cname =
         let low = least x items in
         (Alias low.0, (none, (all low.0).0 low.1, λ others has. not_greater (slice_cmp nat_cmp low.0 others) (low.2 others ((all others).1 has))))

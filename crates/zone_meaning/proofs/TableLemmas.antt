@@ -1,29 +1,16 @@
 -- What stands in a table's groups stands in its zone.
-use Rattle.std.proofs.Common.{◌≡◌, ◌≢◌, ℕ, ◌<◌, List, [], ◌∷◌, length, map, refl, sym, ◌∙◌, ap, subst, ⊎_elim, get_or}
+use Rattle.std.proofs.Common.{◌≡◌, ◌≢◌, ℕ, ◌<◌, List, [], ◌∷◌, length, refl, sym, ◌∙◌, ap, subst, ⊎_elim, get_or}
 use Rattle.std.specs.List.{All, Any, Contains, HoldsAt}
 use Rattle.std.proofs.lemmas.List.Elements.{All-contains, Contains-append_left, Contains-append_right, Contains-append_cases}
+use Rattle.facts.proofs.Maps.{into_map, from_map}
+use Rattle.facts.proofs.Lists.{here, there, nothing_in, here_or_there}
 use Rattle.dname.specs.Name.{Label, IsUnder}
 use Rattle.zone_meaning.specs.Zone.{Zone, ZoneRecord, HasData, HasType, IsOwner}
 use Rattle.zone_meaning.specs.Lookup.{Answer, AnswersAt}
 use Rattle.zone_meaning.specs.ZoneTable.{zone_record, records_of, records_in, IsOf, AreApart, IsTable, IsReached}
 use Rattle.zone_meaning.specs.declared.group.Group.{Group}
-use Rattle.zone_meaning.proofs.ZoneTests.{here, later, nowhere, first_or_later}
 
 -- ---- lists
-
-pub in_map : {X Y : Type 0} (f : X → Y) (xs : List X) (x : X) → Contains xs x → Contains (map f xs) (f x)
-in_map f [] x in' = absurd (nowhere x in')
-in_map f (y ∷ ys) x in' = ⊎_elim
-    (λ same. subst (λ z. Contains (map f (y ∷ ys)) (f z)) same (here (f y) (map f ys)))
-    (λ more. later (f y) (map f ys) (f x) (in_map f ys x more))
-    (first_or_later y ys x in')
-
-pub from_map : {X Y : Type 0} (f : X → Y) (xs : List X) (y : Y) → Contains (map f xs) y → (x : X) × Contains xs x × (f x ≡ y)
-from_map f [] y in' = absurd (nowhere y in')
-from_map f (x ∷ xs) y in' = ⊎_elim
-    (λ same. (x, here x xs, same))
-    (λ more. let h = from_map f xs y more in (h.0, later x xs h.0 h.1, h.2))
-    (first_or_later (f x) (map f xs) y in')
 
 pub first_item : (items : List (List ℕ)) → items ≢ [] → (octets : List ℕ) × Contains items octets
 first_item [] some = absurd (some refl)
@@ -32,32 +19,32 @@ first_item (octets ∷ items) some = (octets, here octets items)
 -- ---- records
 
 pub in_records : (groups : List Group) (g : Group) → Contains groups g → (octets : List ℕ) → Contains g.items octets → Contains (records_in groups) (zone_record g.owner g.rtype octets)
-in_records [] g in' octets item = absurd (nowhere g in')
+in_records [] g in' octets item = absurd (nothing_in g in')
 in_records (h ∷ groups) g in' octets item = ⊎_elim
-    (λ (same : h ≡ g). Contains-append_left (records_of h) (records_in groups) (zone_record g.owner g.rtype octets) (subst (λ (x : Group). Contains (records_of x) (zone_record g.owner g.rtype octets)) (sym same) (in_map (zone_record g.owner g.rtype) g.items octets item)))
+    (λ (same : h ≡ g). Contains-append_left (records_of h) (records_in groups) (zone_record g.owner g.rtype octets) (subst (λ (x : Group). Contains (records_of x) (zone_record g.owner g.rtype octets)) (sym same) (into_map (zone_record g.owner g.rtype) g.items octets item)))
     (λ more. Contains-append_right (records_of h) (records_in groups) (zone_record g.owner g.rtype octets) (in_records groups g more octets item))
-    (first_or_later h groups g in')
+    (here_or_there h groups g in')
 
 pub from_records : (groups : List Group) (r : ZoneRecord) → Contains (records_in groups) r → (g : Group) × Contains groups g × (g.owner ≡ r.owner) × (g.rtype ≡ r.rtype) × Contains g.items r.octets
-from_records [] r in' = absurd (nowhere r in')
+from_records [] r in' = absurd (nothing_in r in')
 from_records (g ∷ groups) r in' = ⊎_elim
     (λ mine. let h = from_map (zone_record g.owner g.rtype) g.items r mine in (g, here g groups, ap (λ (x : ZoneRecord). x.owner) h.2, ap (λ (x : ZoneRecord). x.rtype) h.2, subst (Contains g.items) (ap (λ (x : ZoneRecord). x.octets) h.2) h.1))
-    (λ more. let h = from_records groups r more in (h.0, later g groups h.0 h.1, h.2, h.3, h.4))
+    (λ more. let h = from_records groups r more in (h.0, there g groups h.0 h.1, h.2, h.3, h.4))
     (Contains-append_cases (records_of g) (records_in groups) r in')
 
 -- of one owner and type there is one group
 pub one_group : (groups : List Group) → AreApart groups → (g h : Group) → Contains groups g → Contains groups h → IsOf g h.owner h.rtype → g ≡ h
-one_group [] apart g h in' in'' of = absurd (nowhere g in')
+one_group [] apart g h in' in'' of = absurd (nothing_in g in')
 one_group (x ∷ groups) apart g h in' in'' of = ⊎_elim
     (λ (same : x ≡ g). ⊎_elim
     (λ (same' : x ≡ h). sym same ∙ same')
     (λ more. absurd (apart.0 h more (sym of.0 ∙ ap (λ (y : Group). y.owner) (sym same), sym of.1 ∙ ap (λ (y : Group). y.rtype) (sym same))))
-    (first_or_later x groups h in''))
+    (here_or_there x groups h in''))
     (λ more. ⊎_elim
     (λ (same' : x ≡ h). absurd (apart.0 g more (of.0 ∙ ap (λ (y : Group). y.owner) (sym same'), of.1 ∙ ap (λ (y : Group). y.rtype) (sym same'))))
     (λ more'. one_group groups apart.1 g h more more' of)
-    (first_or_later x groups h in''))
-    (first_or_later x groups g in')
+    (here_or_there x groups h in''))
+    (here_or_there x groups g in')
 
 module _ (zone : Zone) (groups : List Group) (is : IsTable zone groups) where
   pub group_has : (g : Group) → Contains groups g → (octets : List ℕ) → Contains g.items octets → HasData zone g.owner g.rtype octets

@@ -2,11 +2,13 @@
 -- an owner is its closest encloser.
 use Rattle.std.proofs.Common.{◌≡◌, ◌≢◌, ℕ, List, ◌∷◌, sym, subst, ◌⊎◌, inl, inr, ⊎_elim}
 use Rattle.dname.specs.Name.{Label, IsUnder, asterisk}
+use Rattle.dname.proofs.SameLemmas.{same_or_not}
+use Rattle.dname.proofs.UnderLemmas.{under_itself, under_through, under_both, under_step}
 use Rattle.zone_meaning.specs.Zone.{Zone, IsZone, IsBelow, IsCut, IsBar, IsOwner, Exists}
 use Rattle.zone_meaning.specs.Lookup.{MeetsNothing, IsClosestEncloser}
 use Rattle.zone_meaning.specs.ZoneTable.{IsUnbarred, IsReached}
-use Rattle.zone_meaning.proofs.ZoneLemmas.{same_or_not, under_itself, under_through, under_both, above_one_name, owner_within}
-use Rattle.zone_meaning.proofs.ZoneTests.{is_bar, bar_decides, under_step}
+use Rattle.zone_meaning.proofs.ZoneLemmas.{above_one_name, owner_within}
+use Rattle.zone_meaning.proofs.ZoneTests.{is_bar, bar_decides}
 use Rattle.zone_meaning.proofs.AncestorLemmas.{topmost_or_none}
 use Rattle.zone_meaning.proofs.BarLemmas.{bar_owner}
 

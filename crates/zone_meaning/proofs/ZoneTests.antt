@@ -1,44 +1,30 @@
 -- Tests that decide what the definitions say of a zone, and so compute at a zone that is written out.
-use Rattle.std.proofs.Common.{◌≡◌, ◌≢◌, ℕ, Bool, true, false, List, [], ◌∷◌, ◌++◌, length, refl, sym, ◌∙◌, ap, subst, arith, ◌⊎◌, inl, inr, ⊎_elim}
-use Rattle.std.specs.Prelude.{nat_eq, not, slice_index_or, ◌&&◌, ◌||◌, ◌==◌}
+use Rattle.std.proofs.Common.{◌≡◌, ◌≢◌, ℕ, Bool, true, false, List, [], ◌∷◌, length, refl, sym, ◌∙◌, ap, subst, arith, inl, inr, ⊎_elim}
+use Rattle.std.specs.Prelude.{not, ◌&&◌, ◌||◌, ◌==◌}
 use Rattle.std.specs.Bool.{Decides}
-use Rattle.std.specs.List.{All, Contains}
-use Rattle.std.specs.Cmp.Lexicographic.{pointwise, pointwise_decides, bytes_decides}
+use Rattle.std.specs.List.{Contains}
+use Rattle.std.specs.Cmp.Lexicographic.{bytes_decides}
+use Rattle.std.proofs.lemmas.Bool.{false≢true}
 use Rattle.std.proofs.lemmas.Bool.Decides.{Decides-eqb, Decides-like, Decides-not, Decides-and, Decides-or, not_from_Decides}
-use Rattle.std.proofs.lemmas.List.Elements.{Contains-get_or, Contains-append_left, Contains-append_right, Contains-append_cases, Contains-push, Contains-push_cases}
-use Rattle.std.proofs.lemmas.List.{append-nil}
+use Rattle.facts.proofs.Lists.{here, there, nothing_in, here_or_there}
 use Rattle.dname.specs.Name.{Label, IsUnder}
+use Rattle.dname.specs.Tests.{same_octets, same_name, is_under}
 use Rattle.dname.specs.declared.types.TheConstants.{DNAME_TYPE, NS_TYPE}
-use Rattle.dname.proofs.CommonLemmas.{under_is_longer}
+use Rattle.dname.proofs.SameLemmas.{same_name_decides, same_or_not}
+use Rattle.dname.proofs.UnderLemmas.{under_decides, under_itself, under_root, under_longer, under_is_longer, under_step, under_both}
 use Rattle.zone_meaning.specs.Zone.{Zone, ZoneRecord, HasData, HasType, IsBelow, IsCut, IsBar, IsLive, IsOwner, Exists}
-use Rattle.zone_meaning.proofs.ZoneLemmas.{same_or_not, under_both}
 
 -- ---- lists
-
-pub here : {X : Type 0} (x : X) (xs : List X) → Contains (x ∷ xs) x
-here x xs = Contains-append_left (x ∷ []) xs x (Contains-push [] x)
-
-pub later : {X : Type 0} (x : X) (xs : List X) (y : X) → Contains xs y → Contains (x ∷ xs) y
-later x xs y in' = Contains-append_right (x ∷ []) xs y in'
-
-pub nowhere : {X : Type 0} (y : X) → Contains [] y → ⊥
-nowhere y in' = omega (arith, in'.1)
-
-pub first_or_later : {X : Type 0} (x : X) (xs : List X) (y : X) → Contains (x ∷ xs) y → (x ≡ y) ⊎ Contains xs y
-first_or_later x xs y in' = ⊎_elim
-    (λ one. ⊎_elim (λ none. absurd (nowhere y none)) (λ same. inl same) (Contains-push_cases [] x y one))
-    (λ more. inr more)
-    (Contains-append_cases (x ∷ []) xs y in')
 
 abbrev pub any_of : {X : Type 0} → (X → Bool) → List X → Bool
 any_of p [] = false
 any_of p (x ∷ xs) = p x || any_of p xs
 
 pub any_decides : {X : Type 0} (p : X → Bool) (P : X → Type 0) → ((x : X) → Decides (p x) (P x)) → (xs : List X) → Decides (any_of p xs) ((x : X) × Contains xs x × P x)
-any_decides p P each [] = (λ e. cc, λ h. absurd (nowhere h.0 h.1))
+any_decides p P each [] = (λ e. cc, λ h. absurd (nothing_in h.0 h.1))
 any_decides {X} p P each (x ∷ xs) = Decides-like (p x || any_of p xs)
-    (⊎_elim (λ yes. (x, here x xs, yes)) (λ (h : (y : X) × Contains xs y × P y). (h.0, later x xs h.0 h.1, h.2)))
-    (λ h. ⊎_elim (λ same. inl (subst P (sym same) h.2)) (λ in'. inr (h.0, in', h.2)) (first_or_later x xs h.0 h.1))
+    (⊎_elim (λ yes. (x, here x xs, yes)) (λ (h : (y : X) × Contains xs y × P y). (h.0, there x xs h.0 h.1, h.2)))
+    (λ h. ⊎_elim (λ same. inl (subst P (sym same) h.2)) (λ in'. inr (h.0, in', h.2)) (here_or_there x xs h.0 h.1))
     (Decides-or (p x) (any_of p xs) (each x) (any_decides p P each xs))
 
 abbrev pub all_of : {X : Type 0} → (X → Bool) → List X → Bool
@@ -46,21 +32,15 @@ all_of p [] = true
 all_of p (x ∷ xs) = p x && all_of p xs
 
 pub all_decides : {X : Type 0} (p : X → Bool) (P : X → Type 0) → ((x : X) → Decides (p x) (P x)) → (xs : List X) → Decides (all_of p xs) ((x : X) → Contains xs x → P x)
-all_decides p P each [] = (λ _ y in'. absurd (nowhere y in'), λ _. refl)
+all_decides p P each [] = (λ _ y in'. absurd (nothing_in y in'), λ _. refl)
 all_decides {X} p P each (x ∷ xs) = Decides-like (p x && all_of p xs)
-    (λ h y in'. ⊎_elim (λ same. subst P same h.0) (λ more. h.1 y more) (first_or_later x xs y in'))
-    (λ h. (h x (here x xs), λ y in'. h y (later x xs y in')))
+    (λ h y in'. ⊎_elim (λ same. subst P same h.0) (λ more. h.1 y more) (here_or_there x xs y in'))
+    (λ h. (h x (here x xs), λ y in'. h y (there x xs y in')))
     (Decides-and (p x) (all_of p xs) (each x) (all_decides p P each xs))
-
-pub all_by_member : {X : Type 0} (P : X → Type 0) (xs : List X) → ((x : X) → Contains xs x → P x) → All P xs
-all_by_member P xs each = λ k d short. each (slice_index_or xs k d) (Contains-get_or xs k d short)
 
 pub if_decides : {P Q : Type 0} (p q : Bool) → Decides p P → Decides q Q → Decides (not p || q) (P → Q)
 if_decides true q d e = (λ t yes. e.0 t, λ h. e.1 (h (d.0 refl)))
-if_decides false q d e = (λ t yes. absurd (differs (d.1 yes)), λ h. refl)
-  where
-    differs : false ≡ true → ⊥
-    differs e = cc
+if_decides false q d e = (λ t yes. absurd (false≢true (d.1 yes)), λ h. refl)
 
 -- what a test decides doesn't hold where it fails
 pub refuted : {P : Type 0} {r : Bool} → Decides r P → r ≡ false → P → ⊥
@@ -68,50 +48,34 @@ refuted {P} {r} d test = not_from_Decides r d test
 
 -- ---- names
 
-abbrev pub same_octets : List ℕ → List ℕ → Bool
-same_octets = pointwise nat_eq
-
-abbrev pub same_name : List Label → List Label → Bool
-same_name = pointwise (pointwise nat_eq)
-
-pub same_name_decides : (x y : List Label) → Decides (same_name x y) (x ≡ y)
-same_name_decides x y = pointwise_decides bytes_decides x y
-
 abbrev pub ancestors : List Label → List (List Label)
 ancestors [] = []
 ancestors (label ∷ rest) = rest ∷ ancestors rest
 
-pub under_step : (label : Label) (rest other : List Label) → IsUnder (label ∷ rest) other → (label ∷ rest ≡ other) ⊎ IsUnder rest other
-under_step label rest other under = by under.0 under.1
-  where
-    by : (front : List Label) → label ∷ rest ≡ front ++ other → (label ∷ rest ≡ other) ⊎ IsUnder rest other
-    by [] is = inl is
-    by (x ∷ front) is = inr (front, cc)
-
 pub ancestors_are_below : (name other : List Label) → Contains (ancestors name) other → IsBelow name other
-ancestors_are_below [] other in' = absurd (nowhere other in')
+ancestors_are_below [] other in' = absurd (nothing_in other in')
 ancestors_are_below (label ∷ rest) other in' = ⊎_elim
-    (λ same. subst (IsBelow (label ∷ rest)) same (longer rest rest ([], refl)))
+    (λ same. subst (IsBelow (label ∷ rest)) same (longer rest rest (under_itself rest)))
     (λ more. longer rest other (ancestors_are_below rest other more).0)
-    (first_or_later rest (ancestors rest) other in')
+    (here_or_there rest (ancestors rest) other in')
   where
     longer : (rest other : List Label) → IsUnder rest other → IsBelow (label ∷ rest) other
-    longer rest other under = ((label ∷ under.0, ap (λ l. label ∷ l) under.1), λ e. omega (arith, ap length e, under_is_longer rest other under))
+    longer rest other under = (under_longer label rest other under, λ e. omega (arith, ap length e, under_is_longer rest other under))
 
 pub below_is_ancestor : (name other : List Label) → IsBelow name other → Contains (ancestors name) other
-below_is_ancestor [] other below = absurd (below.1 (under_both [] other below.0 (other, sym (append-nil other))))
+below_is_ancestor [] other below = absurd (below.1 (under_both [] other below.0 (under_root other)))
 below_is_ancestor (label ∷ rest) other below = ⊎_elim
     (λ same. absurd (below.1 same))
     (λ under. ⊎_elim
     (λ same. subst (Contains (rest ∷ ancestors rest)) same (here rest (ancestors rest)))
-    (λ (apart : rest ≢ other). later rest (ancestors rest) other (below_is_ancestor rest other (under, apart)))
+    (λ (apart : rest ≢ other). there rest (ancestors rest) other (below_is_ancestor rest other (under, apart)))
     (same_or_not rest other))
     (under_step label rest other below.0)
 
 pub is_among : (name other : List Label) → IsUnder name other → Contains (name ∷ ancestors name) other
 is_among name other under = ⊎_elim
     (λ same. subst (Contains (name ∷ ancestors name)) same (here name (ancestors name)))
-    (λ (apart : name ≢ other). later name (ancestors name) other (below_is_ancestor name other (under, apart)))
+    (λ (apart : name ≢ other). there name (ancestors name) other (below_is_ancestor name other (under, apart)))
     (same_or_not name other)
 
 abbrev pub is_below : List Label → List Label → Bool
@@ -122,15 +86,6 @@ below_decides name other = Decides-like (is_below name other)
     (λ h. subst (IsBelow name) h.2 (ancestors_are_below name h.0 h.1))
     (λ below. (other, below_is_ancestor name other below, refl))
     (any_decides (λ above. same_name above other) (λ above. above ≡ other) (λ above. same_name_decides above other) (ancestors name))
-
-abbrev pub is_under : List Label → List Label → Bool
-is_under name other = same_name name other || is_below name other
-
-pub under_decides : (name other : List Label) → Decides (is_under name other) (IsUnder name other)
-under_decides name other = Decides-like (is_under name other)
-    (⊎_elim (λ same. subst (IsUnder name) same ([], refl)) (λ (below : IsBelow name other). below.0))
-    (λ under. ⊎_elim (λ same. inl same) (λ (apart : name ≢ other). inr (under, apart)) (same_or_not name other))
-    (Decides-or (same_name name other) (is_below name other) (same_name_decides name other) (below_decides name other))
 
 -- ---- a zone
 
@@ -203,7 +158,7 @@ does_exist zone name = is_under name zone.apex && any_of (λ r. is_live zone r.o
 pub exists_decides : (zone : Zone) (name : List Label) → Decides (does_exist zone name) (Exists zone name)
 exists_decides zone name = Decides-like (does_exist zone name)
     (λ h. record { within = h.0; owner = h.1.0.owner; live = h.1.2.0; under = h.1.2.1 })
-    (λ there. let live = there.live in (there.within, (record { owner = there.owner; rtype = live.owner.0; octets = live.owner.1.0 }, live.owner.1.1, (there.live, there.under))))
+    (λ exists. let live = exists.live in (exists.within, (record { owner = exists.owner; rtype = live.owner.0; octets = live.owner.1.0 }, live.owner.1.1, (exists.live, exists.under))))
     (Decides-and (is_under name zone.apex) (any_of (λ r. is_live zone r.owner && is_under r.owner name) zone.records) (under_decides name zone.apex)
     (any_decides (λ r. is_live zone r.owner && is_under r.owner name) (λ r. IsLive zone r.owner × IsUnder r.owner name)
     (λ r. Decides-and (is_live zone r.owner) (is_under r.owner name) (live_decides zone r.owner) (under_decides r.owner name))

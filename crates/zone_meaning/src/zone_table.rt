@@ -272,6 +272,3 @@ fn is_proof_type(rtype: u16) -> bool
 {
     rtype == RRSIG_TYPE || rtype == NSEC_TYPE || rtype == NSEC3_TYPE
 }
-
-#[cfg(test)]
-mod tests;

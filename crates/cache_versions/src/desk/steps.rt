@@ -7,6 +7,7 @@ ghost use Rattle.cache_versions.specs.Desks.{published, IsNext};
 
 use super::{Desk, Pen};
 use crate::book::{Front, Head, record_entry};
+use crate::never::never;
 use crate::rule::Look;
 use crate::seat::Held;
 use crate::state::State;
@@ -28,7 +29,8 @@ fn next_front<S, B: Drop>(head: &Head<B>, now: &Recorded<S, B>, batch: &B) -> Op
     }
 }
 
-// Publishes the version, or nothing.
+// Publishes the version, or nothing where there is no memory. It waits for ever where `left_right` doesn't publish, which no run
+// shows: what it lacks then is one more owner of the version.
 fn show<S: State, R: Wait>(rt: &R, writer: Pen<S>, next: RecordedOf<S>) -> (Pen<S>, bool)
     requires idle { drop writer.behind writer.log.items ≡ [] }
     requires kin { Kin writer.desk.shown.value next }
@@ -41,15 +43,17 @@ fn show<S: State, R: Wait>(rt: &R, writer: Pen<S>, next: RecordedOf<S>) -> (Pen<
         return (writer, false);
     }
     let (writer, done) = writer.publish_as::<Look, R>(rt);
-    match done {
-        Ok(()) => (writer, true),
-        Err(_) => (writer, false),
+    if done.is_err() {
+        writer.take(rt);
+        never(rt);
+        unreachable!()
     }
+    (writer, true)
 }
 
 impl<S: State> Desk<S> {
-    /// Publishes the version, whose last batch is added to the book first. Nothing is published
-    /// any more where a publication was refused before.
+    /// Publishes the version, whose last batch is added to the book first. Nothing is published any more where there was no memory
+    /// for a version whose batch stood in the book.
     pub fn publish<R: Wait>(
         self,
         rt: &R,
@@ -69,7 +73,9 @@ impl<S: State> Desk<S> {
             return (Desk { writer, head }, None);
         };
         if writer.has_pending_operations() {
-            return (Desk { writer, head }, None);
+            writer.take(rt);
+            never(rt);
+            unreachable!()
         }
         let Some(front) = next_front(&head, writer.published(), batch) else {
             return (Desk { writer, head }, None);

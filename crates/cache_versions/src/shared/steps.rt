@@ -38,8 +38,8 @@ impl<'a, S: State> VersionRef<'a, S> {
 }
 
 impl<S: State> Shared<S> {
-    /// The object, with 1 to 32 seats, of which seat i has the number i. Want of memory also where
-    /// `left_right` gives a seat no place.
+    /// The object, with 1 to 32 seats, of which seat i has the number i. It waits for ever where `left_right` gives a seat no place,
+    /// which no run shows.
     pub fn with_seats<R: Wait>(
         rt: &R,
         alloc: Global,
@@ -57,7 +57,7 @@ impl<S: State> Shared<S> {
         ended.reserve(seats as usize)?;
         let (dealer, all) = Dealer::new(alloc, seats)?;
         let mut writer = open_writer(rt, alloc, &held, seats)?;
-        let made = match make_seats(alloc, &mut writer, &held, &dealer, all, seats) {
+        let made = match make_seats(rt, alloc, &mut writer, &held, &dealer, all, seats) {
             Ok(made) => made,
             Err(error) => {
                 writer.take(rt);
@@ -127,9 +127,9 @@ impl<S: State> Shared<S> {
         Some(answer)
     }
 
-    /// Places the batch behind all that the seat has seen, under the lock. All memory is taken before
-    /// the version is published. Want of memory also where `left_right` doesn't publish; each later
-    /// insert that would be placed then answers it too.
+    /// Places the batch behind all that the seat has seen, under the lock. All memory is taken before the version is published. Where
+    /// it runs out once the batch stands in the book, each later insert that would be placed wants it too. It waits for ever where
+    /// `left_right` doesn't publish, which no run shows.
     pub fn insert<R: Wait>(
         &self,
         rt: &R,

@@ -2,9 +2,6 @@ use Rattle.std.proofs.Common.{◌∙◌, arith}
 use Rattle.dnswire.proofs.ExpansionLemmas.{kept_after, keeps_place}
 use Rattle.dnswire.proofs.name_table.remember.Goals as goal
 
-pub overflow_add-place : goal.overflow_add-place
-overflow_add-place c = omega (arith, c.loop-start.invariant.kept.small, c.in-Some.ensures.room)
-
 pub run_by-requires-clause-sizes : goal.run_by-requires-clause-sizes
 run_by-requires-clause-sizes c =
     let inv = c.loop-start.invariant in

@@ -28,9 +28,9 @@ returns-clause-read c =
     record {
       one = omega arith;
       id = refl;
-      rd = c.has_rd.ensures;
-      ad = c.has_ad.ensures;
-      cd = c.has_cd.ensures;
+      rd = rw c.flags-flags.ensures at c.has_rd.ensures;
+      ad = rw c.flags-flags.ensures at c.has_ad.ensures;
+      cd = rw c.flags-flags.ensures at c.has_cd.ensures;
       taken = c.in-Ok.taken;
       name = subst (λ l. Spells l c.in-Ok.name c.in-Ok.taken) c.octets_from.ensures c.in-Ok.ensures.read;
       fields = c.in-Some.fields;

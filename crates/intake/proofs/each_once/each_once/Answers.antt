@@ -1,5 +1,5 @@
 use Rattle.std.proofs.Common.{arith}
-use Rattle.intake.specs.Group.{same_octets}
+use Rattle.dname.specs.Tests.{same_octets}
 use Rattle.intake.proofs.OnceLemmas.{few_once}
 use Rattle.intake.proofs.each_once.each_once.Goals as goal
 

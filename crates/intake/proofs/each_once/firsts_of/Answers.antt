@@ -2,7 +2,7 @@ use Rattle.std.proofs.Common.{◌≡◌, ◌+◌, ◌<◌, [], length, get_or, r
 use Rattle.std.proofs.lemmas.List.{length_push, take_all}
 use Rattle.std.proofs.lemmas.Iterator.Adapters.{YieldsList-from_vec}
 use Rattle.std.proofs.lemmas.Iterator.Consumers.{YieldsList-turn, YieldsList-end}
-use Rattle.intake.specs.Group.{each_once, same_octets}
+use Rattle.dname.specs.Tests.{each_once, same_octets}
 use Rattle.intake.specs.Once.{news}
 use Rattle.intake.proofs.NewLemmas.{HasTaken, taken_new, taken_old, length-news_after}
 use Rattle.intake.proofs.each_once.firsts_of.Goals as goal

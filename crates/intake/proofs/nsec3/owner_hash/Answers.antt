@@ -1,8 +1,9 @@
 use Rattle.std.proofs.Common.{◌≡◌, not, ◌∷◌, slice_index_or, sym, ap, ◌∙◌}
+use Rattle.std.proofs.lemmas.Bool.{not-false}
 use Rattle.std.specs.Cmp.Lexicographic.{pointwise_decides, bytes_decides}
 use Rattle.dname.specs.Name.{wire_of, lowered}
 use Rattle.intake.proofs.OnceLemmas.{true_or_false}
-use Rattle.intake.proofs.NameLemmas.{hashed, unhashed, hashed_label, not_false}
+use Rattle.intake.proofs.NameLemmas.{hashed, unhashed, hashed_label}
 use Rattle.intake.proofs.nsec3.owner_hash.Goals as goal
 use Rattle.intake.proofs.nsec3.owner_hash.Goals.{then-ne-via-then-ne, then-ne-via-else-ne+then-wire-ne-HASH_DIGITS}
 
@@ -26,7 +27,7 @@ returns-in_err-hash c =
 pub returns : goal.returns
 returns c =
     let text = c.octets_between.ensures ∙ hashed_label c.args.owner.now c.in_ok-parent.ensures.0 c.in_ok-parent.parent c.wire-wire.result.now c.in_ok-parent.ensures.1 c.wire-wire.ensures.spelled c.if-wire-ne-HASH_DIGITS.false in
-    let zone : c.in_ok-parent.parent ≡ c.args.zone.now = (pointwise_decides bytes_decides c.in_ok-parent.parent c.args.zone.now).0 (not_false _ (sym c.ne.ensures ∙ c.if-ne.false)) in
+    let zone : c.in_ok-parent.parent ≡ c.args.zone.now = (pointwise_decides bytes_decides c.in_ok-parent.parent c.args.zone.now).0 (not-false _ (sym c.ne.ensures ∙ c.if-ne.false)) in
     hashed c.args.owner.now c.args.zone.now c.in_ok-parent.ensures.0 c.in_ok-hash.hash c.wire-wire.ensures.name (c.in_ok-parent.ensures.1 ∙ ap (λ rest. c.in_ok-parent.ensures.0 ∷ rest) zone)
     c.are_hash.ensures
     (c.in_ok-hash.ensures.value ∙ ap lowered text)

@@ -3,7 +3,7 @@ use Rattle.std.specs.Arc.{arc_value}
 use Rattle.std.specs.List.{flat_map}
 use Rattle.page_list.proofs.page.pages_of.Given as goal
 
-abbrev pub invariant-loop-part : goal.invariant-loop-part
-invariant-loop-part g l =
-    flat_map (λ page. page) (map arc_value l.pages.items) ++ flat_map g.E.Part.values l.part-iterator.rest.items
+abbrev pub invariant-loop-entries : goal.invariant-loop-entries
+invariant-loop-entries g l =
+    flat_map (λ page. page) (map arc_value l.pages.items) ++ flat_map (λ part. part) l.entries-iterator.rest.items
     ≡ l.fn.entries.items

@@ -1,4 +1,3 @@
-use Rattle.std.proofs.Common.{arith}
 use Rattle.range_index.proofs.SpanLemmas.{before_parted}
 use Rattle.range_index.proofs.WithLemmas.{IsPlainMet-found}
 use Rattle.range_index.proofs.cut.plain_met.Goals as goal
@@ -9,10 +8,8 @@ returns g c =
     c.start_key-start.result c.end_key.result _ _ _ _ _ c.start_key-start.ensures c.end_key.ensures
     c.starts_before.ensures.value c.starts_before-to.ensures.value c.trimmed-from.ensures c.len.ensures c.trimmed-last.ensures c.requires.plain
 
-pub starts_before-requires : goal.starts_before-requires
-starts_before-requires g c =
-    (omega arith, (rw c.frame-frame.ensures c.requires.frame, before_parted _ g.met.R.Key.Ord.total _ g.R.RingSpan.end c.args.list.now c.requires.arcs _))
+pub starts_before-requires-clause-parted : goal.starts_before-requires-clause-parted
+starts_before-requires-clause-parted g c = before_parted _ g.met.R.Key.Ord.total _ g.R.RingSpan.end c.args.list.now c.requires.arcs _
 
-pub starts_before-to-requires : goal.starts_before-to-requires
-starts_before-to-requires g c =
-    (omega arith, (rw c.frame-frame.ensures c.requires.frame, before_parted _ g.met.R.Key.Ord.total _ g.R.RingSpan.end c.args.list.now c.requires.arcs _))
+pub starts_before-to-requires-clause-parted : goal.starts_before-to-requires-clause-parted
+starts_before-to-requires-clause-parted g c = before_parted _ g.met.R.Key.Ord.total _ g.R.RingSpan.end c.args.list.now c.requires.arcs _

@@ -15,8 +15,8 @@ returns-in-Set c =
 pub returns-in_ok-new-in_default : goal.returns-in_ok-new-in_default
 returns-in_ok-new-in_default c =
     let gone = c.args.gone.now in
-    let left = c.in_ok-left-in_default.left in
+    let left = c.in_ok-without_empty-in_default.field-0 in
     subst (IsZoneLeft gone (arc_value c.args.zone.now)) (sym c.in_ok-new-in_default.ensures.ok)
     (subst (λ (z : OneZone). IsZoneLeft gone z left) c.deref.ensures
-    (zone_less gone c.deref.result.now c.in_ok-without-in_default.without left c.in_ok-without-in_default.ensures.apex c.in_ok-without-in_default.ensures.chains c.in_ok-without-in_default.ensures.records c.apex-apex.ensures.zone
-    c.in_ok-left-in_default.ensures.apex c.in_ok-left-in_default.ensures.chains c.apex-apex-in_default.ensures.zone))
+    (zone_less gone c.deref.result.now c.in_ok-without-in_default.without left c.in_ok-without-in_default.ensures.apex c.in_ok-without-in_default.ensures.chains c.in_ok-without-in_default.ensures.records c.in_ok-without-in_default.ensures.whole
+    c.in_ok-without_empty-in_default.ensures.apex c.in_ok-without_empty-in_default.ensures.chains c.in_ok-without_empty-in_default.ensures.whole))

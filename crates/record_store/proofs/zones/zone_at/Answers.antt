@@ -3,7 +3,7 @@ use Rattle.std.specs.List.{prefix_len}
 use Rattle.std.specs.Ordering.{is_lt}
 use Rattle.std.specs.Arc.{arc_value}
 use Rattle.dname.specs.Name.{canonical_cmp}
-use Rattle.held_laws.proofs.ListedLemmas.{name_equal}
+use Rattle.dname.proofs.SameLemmas.{name_equal}
 use Rattle.zone_chains.specs.Zone.{OneZone}
 use Rattle.record_store.proofs.SearchLemmas.{names_differ, read_alike, names_below_first, none_past, first_has, zones_rise}
 use Rattle.record_store.proofs.zones.zone_at.Goals as goal

@@ -8,10 +8,10 @@ use Rattle.reply_core.proofs.records.put_list.Goals as goal
 use Rattle.reply_core.proofs.records.put_list.Goals.{then-not-is_over, else-not-is_over}
 
 pub loop-item-init : goal.loop-item-init
-loop-item-init c = puts_all-first _ _ _ _ _
+loop-item-init g c = puts_all-first _ _ _ _ _
 
 pub loop-item-preserved : goal.loop-item-preserved
-loop-item-preserved c =
+loop-item-preserved g c =
     let one = record_octets c.args.ttl (record { owner = labels_of c.args.owner.now; rtype = c.args.rtype; rdata = c.in-Some.item.now }) in
     let with_one : c.if-not-is_over.draft ≡ put c.loop-item.draft one =
     elim c.if-not-is_over.branch [
@@ -22,4 +22,4 @@ loop-item-preserved c =
     puts_all-next _ _ _ _ _ _ _ _ _ _ _ _ c.in-Some.ensures.first with_one refl c.loop-item.invariant
 
 pub returns : goal.returns
-returns c = puts_all-last _ _ _ _ _ _ _ _ c.in_default.ensures.first (omega arith) c.loop-item.invariant
+returns g c = puts_all-last _ _ _ _ _ _ _ _ c.in_default.ensures.first (omega arith) c.loop-item.invariant

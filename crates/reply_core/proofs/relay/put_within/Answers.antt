@@ -13,7 +13,7 @@ returns-clause-exact c =
     let limit = limit_of c.args.question.now.edns in
     let whole = whole_relay c.args.question.now c.args.message.now in
     let put_all : c.put_whole.new.draft ≡ put (blank limit) whole = c.put_whole.ensures ∙ ap (λ s. put s whole) (c.restart.ensures ∙ ap blank c.limit_of.ensures.value) in
-    let came_whole : is_set TC c.args.message.now.flags ≡ false = sym c.is_set.ensures ∙ c.if-is_set.false in
+    let came_whole : is_set TC c.args.message.now.flags ≡ false = sym c.has_tc.ensures ∙ c.if-has_tc.false in
     ap not c.is_over.ensures ∙ is_within limit whole c.put_whole.new.draft put_all
     ∙ ap (λ cut. not cut && nat_le (length whole) limit) (sym came_whole)
 

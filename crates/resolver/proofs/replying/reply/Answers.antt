@@ -1,6 +1,7 @@
 use Rattle.std.proofs.Common.{◌∙◌, Some, refl, sym, ap}
 use Rattle.reply_core.specs.Answered.{proof_in}
-use Rattle.resolver.proofs.ReplyLemmas.{verdict_is_reply, sound_of}
+use Rattle.reply_core.proofs.ShownLemmas.{verdict_is_reply}
+use Rattle.resolver.proofs.ReplyLemmas.{sound_of}
 use Rattle.resolver.proofs.replying.reply.Goals as goal
 
 pub returns-clause-reply : goal.returns-clause-reply

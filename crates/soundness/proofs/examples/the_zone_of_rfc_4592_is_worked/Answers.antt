@@ -1,5 +1,6 @@
 use Rattle.std.specs.Prelude.{codes}
 use Rattle.std.proofs.Common.{[], ◌∷◌, refl}
+use Rattle.facts.proofs.Lists.{all_one}
 use Rattle.dname.specs.declared.types.TheConstants.{A_TYPE}
 use Rattle.denial_records.specs.declared.verdict.Kind.TheVariants as kinds
 use Rattle.zone_meaning.specs.Zone.{IsZone}
@@ -8,7 +9,7 @@ use Rattle.zone_meaning.specs.Examples.{example, soa_set, wildcards, asterisk_ex
 use Rattle.zone_meaning.specs.DenialExamples.{nsec_at_wildcard, nsec_at_host1, nsec_at_ssh1, nsec_at_ssh2}
 use Rattle.zone_meaning.proofs.ConsistentTests.{zone_by_test, nsec_by_tests, set_by_tests}
 use Rattle.soundness.specs.Examples.{nsecs_held}
-use Rattle.soundness.proofs.ExampleLemmas.{worked_denial, one_holds, two_hold}
+use Rattle.soundness.proofs.ExampleLemmas.{worked_denial, two_hold}
 use Rattle.soundness.proofs.examples.the_zone_of_rfc_4592_is_worked.Goals as goal
 
 zone : IsZone wildcards
@@ -26,11 +27,11 @@ at_host1 = nsec_by_tests wildcards nsec_at_host1 refl refl refl refl refl
 pub returns : goal.returns
 returns c = record {
   tcp_name = worked_denial wildcards zone (nsecs_held (nsec_at_host1 ∷ [])) tcp_host1_example A_TYPE kinds.NoData (nsec_at_host1 ∷ []) soa
-      (one_holds (IsConsistentNsec wildcards) nsec_at_host1 at_host1) refl;
+      (all_one (IsConsistentNsec wildcards) nsec_at_host1 at_host1) refl;
   telnet_name = worked_denial wildcards zone (nsecs_held (nsec_at_host1 ∷ nsec_at_ssh1 ∷ [])) (codes "_telnet" ∷ tcp_host1_example) A_TYPE kinds.NxDomain (nsec_at_ssh1 ∷ nsec_at_host1 ∷ []) soa
       (two_hold (IsConsistentNsec wildcards) nsec_at_ssh1 nsec_at_host1 (nsec_by_tests wildcards nsec_at_ssh1 refl refl refl refl refl) at_host1) refl;
   ghost_name = worked_denial wildcards zone (nsecs_held (nsec_at_wildcard ∷ [])) (codes "ghost" ∷ asterisk_example) A_TYPE kinds.NxDomain (nsec_at_wildcard ∷ []) soa
-      (one_holds (IsConsistentNsec wildcards) nsec_at_wildcard at_wildcard) refl;
+      (all_one (IsConsistentNsec wildcards) nsec_at_wildcard at_wildcard) refl;
   host3_a = worked_denial wildcards zone (nsecs_held (nsec_at_wildcard ∷ nsec_at_ssh2 ∷ [])) (codes "host3" ∷ example) A_TYPE kinds.NoData (nsec_at_ssh2 ∷ nsec_at_wildcard ∷ []) soa
       (two_hold (IsConsistentNsec wildcards) nsec_at_ssh2 nsec_at_wildcard (nsec_by_tests wildcards nsec_at_ssh2 refl refl refl refl refl) at_wildcard) refl;
 }

@@ -1,25 +1,30 @@
-use Rattle.std.proofs.Common.{◌∙◌, sym, ap}
-use Rattle.dname.specs.Tests.{is_under}
-use Rattle.cache_meaning.proofs.StepLemmas.{encloser_gives, encloser_fails}
+use Rattle.std.proofs.Common.{◌∙◌, sym, subst, true≢false}
+use Rattle.dname.specs.Name.{IsUnder}
+use Rattle.synth_nsec3.proofs.WalkLemmas.{apart_proves_nothing, walk_ends, walk_under, walk_apart, walk_asked, walk_gives, walk_goes_on}
 use Rattle.synth_nsec3.proofs.nsec3_steps.by_enclosers.Goals as goal
+
+pub returns-then-not-is_under : goal.returns-then-not-is_under
+returns-then-not-is_under c =
+    apart_proves_nothing c.args.chain.now c.args.qtype c.args.name.now
+    (λ under. true≢false (sym (c.is_under.ensures.1 (subst (IsUnder c.args.name.now) (sym c.apex.ensures) under)) ∙ c.if-not-is_under.true))
+
+pub next_closer-closer-requires-clause-under : goal.next_closer-closer-requires-clause-under
+next_closer-closer-requires-clause-under c = walk_under c.loop-encloser.invariant c.in-Some.ensures.steps
+
+pub next_closer-closer-requires-clause-apart : goal.next_closer-closer-requires-clause-apart
+next_closer-closer-requires-clause-apart c = walk_apart c.loop-encloser.invariant c.in-Some.ensures.steps
+
+pub at_encloser-proof-requires-clause-asked : goal.at_encloser-proof-requires-clause-asked
+at_encloser-proof-requires-clause-asked c = walk_asked c.loop-encloser.invariant c.in-Some.ensures.steps c.next_closer-closer.ensures.one_more
 
 pub returns-in-Some-proof : goal.returns-in-Some-proof
 returns-in-Some-proof c =
-    let chain = c.args.chain.now in
-    let encloser = c.in-Some.encloser in
-    let under = sym (ap (is_under encloser) c.apex.ensures) ∙ sym c.is_under.ensures ∙ c.if-not-is_under.false in
-    encloser_gives chain.held chain.moment chain.apex chain.parameters c.args.qtype c.in-Some.ensures.0 encloser c.loop-encloser.next_closer c.in-Some.ensures.1 under c.in-Some-proof.proof
-    (sym c.in-Some-proof.is ∙ c.at_encloser-proof.ensures.proof)
-    ∙ sym c.loop-encloser.invariant.goes_on
+    walk_gives c.loop-encloser.invariant c.in-Some.ensures.steps c.next_closer-closer.ensures.one_more (sym c.in-Some-proof.is ∙ c.at_encloser-proof.ensures.proof)
 
 pub loop-encloser-preserved : goal.loop-encloser-preserved
 loop-encloser-preserved c =
-    let chain = c.args.chain.now in
-    let encloser = c.in-Some.encloser in
-    let under = sym (ap (is_under encloser) c.apex.ensures) ∙ sym c.is_under.ensures ∙ c.if-not-is_under.false in
-    record {
-      asked_of = c.at_encloser-proof.ensures.asked;
-      goes_on = c.loop-encloser.invariant.goes_on
-          ∙ encloser_fails chain.held chain.moment chain.apex chain.parameters c.args.qtype c.in-Some.ensures.0 encloser c.loop-encloser.next_closer c.in-Some.ensures.1 under
-          (sym c.in_default-proof.is ∙ c.at_encloser-proof.ensures.proof);
-    }
+    walk_goes_on c.loop-encloser.invariant c.in-Some.ensures.steps c.next_closer-closer.ensures.one_more
+    (sym c.in_default.is ∙ c.at_encloser-proof.ensures.proof) c.at_encloser-proof.ensures.asked
+
+pub returns : goal.returns
+returns c = walk_ends c.loop-encloser.invariant c.in-None.ensures.steps.0

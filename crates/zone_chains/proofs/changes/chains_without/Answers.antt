@@ -2,7 +2,7 @@ use Rattle.std.proofs.Common.{◌≡◌, false, Some, sym, ◌∙◌, ap}
 use Rattle.std.specs.Arc.{arc_value}
 use Rattle.cache_meaning.specs.Held.{is_of_chain}
 use Rattle.zone_chains.specs.Zone.{OneChain}
-use Rattle.zone_chains.proofs.ChainLemmas.{of_chain}
+use Rattle.cache_meaning.proofs.ChainLemmas.{of_chain}
 use Rattle.zone_chains.proofs.ComeLemmas.{older_has}
 use Rattle.zone_chains.proofs.changes.chains_without.Goals as goal
 

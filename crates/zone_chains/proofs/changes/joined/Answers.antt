@@ -1,4 +1,4 @@
-use Rattle.zone_chains.proofs.ChainLemmas.{of_chain}
+use Rattle.cache_meaning.proofs.ChainLemmas.{of_chain}
 use Rattle.zone_chains.proofs.changes.joined.Goals as goal
 
 pub with-requires : goal.with-requires

@@ -1,6 +1,6 @@
 use Rattle.std.proofs.Common.{[], ◌∷◌, sym, ◌∙◌}
 use Rattle.std.specs.Arc.{arc_value}
-use Rattle.zone_chains.proofs.ListLemmas.{here, there}
+use Rattle.facts.proofs.Lists.{here, there}
 use Rattle.zone_chains.proofs.ComeLemmas.{displaces_in}
 use Rattle.zone_chains.proofs.changes.two_with.Goals as goal
 

@@ -1,4 +1,4 @@
-use Rattle.std.proofs.Common.{◌≡◌, ◌∷◌, refl}
+use Rattle.std.proofs.Common.{◌∷◌, refl}
 use Rattle.std.specs.Prelude.{codes}
 use Rattle.dname.specs.Name.{asterisk}
 use Rattle.dname.specs.declared.types.TheConstants.{A_TYPE}
@@ -9,14 +9,12 @@ use Rattle.zone_meaning.proofs.LookupTests.{by_source, nothing_at, nothing_made}
 use Rattle.zone_meaning.proofs.ConsistentTests.{zone_by_test, nsec_by_tests}
 use Rattle.zone_meaning.proofs.DenialTests.{empty_by_tests}
 use Rattle.zone_meaning.proofs.WildcardLemmas.{name_error}
+use Rattle.zone_meaning.proofs.ZoneLemmas.{no_data_is_no_error}
 use Rattle.zone_meaning.proofs.denial_examples.an_empty_wildcard.Goals as goal
 
 looked : LooksUp empty_wildcard (codes "y" ∷ v_example) A_TYPE NoData
 looked = by_source empty_wildcard (codes "y" ∷ v_example) A_TYPE refl refl NoData v_example refl refl
     (nothing_made empty_wildcard (asterisk ∷ v_example) A_TYPE refl refl refl (nothing_at empty_wildcard (asterisk ∷ v_example) A_TYPE refl refl))
-
-no_data_is_no_error : NoData ≡ NxDomain → ⊥
-no_data_is_no_error e = cc
 
 pub returns : goal.returns
 returns c = record {

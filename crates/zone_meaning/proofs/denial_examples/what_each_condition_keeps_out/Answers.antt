@@ -2,10 +2,11 @@ use Rattle.std.proofs.Common.{[], ◌∷◌, refl}
 use Rattle.std.specs.Prelude.{codes}
 use Rattle.dname.specs.Name.{asterisk, wire_of}
 use Rattle.dname.specs.declared.types.TheConstants.{A_TYPE, DNAME_TYPE, DS_TYPE, MX_TYPE, NS_TYPE}
+use Rattle.dname.proofs.UnderLemmas.{under_decides}
 use Rattle.zone_meaning.specs.Lookup.{Answer, Alias, NoData, Undefined, by_its_ns, by_its_dname, as_itself}
 use Rattle.zone_meaning.specs.Examples.{wildcards, example, a_example, w_example, star_w_example, address, asterisk_example, alias_example, one_cut, nsec_at_cut, sub_example, moved_example}
 use Rattle.zone_meaning.specs.DenialExamples.{nsec_at_wildcard, low_wildcard, nsec_before_star, before_star_example, empty_wildcard, nsec_before_wildcard, nsec_after_wildcard, v_example, one_alias, nsec_at_alias, wildcard_alias, nsec_at_wildcard_alias, wildcard_cut, ds_set, nsec_at_wildcard_cut, wildcard_dname, nsec_at_wildcard_dname, one_dname, nsec_at_dname}
-use Rattle.zone_meaning.proofs.ZoneTests.{refuted, under_decides, exists_decides, has_type_decides}
+use Rattle.zone_meaning.proofs.ZoneTests.{refuted, exists_decides, has_type_decides}
 use Rattle.zone_meaning.proofs.LookupTests.{by_cut, by_dname, by_name, by_none, by_source, nothing_at, alias_at, data_at, data_made, nothing_made}
 use Rattle.zone_meaning.proofs.ConsistentTests.{inside_decides, nsec_by_tests, set_by_tests, lacks}
 use Rattle.zone_meaning.proofs.DenialTests.{denies_decides, synthesis_decides, no_name_decides, empty_name_decides, speaks_decides, encloser_decides, missing_decides}

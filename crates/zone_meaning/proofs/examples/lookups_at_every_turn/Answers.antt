@@ -1,14 +1,15 @@
 use Rattle.std.proofs.Common.{List, [], ◌∷◌, refl}
 use Rattle.std.specs.Prelude.{codes}
+use Rattle.facts.proofs.Lists.{nothing_in}
 use Rattle.dname.specs.Name.{Label, wire_of, asterisk}
 use Rattle.dname.specs.declared.types.TheConstants.{A_TYPE, CNAME_TYPE, DNAME_TYPE, DS_TYPE, MX_TYPE, NS_TYPE}
+use Rattle.dname.proofs.UnderLemmas.{under_itself}
 use Rattle.zone_meaning.specs.Zone.{IsLive}
 use Rattle.zone_meaning.specs.Lookup.{Answer, Alias, NoData, Undefined, by_its_ns, by_its_dname, with_no_encloser}
 use Rattle.zone_meaning.specs.Examples.{example, a_example, b_example, address, turns, alias_example, moved_example, low_moved_example, both_example, low_both_example, cut_example, dname_example, no_records}
-use Rattle.zone_meaning.proofs.ZoneTests.{nowhere, has_type_decides, exists_decides}
+use Rattle.zone_meaning.proofs.ZoneTests.{has_type_decides, exists_decides}
 use Rattle.zone_meaning.proofs.LookupTests.{by_cut, by_dname, by_name, by_none, by_source, nothing_at, data_at, alias_at, data_made, meets_nothing_decides}
 use Rattle.zone_meaning.proofs.ConsistentTests.{zone_by_test}
-use Rattle.zone_meaning.proofs.ZoneLemmas.{under_itself}
 use Rattle.zone_meaning.proofs.examples.lookups_at_every_turn.Goals as goal
 
 pub returns : goal.returns
@@ -37,4 +38,4 @@ returns c = record {
 }
   where
     nobody : {owner : List Label} → IsLive no_records owner → ⊥
-    nobody live = let is = live.owner in nowhere _ is.1.1
+    nobody live = let is = live.owner in nothing_in _ is.1.1

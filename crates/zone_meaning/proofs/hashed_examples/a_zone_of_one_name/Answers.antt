@@ -6,13 +6,15 @@ use Rattle.dname.specs.Name.{Label, asterisk}
 use Rattle.dname.specs.Arc.{IsInside}
 use Rattle.dname.specs.declared.types.TheConstants.{DNAME_TYPE, NS_TYPE}
 use Rattle.dname.proofs.ArcLemmas.{no_end_inside, whole_ring}
+use Rattle.dname.proofs.SameLemmas.{same_name_decides}
+use Rattle.dname.proofs.UnderLemmas.{under_itself, under_both, under_step}
+use Rattle.dname.specs.Tests.{same_name}
 use Rattle.zone_meaning.specs.Zone.{Exists}
 use Rattle.zone_meaning.specs.Examples.{example, a_example, asterisk_example}
 use Rattle.zone_meaning.specs.Hashed.{hash_cmp, IsConsistentNsec3, IsClashFree}
 use Rattle.zone_meaning.specs.HashedDenial.{IsNoHashedName}
 use Rattle.zone_meaning.specs.HashedExamples.{one_name, nsec3_alone}
-use Rattle.zone_meaning.proofs.ZoneLemmas.{under_itself, under_both}
-use Rattle.zone_meaning.proofs.ZoneTests.{same_name, same_name_decides, under_step, exists_decides}
+use Rattle.zone_meaning.proofs.ZoneTests.{exists_decides}
 use Rattle.zone_meaning.proofs.ConsistentTests.{zone_by_test, types_agree, lacks}
 use Rattle.zone_meaning.proofs.HashedTests.{each_existing}
 use Rattle.zone_meaning.proofs.hashed_examples.a_zone_of_one_name.Goals as goal

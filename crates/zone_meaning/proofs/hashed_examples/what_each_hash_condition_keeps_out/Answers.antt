@@ -2,14 +2,14 @@ use Rattle.std.proofs.Common.{◌∷◌, length, refl, sym, ap, subst, arith, �
 use Rattle.std.specs.Prelude.{codes}
 use Rattle.dname.specs.Name.{asterisk, wire_of}
 use Rattle.dname.specs.declared.types.TheConstants.{A_TYPE, DNAME_TYPE, DS_TYPE, MX_TYPE, NS_TYPE}
-use Rattle.dname.proofs.CommonLemmas.{under_is_longer}
+use Rattle.dname.proofs.SameLemmas.{same_name_decides}
+use Rattle.dname.proofs.UnderLemmas.{under_is_longer, under_itself, under_step, under_decides}
 use Rattle.zone_meaning.specs.Lookup.{Alias, NoData, Undefined, by_its_ns, by_its_dname, as_itself}
 use Rattle.zone_meaning.specs.HashedDenial.{IsNextCloserMissing, IsNoHashedName}
 use Rattle.zone_meaning.specs.Examples.{example, a_example, alias_example, two_hosts, asterisk_example, w_example}
 use Rattle.zone_meaning.specs.DenialExamples.{one_alias, wildcard_alias, wildcard_cut, ds_set, wildcard_dname, one_wildcard}
 use Rattle.zone_meaning.specs.HashedExamples.{digits, hashed_zone, nsec3_at_apex, nsec3_at_a, nsec3_at_w, opt_out_zone, nsec3_opting_out, opt_out_apex, opt_out_x_w, nsec3_at_c, nsec3_at_alias, nsec3_at_wildcard_alias, hashed_dname, nsec3_at_dname, nsec3_at_wildcard_cut, nsec3_at_wildcard_dname, nsec3_of_all, nsec3_of_most, nsec3_of_others, c_example, xx_example, x_w_example}
-use Rattle.zone_meaning.proofs.ZoneLemmas.{under_itself}
-use Rattle.zone_meaning.proofs.ZoneTests.{refuted, same_name_decides, under_step, under_decides, below_decides, exists_decides, has_type_decides}
+use Rattle.zone_meaning.proofs.ZoneTests.{refuted, below_decides, exists_decides, has_type_decides}
 use Rattle.zone_meaning.proofs.LookupTests.{by_cut, by_dname, by_name, by_none, by_source, nothing_at, alias_at, nothing_made}
 use Rattle.zone_meaning.proofs.ConsistentTests.{set_by_tests, lacks}
 use Rattle.zone_meaning.proofs.DenialTests.{denies_decides, synthesis_decides}

@@ -4,10 +4,12 @@ use Rattle.std.specs.Cmp.Lexicographic.{bytes_decides}
 use Rattle.std.proofs.lemmas.Bool.Decides.{Decides-not}
 use Rattle.dname.specs.Name.{Label}
 use Rattle.dname.specs.declared.types.TheConstants.{MX_TYPE, RRSIG_TYPE}
+use Rattle.dname.proofs.SameLemmas.{same_name_decides}
+use Rattle.dname.specs.Tests.{same_octets, same_name}
 use Rattle.zone_meaning.specs.Zone.{Exists, IsCut, HasType}
 use Rattle.zone_meaning.specs.Examples.{example}
 use Rattle.zone_meaning.specs.HashedExamples.{digits, hashed_zone, opt_out_zone, c_example, x_w_example, y_w_example}
-use Rattle.zone_meaning.proofs.ZoneTests.{refuted, same_octets, same_name, same_name_decides, if_decides, exists_decides, has_type_decides, cut_decides}
+use Rattle.zone_meaning.proofs.ZoneTests.{refuted, if_decides, exists_decides, has_type_decides, cut_decides}
 use Rattle.zone_meaning.proofs.ConsistentTests.{lacks, proof_type_decides}
 use Rattle.zone_meaning.proofs.HashedTests.{between_decides, each_existing}
 use Rattle.zone_meaning.proofs.hashed_examples.what_is_not_true_of_a_hashed_zone.Goals as goal

@@ -1,12 +1,9 @@
-use Rattle.std.proofs.Common.{arith, ◌∙◌, ap, ◌++◌, ◌∷◌, []}
-use Rattle.dname.proofs.PackLemmas.{pushed}
+use Rattle.std.proofs.Common.{arith, ◌∙◌}
+use Rattle.dname.proofs.PackLemmas.{head_three, head_nine}
 use Rattle.dname.proofs.pack.Pack.push.Goals as goal
 
-pub invariant_of-self-2 : goal.invariant_of-self-2
-invariant_of-self-2 c =
-    (pushed _ _ c.args.piece.now c.self.invariant (omega (arith, c.if-size-gt16777215.false)) c.in_ok-append.ensures.ok).packed
+pub append-requires-clause-head : goal.append-requires-clause-head
+append-requires-clause-head c = c.three_of.ensures ∙ head_three _ (omega arith)
 
-pub returns-clause-ok : goal.returns-clause-ok
-returns-clause-ok c =
-    (pushed _ _ c.args.piece.now c.self.invariant (omega (arith, c.if-size-gt16777215.false)) c.in_ok-append.ensures.ok).pieces_are
-    ∙ ap (λ pieces. pieces ++ c.args.piece.now ∷ []) c.self.view_is
+pub append-requires-else-size-lt-LONG-clause-head : goal.append-requires-else-size-lt-LONG-clause-head
+append-requires-else-size-lt-LONG-clause-head c = c.nine_of.ensures ∙ head_nine _ (omega arith)

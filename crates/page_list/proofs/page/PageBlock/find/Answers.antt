@@ -18,4 +18,4 @@ loop-low-preserved g c =
 
 pub returns-clause-exact : goal.returns-clause-exact
 returns-clause-exact g c =
-    rw (← c.self.view_is, ← c.as_slice-entries.ensures.value) (HasNarrowed-done _ _ _ _ c.loop-low.invariant c.loop-low-test.false)
+    rw (← c.self.view_is, ← c.as_slice-entries.ensures.values) (HasNarrowed-done _ _ _ _ c.loop-low.invariant c.loop-low-test.false)

@@ -4,14 +4,14 @@ use Rattle.record_store.proofs.PhaseLemmas.{come_begins, come_goes_on, come_ends
 use Rattle.record_store.proofs.holding.Holding.with_records.Goals as goal
 
 pub loop-i-init : goal.loop-i-init
-loop-i-init c = come_begins c.args.self c.args.records.now c.len-len.ensures.apart
+loop-i-init c = come_begins c.args.self c.args.records.now c.requires
 
 pub loop-i-preserved : goal.loop-i-preserved
 loop-i-preserved c =
-    come_goes_on c.args.self c.args.records.now c.loop-i.i c.loop-i.holding c.loop-i.invariant (arc_value c.in_ok-share.field-0) c.in_ok-holding.holding (omega arith) c.in_ok-share.ensures c.in_ok-holding.ensures c.len-len-in-loop-i.ensures.apart
+    come_goes_on c.args.self c.args.records.now c.loop-i.i c.loop-i.holding c.loop-i.invariant (arc_value c.in_ok-share.field-0) c.in_ok-holding.holding (omega arith) c.in_ok-share.ensures c.in_ok-holding.ensures.order c.in_ok-holding.ensures.apart
 
-pub returns-clause-made : goal.returns-clause-made
-returns-clause-made c = come_ends c.args.self c.args.records.now c.loop-i.i c.loop-i.holding c.loop-i.invariant (omega arith)
-
-pub returns-clause-made_apart : goal.returns-clause-made_apart
-returns-clause-made_apart c = c.loop-i.invariant.alike.others_apart
+pub returns : goal.returns
+returns c = record {
+  order = come_ends c.args.self c.args.records.now c.loop-i.i c.loop-i.holding c.loop-i.invariant (omega arith);
+  apart = c.loop-i.invariant.alike.others_apart;
+}

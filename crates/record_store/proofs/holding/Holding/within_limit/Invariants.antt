@@ -1,9 +1,5 @@
-use Rattle.std.proofs.Common.{length}
-use Rattle.record_store.proofs.PhaseLemmas.{IsWithinLimit}
+use Rattle.record_store.proofs.RestLemmas.{IsRest}
 use Rattle.record_store.proofs.holding.Holding.within_limit.Given as goal
 
-abbrev pub invariant-loop-alloc : goal.invariant-loop-alloc
-invariant-loop-alloc l = IsWithinLimit l.fn.self l.holding
-
-abbrev pub decreases-loop-alloc : goal.decreases-loop-alloc
-decreases-loop-alloc l = length l.holding.records
+abbrev pub invariant-loop : goal.invariant-loop
+invariant-loop l = IsRest l.fn.self l.counter l.holding

@@ -9,7 +9,7 @@ use Rattle.zone_chains.specs.Zone.{OneZone}
 use Rattle.record_store.specs.Dropping.{AreZonesLeft}
 use Rattle.record_store.specs.Holding.{AreBut, IsTied, held_in, held_rest}
 use Rattle.record_store.specs.Ranks.{apex_cmp}
-use Rattle.record_store.proofs.DroppingLemmas.{has_zone, still_tied, same_left, both_ok}
+use Rattle.record_store.proofs.DroppingLemmas.{has_zone, apart_first, still_tied, same_left, both_ok}
 use Rattle.record_store.proofs.holding.Holding.zones_without.Goals as goal
 
 pub returns-in_default-clause-tied : goal.returns-in_default-clause-tied
@@ -47,7 +47,7 @@ returns-clause-tied c =
     let but = subst (λ (l : List Record). AreBut gone l (drop 1 c.args.self.now.records)) whole c.requires.left in
     let listed = subst (λ (l : List OneZone). Contains l zone) c.deref.ensures c.in-Some.ensures.zone.0 in
     IfOk-weaker c.zones_left.result _ (λ made. IsTied (drop 1 c.args.self.now.records) c.args.sets.now (arc_value made)) (λ made are.
-    still_tied gone c.self.inside.goings (arc_value c.self.inside.sets) zones c.self.invariant (drop 1 c.args.self.now.records) but zone rest listed (c.in-Some.ensures.zone.1 ∙ c.zone_of.ensures) c.in_ok-zone_without.ensures c.args.sets.now c.requires.apart c.requires.sets (arc_value made)
+    still_tied gone c.self.inside.goings (arc_value c.self.inside.sets) zones c.self.invariant (drop 1 c.args.self.now.records) but zone rest listed (c.in-Some.ensures.zone.1 ∙ c.zone_of.ensures) c.in_ok-zone_without.ensures c.args.sets.now (apart_first c.self.inside.goings (drop 1 c.args.self.now.records) c.self.invariant.apart (ap (λ (l : List Record). drop 1 l) whole)) c.requires.sets (arc_value made)
     (subst (λ (l : List OneZone). AreZonesLeft c.args.sets.now rest l (arc_value made)) c.deref-2.ensures are)) c.zones_left.ensures.made
 
 pub returns-clause-same : goal.returns-clause-same
@@ -62,5 +62,5 @@ returns-clause-same c =
     let order = subst (IsInOrder apex_cmp) c.deref.ensures c.zone_at.ensures.order in
     both_ok c.zones_left.result _ _ (λ made. IsReordered (held_rest (drop 1 c.args.self.now.records) c.args.self.now) (held_in (drop 1 c.args.self.now.records) (arc_value made))) (λ made are order'.
     subst (λ (h : Held). IsReordered (held_rest (drop 1 c.args.self.now.records) h) (held_in (drop 1 c.args.self.now.records) (arc_value made))) c.self.view_is
-    (same_left gone c.self.inside.goings (arc_value c.self.inside.sets) zones c.self.invariant (drop 1 c.args.self.now.records) but zone rest listed (c.in-Some.ensures.zone.1 ∙ c.zone_of.ensures) c.in_ok-zone_without.ensures c.args.sets.now c.requires.apart c.requires.sets (arc_value made) order order'
+    (same_left gone c.self.inside.goings (arc_value c.self.inside.sets) zones c.self.invariant (drop 1 c.args.self.now.records) but zone rest listed (c.in-Some.ensures.zone.1 ∙ c.zone_of.ensures) c.in_ok-zone_without.ensures c.args.sets.now (apart_first c.self.inside.goings (drop 1 c.args.self.now.records) c.self.invariant.apart (ap (λ (l : List Record). drop 1 l) whole)) c.requires.sets (arc_value made) order order'
     (subst (λ (l : List OneZone). AreZonesLeft c.args.sets.now rest l (arc_value made)) c.deref-2.ensures are))) c.zones_left.ensures.made c.zones_left.ensures.in_order

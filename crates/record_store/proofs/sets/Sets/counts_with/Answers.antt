@@ -19,7 +19,7 @@ returns-then-rank c =
     IfOk-weaker c.try_clone.result _ (λ counts. AreCounted (with_entry set_cmp new c.args.self.now) (arc_value counts))
     (λ counts is. subst (λ (l : List Record). AreCounted (with_entry set_cmp new l) (arc_value counts)) c.self.view_is
     (subst (AreCounted (with_entry set_cmp new sets)) (sym is)
-    (counted_replaced sets c.len-len.ensures.in_order new (arc_value c.self.inside.counts) c.self.invariant c.args.rank.from c.args.rank.to rank c.if-rank.true))) c.try_clone.ensures
+    (counted_replaced sets c.self.invariant.in_order new (arc_value c.self.inside.counts) c.self.invariant c.args.rank.from c.args.rank.to rank c.if-rank.true))) c.try_clone.ensures
 
 pub returns : goal.returns
 returns c =
@@ -32,4 +32,4 @@ returns c =
     let is = subst (λ (l : List SetCount). IsRecounted (zone_of new) (count_at (zone_of new) l + 1) l made) c.deref.ensures here in
     subst (λ (l : List Record). AreCounted (with_entry set_cmp new l) (arc_value c.in_ok-new.field-0)) c.self.view_is
     (subst (AreCounted (with_entry set_cmp new sets)) (sym c.in_ok-new.ensures.ok)
-    (counted_more sets c.len-len.ensures.in_order new (arc_value c.self.inside.counts) c.self.invariant c.args.rank.from c.args.rank.to rank c.if-rank.false made is))
+    (counted_more sets c.self.invariant.in_order new (arc_value c.self.inside.counts) c.self.invariant c.args.rank.from c.args.rank.to rank c.if-rank.false made is))

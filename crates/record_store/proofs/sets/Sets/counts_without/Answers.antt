@@ -16,7 +16,7 @@ one_less-requires c =
     let has = subst (λ (l : List Record). Contains l gone) (sym c.self.view_is) c.requires in
     subst (λ (z : List Label). 0 < count_at z c.deref.result.now) (sym c.zone_of.ensures)
     (subst (λ (l : List SetCount). 0 < count_at (zone_of gone) l) (sym c.deref.ensures)
-    (counted_here c.self.inside.list c.len-len.ensures.in_order gone (arc_value c.self.inside.counts) c.self.invariant has))
+    (counted_here c.self.inside.list c.self.invariant.in_order gone (arc_value c.self.inside.counts) c.self.invariant has))
 
 pub returns : goal.returns
 returns c =
@@ -29,4 +29,4 @@ returns c =
     let is = subst (λ (l : List SetCount). IsRecounted (zone_of gone) (count_at (zone_of gone) l - 1) l made) c.deref.ensures here in
     subst (λ (l : List Record). AreCounted (without_entry set_cmp gone l) (arc_value c.in_ok-new.field-0)) c.self.view_is
     (subst (AreCounted (without_entry set_cmp gone sets)) (sym c.in_ok-new.ensures.ok)
-    (counted_less sets c.len-len.ensures.in_order gone (arc_value c.self.inside.counts) c.self.invariant has made is))
+    (counted_less sets c.self.invariant.in_order gone (arc_value c.self.inside.counts) c.self.invariant has made is))

@@ -3,7 +3,7 @@ use Rattle.std.specs.Option.{option_map}
 use Rattle.cache_meaning.specs.Lent.{parameters_by}
 use Rattle.cache_meaning.specs.Zones.{as_nsec3_at}
 use Rattle.zone_chains.specs.Zone.{OneChain, IsChosen}
-use Rattle.zone_chains.proofs.ChainLemmas.{parameters_equal}
+use Rattle.cache_meaning.proofs.ChainLemmas.{parameters_equal}
 use Rattle.zone_chains.proofs.ChosenLemmas.{nsec3_chosen}
 use Rattle.zone_chains.proofs.chain_records.ChainRecords.nsec3_at.Goals as goal
 

@@ -1,4 +1,5 @@
 use Rattle.zone_chains.proofs.ComeLemmas.{GoneTo, gone_by}
+use Rattle.zone_chains.proofs.ZoneLemmas.{is_one_zone}
 use Rattle.zone_chains.proofs.zone_records.ZoneRecords.without.Goals as goal
 
 gone : (c : goal.After-copy) → GoneTo c.args.self.now c.args.item.now c.copy.result c.in_ok-chains.chains
@@ -15,3 +16,6 @@ returns-clause-records c = (gone c).members
 
 pub returns-clause-count : goal.returns-clause-count
 returns-clause-count c = (gone c).count
+
+pub returns-clause-whole : goal.returns-clause-whole
+returns-clause-whole c = is_one_zone _ (gone c).chains

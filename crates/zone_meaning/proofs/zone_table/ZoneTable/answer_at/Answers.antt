@@ -3,14 +3,14 @@ use Rattle.std.specs.List.{Contains}
 use Rattle.std.specs.Ordering.{nat_cmp, is_gt}
 use Rattle.std.specs.Cmp.Lexicographic.{slice_cmp}
 use Rattle.std.proofs.lemmas.List.Elements.{All-contains}
+use Rattle.facts.proofs.Lists.{nothing_in}
 use Rattle.zone_meaning.proofs.SomeAnswer.{not_greater}
-use Rattle.zone_meaning.proofs.ZoneTests.{nowhere}
 use Rattle.zone_meaning.proofs.zone_table.ZoneTable.answer_at.Goals as goal
 
 pub least-requires : goal.least-requires
 least-requires c =
     let at = c.in-Some-data.ensures.some in
-    λ e. nowhere at.0.0 (subst (λ (items : List (List ℕ)). Contains items at.0.0) e ((at.1 at.0.0).1 at.0.1))
+    λ e. nothing_in at.0.0 (subst (λ (items : List (List ℕ)). Contains items at.0.0) e ((at.1 at.0.0).1 at.0.1))
 
 pub returns-in-Some-data : goal.returns-in-Some-data
 returns-in-Some-data c =

@@ -1,7 +1,7 @@
 use Rattle.std.proofs.Common.{◌≡◌, ◌≢◌, List, sym, ◌∙◌, subst, ⊎_elim}
 use Rattle.dname.specs.Name.{Label, IsUnder}
+use Rattle.dname.proofs.SameLemmas.{same_or_not}
 use Rattle.zone_meaning.specs.ZoneTable.{IsReached}
-use Rattle.zone_meaning.proofs.ZoneLemmas.{same_or_not}
 use Rattle.zone_meaning.proofs.TableLemmas.{reached_by, each_owner}
 use Rattle.zone_meaning.proofs.UnbarredLemmas.{is_closest}
 use Rattle.zone_meaning.proofs.zone_table.ZoneTable.closest_encloser.Goals as goal

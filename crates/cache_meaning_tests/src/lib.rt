@@ -1,0 +1,5 @@
+//! Tests of `cache_meaning`.
+#![tactic(auto)]
+
+#[cfg(test)]
+mod plain_program;

@@ -1,4 +1,0 @@
-use Rattle.dnswire.proofs.message_name.tests.name_after.Goals as goal
-
-pub name_or_fault-requires : goal.name_or_fault-requires
-name_or_fault-requires c = c.open.ensures c.args.message.now (c.empty-table.ensures c.args.message.now)

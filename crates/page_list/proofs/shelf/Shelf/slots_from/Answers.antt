@@ -1,6 +1,0 @@
-use Rattle.std.proofs.Common.{refl}
-use Rattle.page_list.proofs.Slots.{seen_from}
-use Rattle.page_list.proofs.shelf.Shelf.slots_from.Goals as goal
-
-pub returns : goal.returns
-returns g c = seen_from _ _ _ _ _ c.items_from.ensures refl c.self.view_is

@@ -1,5 +1,0 @@
-use Rattle.std.proofs.Common.{refl}
-use Rattle.range_index.proofs.arcs.tests.number_at.Goals as goal
-
-pub at-requires : goal.at-requires
-at-requires c = λ k d within key. refl

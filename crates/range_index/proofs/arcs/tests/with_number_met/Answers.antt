@@ -1,5 +1,0 @@
-use Rattle.std.proofs.Common.{refl}
-use Rattle.range_index.proofs.arcs.tests.with_number_met.Goals as goal
-
-pub with_met-requires : goal.with_met-requires
-with_met-requires c = λ k d within key. refl

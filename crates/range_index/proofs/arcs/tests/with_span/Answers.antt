@@ -1,5 +1,0 @@
-use Rattle.std.proofs.Common.{refl}
-use Rattle.range_index.proofs.arcs.tests.with_span.Goals as goal
-
-pub with-requires : goal.with-requires
-with-requires g c = λ k d within key. refl

@@ -1,0 +1,5 @@
+//! Tests of `range_index`.
+#![tactic(auto)]
+
+#[cfg(test)]
+mod arcs;

@@ -1,0 +1,17 @@
+//! Tests of `reply_core`.
+#![tactic(auto)]
+
+#[cfg(test)]
+mod ask;
+#[cfg(test)]
+mod error;
+#[cfg(test)]
+mod long_reply;
+#[cfg(test)]
+mod made;
+#[cfg(test)]
+mod relay;
+#[cfg(test)]
+mod reply;
+#[cfg(test)]
+mod sections;

@@ -1,0 +1,13 @@
+//! Tests of `resolver`.
+#![tactic(auto)]
+
+#[cfg(test)]
+mod against_the_plain_program;
+#[cfg(test)]
+mod records;
+#[cfg(test)]
+mod shared;
+#[cfg(test)]
+mod waiting;
+#[cfg(test)]
+mod worked_cases;

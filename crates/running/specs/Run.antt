@@ -1,0 +1,62 @@
+-- What a run says by its status, of what the source had left and of what came to stand in the sink.
+use Rattle.std.specs.Prelude.{◌≡◌, ℕ, ◌+◌, ◌<◌, ◌≤◌, ◌⊎◌, List, [], length, take, Option, IfSome}
+use Rattle.outside_core.specs.Told.{append_told, prepend_told}
+use Rattle.replay_meaning.specs.Replay.{AreFrames, IsReplay}
+use Rattle.running.specs.declared.reading.TheConstants.{MAX_INPUT}
+use Rattle.running.specs.declared.status.Status.{Status}
+use Rattle.running.specs.declared.status.Status.TheVariants.{Good, BadFrame, WriteFault, OutOfMemory, InputTooLong}
+
+-- the source was read to its end, or to one octet more than the longest input
+pub record IsReadOn (before after : Option (List ℕ)) : Type 0 where
+  pub octets : List ℕ
+  pub given : before ≡ prepend_told octets after
+  pub until : (length octets ≡ MAX_INPUT + 1) ⊎ IfSome after (λ left. left ≡ [])
+
+-- the source gave some octets, and has left what came after them
+pub record HasGiven (before after : Option (List ℕ)) : Type 0 where
+  pub octets : List ℕ
+  pub given : before ≡ prepend_told octets after
+
+-- the sink has got the whole output of a replay of the input for so many workers
+pub record IsReplayed (workers : ℕ) (input : List ℕ) (before after : Option (List ℕ)) : Type 0 where
+  pub output : List ℕ
+  pub replay : IsReplay workers input output
+  pub written : after ≡ append_told before output
+
+-- or a strict prefix of it
+pub record IsCutShort (workers : ℕ) (input : List ℕ) (before after : Option (List ℕ)) : Type 0 where
+  pub output : List ℕ
+  pub replay : IsReplay workers input output
+  pub size : ℕ
+  pub strict : size < length output
+  pub written : after ≡ append_told before (take size output)
+
+-- the input isn't too long
+abbrev pub IsShort : List ℕ → Type 0
+IsShort input = length input ≤ MAX_INPUT
+
+-- it isn't, and it spells frames for so many workers
+abbrev pub IsTaken : ℕ → List ℕ → Type 0
+IsTaken workers input = IsShort input × AreFrames workers input
+
+-- it isn't, and it spells none
+abbrev pub IsNoFrames : ℕ → List ℕ → Type 0
+IsNoFrames workers input = IsShort input × (AreFrames workers input → ⊥)
+
+-- a replay was made, whether or not all of it could be written
+abbrev pub IsOfReplay : Status → Type 0
+IsOfReplay status = (status ≡ Good) ⊎ (status ≡ WriteFault)
+
+-- a summary was made, whether or not all of it could be written; or there was no memory
+abbrev pub IsOfSelfrun : Status → Type 0
+IsOfSelfrun status = IsOfReplay status ⊎ (status ≡ OutOfMemory)
+
+-- the input is refused as it is
+abbrev pub IsRefused : Status → Type 0
+IsRefused status = (status ≡ InputTooLong) ⊎ (status ≡ BadFrame)
+
+-- the status of an input for so many workers, where nothing fails
+pub data IsStatusOf (workers : ℕ) (input : List ℕ) (status : Status) : Type 0 where
+  too_long : MAX_INPUT < length input → status ≡ InputTooLong → IsStatusOf workers input status
+  no_frames : IsNoFrames workers input → status ≡ BadFrame → IsStatusOf workers input status
+  replayed : IsTaken workers input → status ≡ Good → IsStatusOf workers input status

@@ -1,0 +1,296 @@
+ghost use Rattle.std.specs.Prelude.{◌≡◌, ◌⊎◌, ℕ, ◌+◌, ◌<◌, ◌≤◌, List, [], length, IfSome, Some};
+ghost use Rattle.outside_core.specs.Fault.{Rose};
+ghost use Rattle.command_line.specs.Words.{IsCommand, AreWordsOf};
+ghost use Rattle.running.specs.Run.{HasGiven, IsReadOn, IsReplayed, IsCutShort, IsTaken, IsNoFrames, IsOfReplay, IsOfSelfrun, IsRefused, IsStatusOf};
+ghost use Rattle.running.specs.declared.reading.TheConstants.{MAX_INPUT};
+ghost use Rattle.running.specs.Summary.{IsSummed, IsSummedInPart};
+ghost use Rattle.command_line.specs.declared.command.Command.TheVariants.{Replay, Selfrun, Serve};
+ghost use Rattle.server.specs.Back.{CameBack, AllServedWhole};
+ghost use Rattle.running.specs.Serve.{service_of, IsOfServe, ServedInPart};
+
+use crate::reading::{MAX_INPUT, ReadError, read_whole};
+use crate::replay::replay;
+use crate::selfrun::selfrun;
+use crate::status::Status;
+use command_line::{Command, command_of};
+use outside_core::{Clock, Gate, Harbor, Sink, Source, write_whole};
+use server::{ServeError, Service, serve};
+use std::alloc::Global;
+use std::sync::Wait;
+use std::thread::Threads;
+use worker_seats::{Frames, write_outputs};
+
+/// Runs the words, those after the program's name: replays over the source and the sink, and serves over the harbor at the
+/// moments that the clock tells. Workers of a replay pass the gate.
+pub fn run<R: Threads + Wait + Sync, S: Source, K: Sink, G: Gate, H: Harbor, C: Clock>(
+    rt: &R,
+    alloc: Global,
+    words: &[String],
+    source: &mut S,
+    sink: &mut K,
+    gate: &G,
+    harbor: &mut H,
+    clock: &C,
+) -> Status
+    // Want of memory may take the place of any status, as it may of any answer.
+    ensures usage { result ≡ Status.Usage → IsCommand words.now → ⊥ }
+    ensures no_command { (IsCommand words.now → ⊥)
+        → (result ≡ Status.Usage) ⊎ (result ≡ Status.OutOfMemory) }
+    ensures untouched { result ≡ Status.Usage
+        → (source.new ≡ source.old) × (sink.new ≡ sink.old) }
+
+    // What was written is the spelling of output frames that fit the frames that the source had
+    // left, for the workers that the words ask for, and each reply among them is sound.
+    ensures good { (workers : ℕ) → AreWordsOf words.now (Replay workers)
+        → result ≡ Status.Good
+        → IfSome (S.left source.old) (λ input.
+        IsReplayed workers input (K.written sink.old) (K.written sink.new)) }
+    ensures end { (workers : ℕ) → AreWordsOf words.now (Replay workers)
+        → result ≡ Status.Good
+        → IfSome (S.left source.old) (λ _. S.left source.new ≡ Some []) }
+    ensures no_fault { result ≡ Status.Good
+        → (S.faults source.new ≡ S.faults source.old)
+        × (K.faults sink.new ≡ K.faults sink.old) }
+
+    ensures read_fault { result ≡ Status.ReadFault
+        → Rose (S.faults source.old) (S.faults source.new) }
+    ensures write_fault { result ≡ Status.WriteFault
+        → Rose (K.faults sink.old) (K.faults sink.new) }
+    ensures cut { (workers : ℕ) → AreWordsOf words.now (Replay workers)
+        → result ≡ Status.WriteFault → IfSome (S.left source.old) (λ input.
+        IsCutShort workers input (K.written sink.old) (K.written sink.new)) }
+    ensures unwritten { (result ≡ Status.ReadFault) ⊎ (result ≡ Status.OutOfMemory)
+        ⊎ IsRefused result → sink.new ≡ sink.old }
+    ensures read { (workers : ℕ) → AreWordsOf words.now (Replay workers)
+        → IsOfReplay result ⊎ IsRefused result
+        → IsReadOn (S.left source.old) (S.left source.new) }
+    ensures read_part { (workers : ℕ) → AreWordsOf words.now (Replay workers)
+        → (result ≡ Status.ReadFault) ⊎ (result ≡ Status.OutOfMemory)
+        → HasGiven (S.left source.old) (S.left source.new) }
+
+    // The input is looked at whole before anything is done: its length, then its frames.
+    ensures too_long { result ≡ Status.InputTooLong
+        → IfSome (S.left source.old) (λ input. MAX_INPUT < length input) }
+    ensures bad_frame { (workers : ℕ) → AreWordsOf words.now (Replay workers)
+        → result ≡ Status.BadFrame → IfSome (S.left source.old) (IsNoFrames workers) }
+    ensures taken { (workers : ℕ) → AreWordsOf words.now (Replay workers)
+        → IsOfReplay result → IfSome (S.left source.old) (IsTaken workers) }
+    ensures complete { (workers : ℕ) → AreWordsOf words.now (Replay workers)
+        → (input : List ℕ) → S.left source.old ≡ Some input
+        → (Rose (S.faults source.old) (S.faults source.new) → ⊥)
+        → (Rose (K.faults sink.old) (K.faults sink.new) → ⊥)
+        → IsStatusOf workers input result ⊎ (result ≡ Status.OutOfMemory) }
+
+    // What `selfrun` wrote is the summary of what became of the made frames. It doesn't read.
+    ensures summed { (seed names queries : ℕ)
+        → AreWordsOf words.now (Selfrun seed names queries) → result ≡ Status.Good
+        → IsSummed seed names queries (K.written sink.old) (K.written sink.new) }
+    ensures summed_in_part { (seed names queries : ℕ)
+        → AreWordsOf words.now (Selfrun seed names queries) → result ≡ Status.WriteFault
+        → IsSummedInPart seed names queries (K.written sink.old) (K.written sink.new) }
+    ensures unread { (seed names queries : ℕ)
+        → AreWordsOf words.now (Selfrun seed names queries) → source.new ≡ source.old }
+    ensures summary_ends { (seed names queries : ℕ)
+        → AreWordsOf words.now (Selfrun seed names queries) → IsOfSelfrun result }
+    ensures summary_complete { (seed names queries : ℕ)
+        → AreWordsOf words.now (Selfrun seed names queries)
+        → (Rose (K.faults sink.old) (K.faults sink.new) → ⊥)
+        → (result ≡ Status.Good) ⊎ (result ≡ Status.OutOfMemory) }
+
+    // Links that came back from `serve` had each received what the words say, and sent what that
+    // calls for, over one list of batches. It neither reads nor writes.
+    ensures served { (listen upstream workers datagrams : ℕ)
+        → AreWordsOf words.now (Serve listen upstream workers datagrams)
+        → result ≡ Status.Good
+        → CameBack (H.Harbor.came_back harbor.old) (H.Harbor.came_back harbor.new)
+        (AllServedWhole (service_of listen upstream workers datagrams)
+        (C.Clock.moment clock.now)) }
+    ensures served_in_part { (listen upstream workers datagrams : ℕ)
+        → AreWordsOf words.now (Serve listen upstream workers datagrams)
+        → result ≡ Status.HarborFault
+        → CameBack (H.Harbor.came_back harbor.old) (H.Harbor.came_back harbor.new)
+        (ServedInPart (service_of listen upstream workers datagrams)
+        (C.Clock.moment clock.now)) }
+    ensures serve_ends { (listen upstream workers datagrams : ℕ)
+        → AreWordsOf words.now (Serve listen upstream workers datagrams) → IsOfServe result }
+    ensures serve_complete { (listen upstream workers datagrams : ℕ)
+        → AreWordsOf words.now (Serve listen upstream workers datagrams)
+        → (Rose (H.Harbor.faults harbor.old) (H.Harbor.faults harbor.new) → ⊥)
+        → (result ≡ Status.Good) ⊎ (result ≡ Status.OutOfMemory) }
+    ensures aside { (listen upstream workers datagrams : ℕ)
+        → AreWordsOf words.now (Serve listen upstream workers datagrams)
+        → (source.new ≡ source.old) × (sink.new ≡ sink.old) }
+    ensures harbor_fault { result ≡ Status.HarborFault
+        → Rose (H.Harbor.faults harbor.old) (H.Harbor.faults harbor.new) }
+    ensures no_harbor_fault { result ≡ Status.Good
+        → H.Harbor.faults harbor.new ≡ H.Harbor.faults harbor.old }
+    ensures unmoored { ((listen upstream workers datagrams : ℕ)
+        → AreWordsOf words.now (Serve listen upstream workers datagrams) → ⊥)
+        → harbor.new ≡ harbor.old }
+{
+    match command_of(alloc, words) {
+        Err(_) => Status::OutOfMemory,
+        Ok(None) => Status::Usage,
+        Ok(Some(Command::Replay { workers })) => {
+            run_replay(rt, alloc, workers, source, sink, gate)
+        }
+        Ok(
+            Some(
+                Command::Selfrun {
+                    seed,
+                    names,
+                    queries,
+                },
+            ),
+        ) => { run_selfrun(rt, alloc, seed, names, queries, sink, gate) }
+        Ok(
+            Some(
+                Command::Serve {
+                    listen,
+                    upstream,
+                    workers,
+                    datagrams,
+                },
+            ),
+        ) => {
+            run_serve(
+                rt, alloc, listen, upstream, workers, datagrams, harbor, clock,
+            )
+        }
+    }
+}
+
+fn run_serve<R: Threads + Wait + Sync, H: Harbor, C: Clock>(
+    rt: &R,
+    alloc: Global,
+    listen: u16,
+    upstream: u16,
+    workers: u8,
+    datagrams: u32,
+    harbor: &mut H,
+    clock: &C,
+) -> Status
+    requires some { 1 ≤ workers }
+    requires most { workers ≤ 32 }
+    requires ports { listen + workers ≤ 65_536 }
+    requires few { datagrams ≤ 5_000 }
+    ensures ends { IsOfServe result }
+    ensures served { result ≡ Status.Good
+        → CameBack (H.Harbor.came_back harbor.old) (H.Harbor.came_back harbor.new)
+        (AllServedWhole (service_of listen upstream workers datagrams)
+        (C.Clock.moment clock.now)) }
+    ensures in_part { result ≡ Status.HarborFault
+        → CameBack (H.Harbor.came_back harbor.old) (H.Harbor.came_back harbor.new)
+        (ServedInPart (service_of listen upstream workers datagrams)
+        (C.Clock.moment clock.now)) }
+    ensures fault { result ≡ Status.HarborFault
+        → Rose (H.Harbor.faults harbor.old) (H.Harbor.faults harbor.new) }
+    ensures no_fault { result ≡ Status.Good
+        → H.Harbor.faults harbor.new ≡ H.Harbor.faults harbor.old }
+{
+    let service = Service {
+        listen,
+        upstream,
+        workers,
+        datagrams: datagrams as u16,
+    };
+    match serve(rt, alloc, &service, harbor, clock) {
+        Ok(()) => Status::Good,
+        Err(ServeError::Harbor) => Status::HarborFault,
+        Err(ServeError::OutOfMemory) => Status::OutOfMemory,
+    }
+}
+
+fn run_selfrun<R: Threads + Wait + Sync, K: Sink, G: Gate>(
+    rt: &R,
+    alloc: Global,
+    seed: u32,
+    names: u32,
+    queries: u32,
+    sink: &mut K,
+    gate: &G,
+) -> Status
+    requires names { (1 ≤ names) × (names ≤ 10000) }
+    requires queries { queries ≤ 100000 }
+    ensures ends { IsOfSelfrun result }
+    ensures summed { result ≡ Status.Good
+        → IsSummed seed names queries (K.written sink.old) (K.written sink.new) }
+    ensures no_fault { result ≡ Status.Good → K.faults sink.new ≡ K.faults sink.old }
+    ensures in_part { result ≡ Status.WriteFault
+        → IsSummedInPart seed names queries (K.written sink.old) (K.written sink.new) }
+    ensures write_fault { result ≡ Status.WriteFault
+        → Rose (K.faults sink.old) (K.faults sink.new) }
+    ensures unwritten { result ≡ Status.OutOfMemory → sink.new ≡ sink.old }
+{
+    let Ok(text) = selfrun(rt, alloc, seed, names, queries, gate) else {
+        return Status::OutOfMemory;
+    };
+    if write_whole(sink, text.as_bytes()).is_err() {
+        return Status::WriteFault;
+    }
+    Status::Good
+}
+
+fn run_replay<R: Threads + Wait + Sync, S: Source, K: Sink, G: Gate>(
+    rt: &R,
+    alloc: Global,
+    workers: u8,
+    source: &mut S,
+    sink: &mut K,
+    gate: &G,
+) -> Status
+    requires { (1 ≤ workers) × (workers ≤ 32) }
+    ensures command { result ≡ Status.Usage → ⊥ }
+    ensures ashore { result ≡ Status.HarborFault → ⊥ }
+    ensures good { result ≡ Status.Good
+        → IfSome (S.left source.old) (λ input.
+        IsReplayed workers input (K.written sink.old) (K.written sink.new)) }
+    ensures end { result ≡ Status.Good
+        → IfSome (S.left source.old) (λ _. S.left source.new ≡ Some []) }
+    ensures no_fault { result ≡ Status.Good
+        → (S.faults source.new ≡ S.faults source.old)
+        × (K.faults sink.new ≡ K.faults sink.old) }
+    ensures read_fault { result ≡ Status.ReadFault
+        → Rose (S.faults source.old) (S.faults source.new) }
+    ensures write_fault { result ≡ Status.WriteFault
+        → Rose (K.faults sink.old) (K.faults sink.new) }
+    ensures cut { result ≡ Status.WriteFault
+        → IfSome (S.left source.old) (λ input.
+        IsCutShort workers input (K.written sink.old) (K.written sink.new)) }
+    ensures unwritten { (result ≡ Status.ReadFault) ⊎ (result ≡ Status.OutOfMemory)
+        ⊎ IsRefused result → sink.new ≡ sink.old }
+    ensures read { IsOfReplay result ⊎ IsRefused result
+        → IsReadOn (S.left source.old) (S.left source.new) }
+    ensures read_part { (result ≡ Status.ReadFault) ⊎ (result ≡ Status.OutOfMemory)
+        → HasGiven (S.left source.old) (S.left source.new) }
+    ensures too_long { result ≡ Status.InputTooLong
+        → IfSome (S.left source.old) (λ input. MAX_INPUT < length input) }
+    ensures bad_frame { result ≡ Status.BadFrame
+        → IfSome (S.left source.old) (IsNoFrames workers) }
+    ensures taken { IsOfReplay result → IfSome (S.left source.old) (IsTaken workers) }
+    ensures complete { (input : List ℕ) → S.left source.old ≡ Some input
+        → (Rose (S.faults source.old) (S.faults source.new) → ⊥)
+        → (Rose (K.faults sink.old) (K.faults sink.new) → ⊥)
+        → IsStatusOf workers input result ⊎ (result ≡ Status.OutOfMemory) }
+{
+    let input = match read_whole(alloc, source) {
+        Ok(input) => input,
+        Err(ReadError::Failed) => return Status::ReadFault,
+        Err(ReadError::OutOfMemory) => return Status::OutOfMemory,
+    };
+    if input.len() > MAX_INPUT {
+        return Status::InputTooLong;
+    }
+    let Some(frames) = Frames::of(&input, workers) else {
+        return Status::BadFrame;
+    };
+    let Ok(outputs) = replay(rt, alloc, workers, &frames, gate) else {
+        return Status::OutOfMemory;
+    };
+    let written = write_outputs(rt, alloc, sink, &frames, &outputs);
+    outputs.give_back(rt);
+    match written {
+        Ok(()) => Status::Good,
+        Err(_) => Status::WriteFault,
+    }
+}

@@ -1,0 +1,16 @@
+//! A run of the program `dnsreplay`: frames of queries and upstream answers in, frames of what becomes of them out; or datagrams
+//! on loopback. `run` carries the headline.
+//!
+//! Read `specs/Run.antt`, `Serve` and `Status`, then `Summary` and `Made`, then `Words` of `command_line`, and then the specs of
+//! `replay_meaning` and `server`.
+#![tactic(auto)]
+
+mod commands;
+mod reading;
+mod replay;
+mod selfrun;
+mod status;
+mod summary;
+
+pub use commands::run;
+pub use status::Status;

@@ -1,0 +1,23 @@
+//! The tests of `running`, which cite its public calls alone.
+#![tactic(auto)]
+
+#[cfg(test)]
+mod ends;
+#[cfg(test)]
+mod gates;
+#[cfg(test)]
+mod hostile;
+#[cfg(test)]
+mod life;
+#[cfg(test)]
+mod message;
+#[cfg(test)]
+mod pairs;
+#[cfg(test)]
+mod port;
+#[cfg(test)]
+mod replays;
+#[cfg(test)]
+mod selfrun;
+#[cfg(test)]
+mod serve;

@@ -1,0 +1,87 @@
+//! Runs of words over sources and sinks in memory.
+
+use dname::OutOfMemory;
+use outside_core::{
+    FixedClock, Gate, MemoryHarbor, MemorySink, MemorySource, OpenGate, Sink, Source,
+};
+use running::{Status, run};
+use std::alloc::Global;
+use std::sync::Wait;
+use std::thread::Threads;
+
+/// How a run ended, and what it wrote.
+pub type Ended = (Status, Vec<u8>);
+
+pub fn words_of(alloc: Global, text: &str) -> Result<Vec<String>, OutOfMemory> {
+    let mut words = Vec::new(alloc);
+    for word in text.split_whitespace() {
+        words.push(String::from_str(alloc, word)?)?;
+    }
+    Ok(words)
+}
+
+/// Runs the words over a harbor that has no links.
+pub fn run_words<R: Threads + Wait + Sync, S: Source, K: Sink, G: Gate>(
+    rt: &R,
+    alloc: Global,
+    words: &[String],
+    source: &mut S,
+    sink: &mut K,
+    gate: &G,
+) -> Result<Status, OutOfMemory> {
+    let mut harbor = MemoryHarbor::with_links(alloc, Vec::new(alloc), Vec::new(alloc))?;
+    let clock = FixedClock { now: 0 };
+    Ok(run(rt, alloc, words, source, sink, gate, &mut harbor, &clock))
+}
+
+pub fn source_of(alloc: Global, input: &[u8]) -> Result<MemorySource, OutOfMemory> {
+    Ok(MemorySource::of(Vec::from_slice(alloc, input)?, Vec::new(alloc)))
+}
+
+/// How a replay of the input ends, and what it writes, where the calls with these numbers fail.
+pub fn replayed<R: Threads + Wait + Sync>(
+    rt: &R,
+    alloc: Global,
+    input: &[u8],
+    failing_reads: &[u32],
+    failing_writes: &[u32],
+) -> Result<Ended, OutOfMemory> {
+    let words = words_of(alloc, "replay --workers 1")?;
+    let mut source = MemorySource::of(
+        Vec::from_slice(alloc, input)?,
+        Vec::from_slice(alloc, failing_reads)?,
+    );
+    let mut sink = MemorySink::with_room(alloc, 4096, Vec::from_slice(alloc, failing_writes)?)?;
+    let status = run_words(rt, alloc, &words, &mut source, &mut sink, &OpenGate)?;
+    Ok((status, Vec::from_slice(alloc, sink.written())?))
+}
+
+pub fn joined(alloc: Global, parts: &[&[u8]]) -> Result<Vec<u8>, OutOfMemory> {
+    let mut octets = Vec::new(alloc);
+    for part in parts {
+        octets.extend_from_slice(part)?;
+    }
+    Ok(octets)
+}
+
+/// What was found, unless it is this status and these octets.
+pub fn otherwise(found: Ended, status: Status, written: &[u8]) -> Option<Ended> {
+    if found.0 == status && found.1.as_slice() == written {
+        None
+    } else {
+        Some(found)
+    }
+}
+
+/// How a replay of these parts ends and what it writes, unless it ends well and writes those.
+pub fn replayed_otherwise<R: Threads + Wait + Sync>(
+    rt: &R,
+    alloc: Global,
+    input: &[&[u8]],
+    expected: &[&[u8]],
+) -> Result<Option<Ended>, OutOfMemory> {
+    let input = joined(alloc, input)?;
+    let expected = joined(alloc, expected)?;
+    let found = replayed(rt, alloc, &input, &[], &[])?;
+    Ok(otherwise(found, Status::Good, &expected))
+}

@@ -1,0 +1,198 @@
+//! A server of one worker over a link in memory: a name error that is asked upstream, and one that its records prove (RFC
+//! 8198, section 5.1). What is sent is what the RFCs say of it.
+ghost use Rattle.std.specs.Prelude.{IfOk};
+ghost use Rattle.std.specs.List.{All};
+ghost use Rattle.outside_core.specs.MemoryLink.{IsFresh};
+
+use super::replays::{source_of, words_of};
+use outside_core::{
+    Datagram, FixedClock, MemoryHarbor, MemoryLink, MemorySink, OpenGate, OutOfMemory, Peer,
+};
+use running::{Status, run};
+use std::alloc::Global;
+use std::process::ExitCode;
+use std::sync::Wait;
+use std::test::Fail;
+use std::thread::Threads;
+
+// The moment of all, in seconds.
+const THEN: u32 = 1_000_000_000;
+
+const CLIENT: Peer = Peer::Client(0x7f00_0001_0035);
+
+const OTHER: Peer = Peer::Client(0x7f00_0001_0036);
+
+// A query for d.example A, with an OPT record of size 1232 and DO.
+const QUERY: &[u8] = b"\
+    \x124\x01\x00\x00\x01\x00\x00\x00\x00\x00\x01\
+    \x01d\x07example\x00\x00\x01\x00\x01\
+    \x00\x00)\x04\xd0\x00\x00\x80\x00\x00\x00";
+
+// The answer that there is no such name: the SOA, the NSEC of example up to a.example, and that of c.example up to f.example,
+// signed, with ID 0, RCODE 3 and AD.
+const ANSWER: &[u8] = b"\
+    \x00\x00\x81\xa3\x00\x01\x00\x00\x00\x06\x00\x01\
+    \x01d\x07example\x00\x00\x01\x00\x01\
+    \x07example\x00\x00\x06\x00\x01\x00\x00\x0e\x10\x00\x16\x00\x00\x00\x00\x00\x01\x00\x00\x0e\x10\x00\x00\x02X\x00\x01Q\x80\x00\x00\x01,\
+    \x07example\x00\x00.\x00\x01\x00\x00\x0e\x10\x00\x1f\x00\x06\x0d\x01\x00\x00\x0e\x10w5\x94\x005\xa4\xe9\x00\x00\x01\x07example\x00ZZZZ\
+    \x07example\x00\x00/\x00\x01\x00\x00\x0e\x10\x00\x13\x01a\x07example\x00\x00\x06\"\x00\x00\x00\x00\x03\
+    \x07example\x00\x00.\x00\x01\x00\x00\x0e\x10\x00\x1f\x00/\x0d\x01\x00\x00\x0e\x10w5\x94\x005\xa4\xe9\x00\x00\x01\x07example\x00ZZZZ\
+    \x01c\x07example\x00\x00/\x00\x01\x00\x00\x0e\x10\x00\x13\x01f\x07example\x00\x00\x06@\x00\x00\x00\x00\x03\
+    \x01c\x07example\x00\x00.\x00\x01\x00\x00\x0e\x10\x00\x1f\x00/\x0d\x02\x00\x00\x0e\x10w5\x94\x005\xa4\xe9\x00\x00\x01\x07example\x00ZZZZ\
+    \x00\x00)\x04\xd0\x00\x00\x00\x00\x00\x00";
+
+// A query for dd.example A, with an OPT record of size 1232 and DO.
+const NEXT_QUERY: &[u8] = b"\
+    Vx\x01\x00\x00\x01\x00\x00\x00\x00\x00\x01\
+    \x02dd\x07example\x00\x00\x01\x00\x01\
+    \x00\x00)\x04\xd0\x00\x00\x80\x00\x00\x00";
+
+// The first query as it is asked upstream: with ID 0, RD and AD, and an OPT record of size 1232 and DO.
+const ASKED: &[u8] = b"\
+    \x00\x00\x01\x20\x00\x01\x00\x00\x00\x00\x00\x01\
+    \x01d\x07example\x00\x00\x01\x00\x01\
+    \x00\x00)\x04\xd0\x00\x00\x80\x00\x00\x00";
+
+// The answer as the client gets it: with the ID of its query, and DO.
+const RELAYED: &[u8] = b"\
+    \x124\x81\xa3\x00\x01\x00\x00\x00\x06\x00\x01\
+    \x01d\x07example\x00\x00\x01\x00\x01\
+    \x07example\x00\x00\x06\x00\x01\x00\x00\x0e\x10\x00\x16\x00\x00\x00\x00\x00\x01\x00\x00\x0e\x10\x00\x00\x02X\x00\x01Q\x80\x00\x00\x01,\
+    \x07example\x00\x00.\x00\x01\x00\x00\x0e\x10\x00\x1f\x00\x06\x0d\x01\x00\x00\x0e\x10w5\x94\x005\xa4\xe9\x00\x00\x01\x07example\x00ZZZZ\
+    \x07example\x00\x00/\x00\x01\x00\x00\x0e\x10\x00\x13\x01a\x07example\x00\x00\x06\"\x00\x00\x00\x00\x03\
+    \x07example\x00\x00.\x00\x01\x00\x00\x0e\x10\x00\x1f\x00/\x0d\x01\x00\x00\x0e\x10w5\x94\x005\xa4\xe9\x00\x00\x01\x07example\x00ZZZZ\
+    \x01c\x07example\x00\x00/\x00\x01\x00\x00\x0e\x10\x00\x13\x01f\x07example\x00\x00\x06@\x00\x00\x00\x00\x03\
+    \x01c\x07example\x00\x00.\x00\x01\x00\x00\x0e\x10\x00\x1f\x00/\x0d\x02\x00\x00\x0e\x10w5\x94\x005\xa4\xe9\x00\x00\x01\x07example\x00ZZZZ\
+    \x00\x00)\x04\xd0\x00\x00\x80\x00\x00\x00";
+
+// There is no dd.example either, by the NSEC of c.example, and no wildcard, by that of example. Their TTL is the SOA's MINIMUM
+// (RFC 2308, section 5).
+const DENIED: &[u8] = b"\
+    Vx\x81\xa3\x00\x01\x00\x00\x00\x06\x00\x01\
+    \x02dd\x07example\x00\x00\x01\x00\x01\
+    \x07example\x00\x00\x06\x00\x01\x00\x00\x01,\x00\x16\x00\x00\x00\x00\x00\x01\x00\x00\x0e\x10\x00\x00\x02X\x00\x01Q\x80\x00\x00\x01,\
+    \x07example\x00\x00.\x00\x01\x00\x00\x01,\x00\x1f\x00\x06\x0d\x01\x00\x00\x0e\x10w5\x94\x005\xa4\xe9\x00\x00\x01\x07example\x00ZZZZ\
+    \x01c\x07example\x00\x00/\x00\x01\x00\x00\x01,\x00\x13\x01f\x07example\x00\x00\x06@\x00\x00\x00\x00\x03\
+    \x01c\x07example\x00\x00.\x00\x01\x00\x00\x01,\x00\x1f\x00/\x0d\x02\x00\x00\x0e\x10w5\x94\x005\xa4\xe9\x00\x00\x01\x07example\x00ZZZZ\
+    \x07example\x00\x00/\x00\x01\x00\x00\x01,\x00\x13\x01a\x07example\x00\x00\x06\"\x00\x00\x00\x00\x03\
+    \x07example\x00\x00.\x00\x01\x00\x00\x01,\x00\x1f\x00/\x0d\x01\x00\x00\x0e\x10w5\x94\x005\xa4\xe9\x00\x00\x01\x07example\x00ZZZZ\
+    \x00\x00)\x04\xd0\x00\x00\x80\x00\x00\x00";
+
+// A link that receives a query, the upstream's answer to it, and a query that the answer proves, with room for three to send.
+// The calls with these numbers fail.
+fn three_to_come(alloc: Global, failing: Vec<u32>) -> Result<MemoryLink, OutOfMemory>
+    ensures { IfOk result IsFresh }
+{
+    let mut incoming = Vec::new(alloc);
+    incoming.push(Datagram::of(CLIENT, QUERY))?;
+    incoming.push(Datagram::of(Peer::Upstream, ANSWER))?;
+    incoming.push(Datagram::of(OTHER, NEXT_QUERY))?;
+    MemoryLink::with_room(alloc, incoming, 3, failing)
+}
+
+fn one_link(alloc: Global, failing: Vec<u32>) -> Result<MemoryHarbor, OutOfMemory> {
+    let mut links = Vec::new(alloc);
+    links.push(three_to_come(alloc, failing)?)?;
+    MemoryHarbor::with_links(alloc, links, Vec::new(alloc))
+}
+
+// How the server ends, the harbor then, and how many octets it writes.
+fn served<R: Threads + Wait + Sync>(
+    rt: &R,
+    alloc: Global,
+    failing: Vec<u32>,
+) -> Result<(Status, MemoryHarbor, usize), OutOfMemory> {
+    let words = words_of(
+        alloc,
+        "serve --listen 5300 --upstream 5353 --workers 1 --datagrams 3",
+    )?;
+    let mut source = source_of(alloc, b"")?;
+    let mut sink = MemorySink::with_room(alloc, 4096, Vec::new(alloc))?;
+    let mut harbor = one_link(alloc, failing)?;
+    let clock = FixedClock { now: THEN };
+    let status = run(
+        rt,
+        alloc,
+        &words,
+        &mut source,
+        &mut sink,
+        &OpenGate,
+        &mut harbor,
+        &clock,
+    );
+    Ok((status, harbor, sink.written().len()))
+}
+
+// What is sent, in order, to whom.
+const SENT: [(Peer, &[u8]); 3] = [(Peer::Upstream, ASKED), (CLIENT, RELAYED), (OTHER, DENIED)];
+
+// Whether one link came back, from port 5300, that has sent the first of these, so many, and no more.
+fn has_sent(harbor: &MemoryHarbor, count: usize) -> bool {
+    let [(port, link)] = harbor.came_back() else {
+        return false;
+    };
+    if *port != 5300 || link.sent().len() != count {
+        return false;
+    }
+    for (sent, (peer, octets)) in link.sent().iter().zip(SENT.iter()) {
+        if sent.peer != *peer || sent.octets.as_slice() != *octets {
+            return false;
+        }
+    }
+    true
+}
+
+// The status, its exit code, whether so many are sent and no more, and how many octets are written.
+type Served = (Status, ExitCode, bool, usize);
+
+fn served_and_sent<R: Threads + Wait + Sync>(
+    rt: &R,
+    alloc: Global,
+    failing: &[u32],
+    count: usize,
+) -> Result<Served, OutOfMemory> {
+    let (status, harbor, written) = served(rt, alloc, Vec::from_slice(alloc, failing)?)?;
+    Ok((
+        status,
+        status.exit_code(),
+        has_sent(&harbor, count),
+        written,
+    ))
+}
+
+// The answer is stored before it is relayed, and denies the next name.
+#[test]
+fn a_server_stores_what_it_relays_and_denies_by_it(rt: HostRuntime) -> Result<(), Fail> {
+    let found = served_and_sent(&rt, rt.alloc(), &[], 3)?;
+    assert!(rt;
+        found == (Status::Good, ExitCode::from(0), true, 0),
+        "{found:?}"
+    );
+    Ok(())
+}
+
+// The call that fails, and how many were sent before it. Receipts are the calls 1, 3 and 5, and each datagram is answered before
+// the next is received.
+const FAILING: [(u32, usize); 6] = [(1, 0), (2, 0), (3, 1), (4, 1), (5, 2), (6, 2)];
+
+// The first call whose failure is told otherwise, and how.
+fn failed_otherwise<R: Threads + Wait + Sync>(
+    rt: &R,
+    alloc: Global,
+    rows: &[(u32, usize)],
+) -> Result<Option<(u32, Served)>, OutOfMemory> {
+    for (call, count) in rows.iter() {
+        let found = served_and_sent(rt, alloc, &[*call], *count)?;
+        if found != (Status::HarborFault, ExitCode::from(8), true, 0) {
+            return Ok(Some((*call, found)));
+        }
+    }
+    Ok(None)
+}
+
+#[test]
+fn a_link_that_fails_gives_status_8_and_comes_back(rt: HostRuntime) -> Result<(), Fail> {
+    let wrong = failed_otherwise(&rt, rt.alloc(), &FAILING)?;
+    assert!(rt; wrong.is_none(), "{wrong:?}");
+    Ok(())
+}

@@ -1,5 +1,0 @@
-mod faults;
-mod meeting;
-mod messages;
-mod row;
-mod waiting;

@@ -1,0 +1,15 @@
+//! The tests of `server`, which cite its public calls alone.
+#![tactic(auto)]
+
+#[cfg(test)]
+mod faults;
+#[cfg(test)]
+mod meeting;
+#[cfg(test)]
+mod messages;
+#[cfg(test)]
+mod row;
+#[cfg(test)]
+mod sent;
+#[cfg(test)]
+mod waiting;

@@ -1,3 +1,0 @@
-mod messages;
-mod row;
-mod together;

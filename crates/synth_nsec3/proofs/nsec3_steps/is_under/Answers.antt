@@ -1,5 +1,0 @@
-use Rattle.cache_meaning.proofs.EvidenceLemmas.{is_under_from_under}
-use Rattle.synth_nsec3.proofs.nsec3_steps.is_under.Goals as goal
-
-pub returns : goal.returns
-returns c = is_under_from_under c.args.name.now c.args.other.now c.is_under.result c.is_under.ensures

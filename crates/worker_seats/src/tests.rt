@@ -1,5 +1,0 @@
-mod meeting;
-mod messages;
-mod pairs;
-mod ranges;
-mod running;

@@ -1,0 +1,7 @@
+//! Tests of `zone_maker`.
+#![tactic(auto)]
+
+#[cfg(test)]
+mod made;
+#[cfg(test)]
+mod query;
