@@ -47,7 +47,7 @@ module _ {S B : Type 0} where
 
 module _ {S B : Type 0} (after : S → B → S) (most : ℕ) where
   pub sound_same : (u v : Recorded S B) → content_of v ≡ content_of u → Sound after most u → Sound after most v
-  sound_same u v e h = subst (IsMade after most) (sym (ap (λ c. c.0) e)) h
+  sound_same u v e h = subst (IsMade after most) (sym e) h
 
   pub looks : (pass : ℕ) (k : Known S B) (x y : Recorded S B) → Kin x y → (Sound after most x → Sound after most y) → TurnsAt (Kept after most) pass k x y (Looks after most)
   looks pass k x y kin sound views h at = (

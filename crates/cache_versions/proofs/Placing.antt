@@ -17,7 +17,7 @@ module _ {S B F : Type 0} {g : Ghosts S B F} (met : Recorded S B) (before after 
   Answer = Result (Placed S B F g) (InsertFault F)
 
   same_prefix : IsPrefix (seen_by before) (journal_of met) → IsSame met (kept_by after) → IsPrefix (seen_by before) (seen_by after)
-  same_prefix pre same = subst (λ (l : List B). IsPrefix (seen_by before) l) (sym (ap (λ c. c.0.journal) same)) pre
+  same_prefix pre same = subst (λ (l : List B). IsPrefix (seen_by before) l) (sym (ap (λ c. c.1.log) same)) pre
 
   pub place_prefix : (r : Answer) → IsPrefix (seen_by before) (journal_of met) → IsAnswer met before after batch r → IsPrefix (seen_by before) (seen_by after)
   place_prefix (Ok p) pre h = prefix_trans (seen_by before) (journal_of met) (seen_by after) pre (batch ∷ [], sym h.seen)

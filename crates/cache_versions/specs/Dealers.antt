@@ -19,6 +19,10 @@ IsHandOf d hand = hand.table_id ≡ table_of d
 abbrev pub IsSameHand : Seat (Unit {0}) InHand → Seat (Unit {0}) InHand → Type 0
 IsSameHand before after = after.table_id ≡ before.table_id
 
+-- it stands for one hand
+abbrev pub IsOneHand : Seat (Unit {0}) InHand → Type 0
+IsOneHand hand = (hand.me.0.hands ≡ 1) × (hand.me.1 ≡ [])
+
 -- the hand has these places, and stands for so many hands
 abbrev pub HasPlaces : ℕ → List ℕ → Seat (Unit {0}) InHand → Type 0
 HasPlaces n places hand = hand.me ≡ (in_hand n places, [])

@@ -11,12 +11,12 @@ use Rattle.cache_versions.specs.declared.version.Recorded.{Recorded}
 use Rattle.cache_versions.specs.declared.version.Known.{Known}
 
 module _ {S B : Type 0} where
-  abbrev pub version_of : Recorded S B → Version S B
+  abbrev pub version_of : Recorded S B → Version S
   version_of r = arc_value r.version
 
   -- the batches that were placed, the first one first
   abbrev pub journal_of : Recorded S B → List B
-  journal_of r = (version_of r).journal
+  journal_of r = r.front.log
 
   abbrev pub number_of : Recorded S B → ℕ
   number_of r = (version_of r).number
@@ -29,7 +29,7 @@ module _ {S B : Type 0} where
   opening_of r = arc_value (version_of r).opening
 
   -- what two owners share
-  abbrev pub content_of : Recorded S B → Version S B × Seen B ℕ Law
+  abbrev pub content_of : Recorded S B → Version S × Seen B ℕ Law
   content_of r = (version_of r, r.front)
 
   abbrev pub IsSame : Recorded S B → Recorded S B → Type 0
@@ -59,12 +59,12 @@ module _ {S B : Type 0} where
 
 module _ {S B : Type 0} (after : S → B → S) (most : ℕ) where
   -- the state is made of the opening state by the batches, which are few enough
-  abbrev pub IsMade : Version S B → Type 0
-  IsMade v =
-      (arc_value v.state ≡ fold after (arc_value v.opening) v.journal) × (v.number ≤ most)
+  abbrev pub IsMade : Version S × Seen B ℕ Law → Type 0
+  IsMade c =
+      (arc_value c.0.state ≡ fold after (arc_value c.0.opening) c.1.log) × (c.0.number ≤ most)
 
   abbrev pub Sound : Recorded S B → Type 0
-  Sound r = IsMade (version_of r)
+  Sound r = IsMade (content_of r)
 
   -- the published version is sound, and each version that any place knows of is of its book
   abbrev pub Kept : Recorded S B → List (Known S B) → Type 0

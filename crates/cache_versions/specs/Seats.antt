@@ -22,9 +22,9 @@ module _ {S B F : Type 0} {g : Ghosts S B F} where
   abbrev pub number_by : Seat S B F g → ℕ
   number_by s = s.number
 
-  -- where the seat's own batches stand in the journal
+  -- where the seat's own batches stand in the journal. They exist in the proofs alone
   abbrev pub places_by : Seat S B F g → List ℕ
-  places_by s = s.places.items
+  places_by s = s.hand.me.0.places
 
   -- the number and the places are the same
   abbrev pub IsSameSeat : Seat S B F g → Seat S B F g → Type 0

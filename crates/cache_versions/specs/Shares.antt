@@ -15,7 +15,7 @@ use Rattle.cache_versions.specs.Kin.{Kin, opening_of}
 use Rattle.cache_versions.specs.Seats.{kept_by, seen_by, places_by}
 
 abbrev Shows : Type 0 → Type 0 → Type 1
-Shows S B = Ghosts (Recorded S B) (Recorded S B) (Version S B × Seen B ℕ Law)
+Shows S B = Ghosts (Recorded S B) (Recorded S B) (Version S × Seen B ℕ Law)
 
 module _ {S B F : Type 0} {a : Shows S B} where
   -- the version that the object began with

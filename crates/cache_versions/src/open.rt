@@ -18,7 +18,6 @@ use crate::seat::{Held, Seat};
 use crate::state::State;
 use crate::version::{Recorded, RecordedOf, Version};
 use left_right::writer::Writer;
-use page_list::PageList;
 use std::alloc::{AllocError, Global};
 use std::sync::{Arc, Wait};
 
@@ -36,7 +35,6 @@ pub(crate) fn first_version<S: State>(
     let first = Version {
         state,
         opening,
-        journal: PageList::empty(alloc),
         number: 0,
     };
     let version = owned(alloc, first)?;
@@ -114,7 +112,6 @@ fn make_seat<S: State, R: Wait>(
     reader.learn::<Replaces>(writer.tell::<Copies>());
     Ok(Seat {
         number,
-        places: Vec::new(alloc),
         held,
         reader: Some(reader),
         hand,

@@ -16,7 +16,7 @@ pub struct Note<S: State> {
 #[derive(Drop)]
 pub struct Placed<S: State> {
     /// The number of the new version. The batch's place is one less.
-    pub version: u32,
+    pub version: u64,
     pub note: Note<S>,
 }
 
@@ -24,8 +24,8 @@ pub struct Placed<S: State> {
 #[derive(Drop)]
 pub enum InsertFault<F> {
     /// The version that was met has as many batches as a version may have.
-    NumbersSpent { version: u32 },
+    NumbersSpent { version: u64 },
     /// The state of the version that was met refuses the batch.
-    Refused { version: u32, fault: F },
+    Refused { version: u64, fault: F },
     OutOfMemory,
 }

@@ -10,7 +10,7 @@ use left_right::Absorb;
 use std::alloc::AllocError;
 
 /// An operation is a whole version, which takes the place of the one before.
-impl<S: Drop, B: Drop> Absorb<Recorded<S, B>> for Recorded<S, B> {
+impl<S: Drop, B> Absorb<Recorded<S, B>> for Recorded<S, B> {
     type State = Content<S, B>;
 
     ghost state = { content_of };
@@ -46,14 +46,14 @@ impl<S: State> Outcome<RecordedOf<S>, KnownOf<S>> for Look {
 /// The publication by which the writer comes to know the first version.
 pub struct Meet;
 
-impl<S, B: Drop> Outcome<Recorded<S, B>, Known<S, B>> for Meet {
+impl<S, B> Outcome<Recorded<S, B>, Known<S, B>> for Meet {
     ghost then = { Meets };
 }
 
 /// Both ends know what the one knew.
 pub struct Copies;
 
-impl<S, B: Drop> Split<Known<S, B>> for Copies {
+impl<S, B> Split<Known<S, B>> for Copies {
     ghost left = { λ k. k };
 
     ghost right = { λ k. k };
@@ -62,7 +62,7 @@ impl<S, B: Drop> Split<Known<S, B>> for Copies {
 /// What the other knew.
 pub struct Replaces;
 
-impl<S, B: Drop> Join<Known<S, B>> for Replaces {
+impl<S, B> Join<Known<S, B>> for Replaces {
     ghost both = { λ _ l. l };
 
     ghost spent = { known [] };

@@ -1,9 +1,9 @@
-//! A seat: what one caller has seen, and the places of its batches.
+//! A seat: what one caller has seen, and the places of its batches, which exist in the proofs alone.
 ghost use Rattle.std.specs.Prelude.{IfSome};
 ghost use Rattle.std.proofs.Props.{props};
 ghost use Rattle.left_right.specs.Sides.{view};
 ghost use Rattle.cache_versions.specs.Kin.{KnowsKin, Sound};
-ghost use Rattle.cache_versions.specs.Dealers.{HasPlaces};
+ghost use Rattle.cache_versions.specs.Dealers.{IsOneHand};
 
 use crate::hand::Hand;
 use crate::rule::OneBook;
@@ -28,11 +28,10 @@ pub struct Held<S: State> {
 #[derive(Drop)]
 pub struct Seat<S: State> {
     pub(crate) number: u8,
-    pub(crate) places: Vec<u32>,
     pub(crate) held: Held<S>,
     pub(crate) reader: Option<Place<S>>,
     pub(crate) hand: Hand,
     ghost informed: { IfSome reader (λ r.
         KnowsKin (view r.place) held.recorded) } by { Prim.hlevel props },
-    ghost dealt: { HasPlaces 1 places.items hand },
+    ghost dealt: { IsOneHand hand },
 }

@@ -1,8 +1,4 @@
 //! The object that threads share.
-ghost use Rattle.std.specs.Prelude.{◌≡◌, ◌≤◌, [], vec_capacity};
-ghost use Rattle.cache_versions.specs.Dealers.{hands_of};
-
-use crate::close::SeatPlaces;
 use crate::dealer::Dealer;
 use crate::desk::Desk;
 use crate::seat::Seat;
@@ -25,18 +21,14 @@ where
     ghost ties = { Ties S.after S.BATCHES };
 }
 
-/// One state in versions, with one journal. Threads read it without waiting. It is not `Drop`: end
-/// it by `close` or `give_up`.
+/// One state in versions, by one history of batches, of which none is kept. Threads read it without waiting. It is not `Drop`:
+/// end it by `close` or `give_up`.
 pub struct Shared<S: State>
 where
     RecordedOf<S>: Absorb<RecordedOf<S>, State = ContentOf<S>>,
 {
     pub(crate) lock: TiedLock<Desk<S>, RecordedOf<S>, Same>,
     pub(crate) dealer: Dealer,
-    /// Room for the places of all seats, so that `close` takes no memory.
-    pub(crate) ended: Vec<SeatPlaces>,
-    ghost none_ended: { ended.items ≡ [] },
-    ghost room: { hands_of dealer ≤ vec_capacity ended },
 }
 
 /// The version that a seat keeps, lent with the seat.

@@ -1,5 +1,5 @@
 //! What a version is a version of.
-ghost use Rattle.std.specs.Prelude.{◌≡◌, ℕ, Option, None, IfOk, IfErr, OnOk};
+ghost use Rattle.std.specs.Prelude.{◌≡◌, ◌<◌, ◌^◌, ℕ, Option, None, IfOk, IfErr, OnOk};
 ghost use Rattle.cache_versions.specs.Faults.{RefusedBy};
 
 use std::alloc::Global;
@@ -21,7 +21,7 @@ pub trait State: Drop + Send + Sync {
     type Fault: Drop + Send + Sync;
 
     /// A version has at most so many batches.
-    const BATCHES: u32;
+    const BATCHES: u64;
 
     ghost BATCHES: { ℕ };
 
@@ -36,4 +36,7 @@ pub trait State: Drop + Send + Sync {
         ensures after { IfOk result (λ s. s ≡ after self.now batch.now) }
         ensures taken { OnOk result (refusal self.now batch.now ≡ None) }
         ensures refused { IfErr result (RefusedBy refusal self.now batch.now) };
+
+    /// The book of the history has no higher numbers.
+    ghost few: { BATCHES < 2 ^ 62 };
 }

@@ -1,4 +1,4 @@
-//! Seats over a state of one number: on one thread, and on two.
+//! Seats over states of one number: on one thread, and on two.
 use std::test::Fail;
 
 mod crossing;
@@ -6,18 +6,18 @@ mod digest;
 mod script;
 mod threads;
 
-use script::Answer::{At, Refused, Saw, Spent};
-use script::Step::{Insert, Learn, Read};
+use script::Answer::{Ahead, At, Refused, Saw, Spent};
+use script::Step::{Compare, Go, Insert, Learn, Read};
 use script::{Answer, Step, play};
 
-// Steps in turn with their answers, and then the places of each seat. The state behind the batches b1,
-// b2, b3 is (b1 * 31 + b2) * 31 + b3, modulo 65,521.
+// Steps in turn with their answers, and then the number of the last version and its state. The place of a batch that was inserted
+// is one less than the number in its answer. The state behind the batches b1, b2, b3 is (b1 * 31 + b2) * 31 + b3, modulo 65,521.
 struct Row {
     steps: &'static [(Step, Answer)],
-    places: [&'static [u32]; 3],
+    end: (u64, u64),
 }
 
-const ROWS: [Row; 7] = [
+const ROWS: [Row; 8] = [
     // What was placed is in the note, and in what is read.
     Row {
         steps: &[
@@ -25,7 +25,7 @@ const ROWS: [Row; 7] = [
             (Learn(1), At(1)),
             (Read(1), Saw(1, 7)),
         ],
-        places: [&[0], &[], &[]],
+        end: (1, 7),
     },
     // A seat that learnt nothing reads what is published.
     Row {
@@ -34,7 +34,7 @@ const ROWS: [Row; 7] = [
             (Insert(0, 7), At(1)),
             (Read(2), Saw(1, 7)),
         ],
-        places: [&[0], &[], &[]],
+        end: (1, 7),
     },
     // A seat reads its own two batches, in their order.
     Row {
@@ -43,7 +43,7 @@ const ROWS: [Row; 7] = [
             (Insert(0, 2), At(2)),
             (Read(0), Saw(2, 33)),
         ],
-        places: [&[0, 1], &[], &[]],
+        end: (2, 33),
     },
     // Each place goes to the seat that inserted.
     Row {
@@ -53,7 +53,7 @@ const ROWS: [Row; 7] = [
             (Insert(0, 3), At(3)),
             (Read(0), Saw(3, 1026)),
         ],
-        places: [&[0, 2], &[1], &[]],
+        end: (3, 1026),
     },
     // The fourth batch of three finds no number left, also where its state would refuse it.
     Row {
@@ -65,7 +65,7 @@ const ROWS: [Row; 7] = [
             (Insert(1, 0), Spent(3)),
             (Read(1), Saw(3, 993)),
         ],
-        places: [&[0, 1], &[], &[2]],
+        end: (3, 993),
     },
     // A refusal says what refused, takes no place, and shows the seat the version that it met.
     Row {
@@ -75,7 +75,7 @@ const ROWS: [Row; 7] = [
             (Insert(1, 2), At(2)),
             (Read(0), Saw(2, 219)),
         ],
-        places: [&[0], &[1], &[]],
+        end: (2, 219),
     },
     // A seat learns its own note, a newer one and an older one: it never goes back.
     Row {
@@ -87,7 +87,20 @@ const ROWS: [Row; 7] = [
             (Learn(1), At(2)),
             (Learn(1), At(2)),
         ],
-        places: [&[0, 1, 2], &[], &[]],
+        end: (3, 1026),
+    },
+    // Of two seats the one is ahead that has seen more, and each of two that have seen as much.
+    Row {
+        steps: &[
+            (Compare(0, 1), Ahead(true)),
+            (Compare(1, 0), Ahead(true)),
+            (Insert(0, 7), At(1)),
+            (Compare(0, 1), Ahead(true)),
+            (Compare(1, 0), Ahead(false)),
+            (Go(1), At(1)),
+            (Compare(1, 0), Ahead(true)),
+        ],
+        end: (1, 7),
     },
 ];
 
@@ -95,13 +108,11 @@ const ROWS: [Row; 7] = [
 fn seats_in_turn(rt: HostRuntime) -> Result<(), Fail> {
     for row in &ROWS {
         let mut answers = Vec::new(rt.alloc());
-        let places = play(&rt, rt.alloc(), row.steps, &mut answers)?;
+        let end = play(&rt, rt.alloc(), row.steps, &mut answers)?;
         for (i, (_, wanted)) in row.steps.iter().enumerate() {
             assert_eq!(rt; answers.get(i), Some(wanted));
         }
-        for (i, wanted) in row.places.iter().enumerate() {
-            assert_eq!(rt; places.get(i).map(|p| p.as_slice()), Some(*wanted));
-        }
+        assert_eq!(rt; end, row.end);
     }
     Ok(())
 }
@@ -109,6 +120,6 @@ fn seats_in_turn(rt: HostRuntime) -> Result<(), Fail> {
 #[test]
 fn two_threads(rt: HostRuntime) -> Result<(), Fail> {
     let seen = threads::race(&rt, rt.alloc(), 10000)?;
-    assert_eq!(rt; seen, (20000, true));
+    assert_eq!(rt; seen, (20000, 20001, true));
     Ok(())
 }

@@ -1,28 +1,17 @@
-//! `dnsreplay`: frames of queries and upstream answers in, frames of what becomes of them out; or datagrams on loopback. `run` of
-//! `running`, which `main` calls, carries the headline.
+//! `dnsreplay`: frames of queries and upstream answers in, frames of what becomes of them out; or datagrams on loopback. `run_here`
+//! of `running`, which `main` calls, carries the headline.
 #![tactic(auto)]
 
-use outside_core::{OpenGate, StreamSink, StreamSource, SystemClock, UdpHarbor};
-use running::{Status, run};
+use outside_core::{StreamSink, StreamSource};
+use running::{Status, run_here};
 use std::process::ExitCode;
 use std::{env, io};
 
 fn main(rt: HostRuntime) -> ExitCode {
     let mut source = StreamSource::over(rt.stdin());
     let mut sink = StreamSink::over(rt.stdout());
-    let mut harbor = UdpHarbor::over(&rt);
-    let clock = SystemClock::over(&rt);
     let status = match words_of(&rt) {
-        Ok(words) => run(
-            &rt,
-            rt.alloc(),
-            &words,
-            &mut source,
-            &mut sink,
-            &OpenGate,
-            &mut harbor,
-            &clock,
-        ),
+        Ok(words) => run_here(&rt, rt.alloc(), &words, &mut source, &mut sink, &rt, &rt),
         Err(status) => status,
     };
     if let Some(line) = status.line() {

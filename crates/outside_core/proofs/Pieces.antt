@@ -1,5 +1,5 @@
 -- A list that is taken piece by piece, from its front.
-use Rattle.std.proofs.Common.{◌≡◌, ℕ, ◌+◌, ◌≤◌, List, [], ◌∷◌, ◌++◌, take, drop, ◌∙◌, ap, arith}
+use Rattle.std.proofs.Common.{◌≡◌, ℕ, ◌+◌, ◌≤◌, List, ◌++◌, take, drop, arith}
 use Rattle.std.proofs.lemmas.List.{drop-drop, drop-take, take-take, take-append-drop}
 
 -- what was taken, and what is taken next
@@ -11,9 +11,5 @@ take-add p n xs =
 -- what is taken next, and what is left then
 pub next_and_rest : {X : Type 0} (p n : ℕ) (xs : List X) → drop p xs ≡ take n (drop p xs) ++ drop (p + n) xs
 next_and_rest p n xs = grind (arith, take-append-drop n (drop p xs), drop-drop n p xs)
-
--- the first of what is left, and the others
-pub first_and_rest : {X : Type 0} (p : ℕ) (xs : List X) (x : X) → take 1 (drop p xs) ≡ x ∷ [] → drop p xs ≡ x ∷ drop (p + 1) xs
-first_and_rest p xs x is = next_and_rest p 1 xs ∙ ap (λ front. front ++ drop (p + 1) xs) is
 
 pub ruleset taking = (take-add, next_and_rest, drop-drop)

@@ -1,5 +1,5 @@
--- Datagrams, and those that a link may tell.
-use Rattle.std.specs.Prelude.{◌≡◌, ℕ, List, [], ◌∷◌, ◌++◌, Option, option_map, IfSome}
+-- Datagrams.
+use Rattle.std.specs.Prelude.{ℕ, List}
 use Rattle.outside_core.specs.declared.datagram.Datagram.{Datagram}
 use Rattle.outside_core.specs.declared.datagram.Peer.{Peer}
 use Rattle.outside_core.specs.declared.datagram.Peer.TheVariants.{Client, Upstream}
@@ -12,11 +12,3 @@ datagram_of peer octets = record { peer = peer; octets = octets }
 abbrev pub IsClient : Peer → Type 0
 IsClient (Client number) = Unit {0}
 IsClient Upstream = ⊥
-
--- the datagrams so far, where they are told, and then this one
-abbrev pub one_more_told : Option (List Datagram) → Datagram → Option (List Datagram)
-one_more_told told datagram = option_map (λ before. before ++ datagram ∷ []) told
-
--- where datagrams are told, there are none
-abbrev pub TellsNone : Option (List Datagram) → Type 0
-TellsNone told = IfSome told (λ datagrams. datagrams ≡ [])

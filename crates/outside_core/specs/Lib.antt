@@ -1,12 +1,12 @@
 pub mod Told
 pub mod Fault
 pub mod Datagram
+pub mod Event
 pub mod Returned
 pub mod SteadySource
 pub mod FaultPlan
 pub mod MemorySource
 pub mod MemorySink
-pub mod Incoming
 pub mod MemoryLink
 pub mod MemoryHarbor
 pub mod Stream

@@ -28,8 +28,7 @@ abbrev pub shown : Linking → Returned
 shown link = record {
   port = link.port;
   upstream = link.upstream;
-  received = link.received;
-  sent = link.sent;
+  events = link.events;
   faults = link.plan.faults;
 }
 

@@ -1,5 +1,5 @@
 ghost use Rattle.std.specs.Prelude.{◌≡◌, ℕ, ◌≤◌, List, Option, IfOk};
-ghost use Rattle.outside_core.specs.Datagram.{TellsNone};
+ghost use Rattle.outside_core.specs.Event.{TellsNone};
 ghost use Rattle.outside_core.specs.Fault.{HasCause, Rose};
 ghost use Rattle.outside_core.specs.Returned.{Returned, returned_of, then_returned, TellsAtMost};
 
@@ -19,8 +19,7 @@ pub trait Harbor {
     fn bind(&mut self, port: u16, upstream: u16) -> Result<Self::Link, Failed>
         ensures port { IfOk result (λ link. Self.Link.Link.port link ≡ port) }
         ensures upstream { IfOk result (λ link. Self.Link.Link.upstream link ≡ upstream) }
-        ensures received { IfOk result (λ link. TellsNone (Self.Link.Link.received link)) }
-        ensures sent { IfOk result (λ link. TellsNone (Self.Link.Link.sent link)) }
+        ensures events { IfOk result (λ link. TellsNone (Self.Link.Link.events link)) }
         ensures unfailed { IfOk result (λ link. Self.Link.Link.faults link ≡ 0) }
         ensures came_back { came_back self.new ≡ came_back self.old }
         ensures cause { HasCause (faults self.old) (faults self.new) result };
@@ -31,8 +30,7 @@ pub trait Harbor {
         ensures came_back { TellsAtMost (came_back self.new)
             (then_returned (came_back self.old) (returned_of
             (Self.Link.Link.port link) (Self.Link.Link.upstream link)
-            (Self.Link.Link.received link) (Self.Link.Link.sent link)
-            (Self.Link.Link.faults link))) }
+            (Self.Link.Link.events link) (Self.Link.Link.faults link))) }
         ensures unfailing { Self.Link.Link.faults link ≡ 0 →
             faults self.new ≡ faults self.old }
         ensures failed { 1 ≤ Self.Link.Link.faults link →

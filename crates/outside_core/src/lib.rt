@@ -1,20 +1,19 @@
 //! The outside as traits with a written meaning and a count of faults, their forms in memory, and
 //! thin adapters over the streams, the network and the clock of std.
 //!
-//! Specs, in reading order: `Told`, `Fault`, `Datagram`, `Returned`, which the traits cite;
-//! `SteadySource`, `FaultPlan`, `MemorySource`, `MemorySink`, `Incoming`, `MemoryLink`,
-//! `MemoryHarbor` for the forms in memory; `Stream`, `Udp` for the adapters. Public clauses cite
-//! them all, but for `Incoming`.
+//! Specs, in reading order: `Told`, `Fault`, `Datagram`, `Event`, `Returned`, which the traits cite;
+//! `SteadySource`, `FaultPlan`, `MemorySource`, `MemorySink`, `MemoryLink`, `MemoryHarbor` for the
+//! forms in memory; `Stream`, `Udp` for the adapters. Public clauses cite them all.
 #![tactic(auto)]
 
 mod clock;
 mod datagram;
 mod datagram_octets;
+mod event;
 mod failed;
 mod fault_plan;
 mod gate;
 mod harbor;
-mod incoming;
 mod link;
 mod memory_harbor;
 mod memory_link;
@@ -32,6 +31,7 @@ mod writing;
 pub use clock::{Clock, FixedClock};
 pub use datagram::{Datagram, MAX_DATAGRAM, Peer};
 pub use datagram_octets::DatagramOctets;
+pub use event::Event;
 pub use failed::Failed;
 pub use gate::{Gate, OpenGate, Side};
 pub use harbor::Harbor;

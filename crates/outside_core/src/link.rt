@@ -1,6 +1,8 @@
 ghost use Rattle.std.specs.Prelude.{◌≡◌, ℕ, ◌≤◌, List, length, false, IsTrue, Option, OnOk, OnErr};
-ghost use Rattle.outside_core.specs.declared.datagram.Datagram.{Datagram as Carried};
-ghost use Rattle.outside_core.specs.Datagram.{datagram_of, IsClient, one_more_told};
+ghost use Rattle.outside_core.specs.declared.event.Event.{Event as Told};
+ghost use Rattle.outside_core.specs.declared.event.Event.TheVariants.{Awaited, Found, Sent};
+ghost use Rattle.outside_core.specs.Datagram.{datagram_of, IsClient};
+ghost use Rattle.outside_core.specs.Event.{one_more_told};
 ghost use Rattle.outside_core.specs.Fault.{HasCause};
 
 use crate::{Datagram, Failed, Peer};
@@ -8,11 +10,8 @@ use std::sync::Wait;
 
 /// A worker's way to its clients and to the upstream resolver, by datagrams.
 pub trait Link {
-    /// The datagrams received so far, where the link tells them.
-    ghost received: { Self → Option (List Carried) };
-
-    /// The datagrams sent so far, where the link tells them.
-    ghost sent: { Self → Option (List Carried) };
+    /// What went over the link so far, in turn, where the link tells it.
+    ghost events: { Self → Option (List Told) };
 
     /// The port that the link was bound to.
     ghost port: { Self → ℕ };
@@ -26,10 +25,9 @@ pub trait Link {
     /// Waits for the next datagram and puts it into `into`, which may hold anything before. What it
     /// holds after a failed call is left open.
     fn receive<R: Wait>(&mut self, rt: &R, into: &mut Datagram) -> Result<(), Failed>
-        ensures received { OnOk result (
-            received self.new ≡ one_more_told (received self.old) into.new) }
-        ensures failed_received { OnErr result (received self.new ≡ received self.old) }
-        ensures sent { sent self.new ≡ sent self.old }
+        ensures awaited { OnOk result (
+            events self.new ≡ one_more_told (events self.old) (Awaited into.new)) }
+        ensures failed { OnErr result (events self.new ≡ events self.old) }
         ensures port { port self.new ≡ port self.old }
         ensures upstream { upstream self.new ≡ upstream self.old }
         ensures cause { HasCause (faults self.old) (faults self.new) result };
@@ -41,11 +39,10 @@ pub trait Link {
     /// What the upstream resolver sends is left to the next `receive`, where want of memory for it
     /// can be reported. What fails is left to it too, which reports it if it lasts.
     fn receive_waiting(&mut self, into: &mut Datagram) -> bool
-        ensures taken { IsTrue result →
-            received self.new ≡ one_more_told (received self.old) into.new }
+        ensures found { IsTrue result →
+            events self.new ≡ one_more_told (events self.old) (Found into.new) }
         ensures client { IsTrue result → IsClient into.new.peer }
-        ensures none { result ≡ false → received self.new ≡ received self.old }
-        ensures sent { sent self.new ≡ sent self.old }
+        ensures none { result ≡ false → events self.new ≡ events self.old }
         ensures port { port self.new ≡ port self.old }
         ensures upstream { upstream self.new ≡ upstream self.old }
         ensures faults { faults self.new ≡ faults self.old }
@@ -58,9 +55,8 @@ pub trait Link {
     fn send(&mut self, to: Peer, octets: &[u8]) -> Result<(), Failed>
         requires { length octets.now ≤ 4096 }
         ensures sent { OnOk result (
-            sent self.new ≡ one_more_told (sent self.old) (datagram_of to octets.now)) }
-        ensures failed_sent { OnErr result (sent self.new ≡ sent self.old) }
-        ensures received { received self.new ≡ received self.old }
+            events self.new ≡ one_more_told (events self.old) (Sent (datagram_of to octets.now))) }
+        ensures failed { OnErr result (events self.new ≡ events self.old) }
         ensures port { port self.new ≡ port self.old }
         ensures upstream { upstream self.new ≡ upstream self.old }
         ensures cause { HasCause (faults self.old) (faults self.new) result };

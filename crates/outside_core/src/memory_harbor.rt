@@ -85,8 +85,7 @@ impl Harbor for MemoryHarbor {
     fn bind(&mut self, port: u16, upstream: u16) -> Result<MemoryLink, Failed>
         ensures port { IfOk result (λ link. link.port ≡ port) }
         ensures upstream { IfOk result (λ link. link.upstream ≡ upstream) }
-        ensures received { IfOk result (λ link. link.received ≡ []) }
-        ensures sent { IfOk result (λ link. link.sent ≡ []) }
+        ensures events { IfOk result (λ link. link.events ≡ []) }
         ensures unfailed { IfOk result (λ link. link.plan.faults ≡ 0) }
         ensures came_back { told_back self.new ≡ told_back self.old }
         ensures cause { HasCause self.old.plan.faults self.new.plan.faults result }

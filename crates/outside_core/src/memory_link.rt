@@ -1,23 +1,25 @@
 ghost use Rattle.std.specs.Prelude.{◌≡◌, ◌≤◌, ◌↔◌, [], ◌∷◌, ◌++◌, length, Some, IsErr, IsTrue, IfOk, OnOk, OnErr};
+ghost use Rattle.outside_core.specs.declared.event.Event.TheVariants.{Awaited, Sent};
 ghost use Rattle.outside_core.specs.Datagram.{datagram_of};
 ghost use Rattle.outside_core.specs.Fault.{HasCause};
 ghost use Rattle.outside_core.specs.FaultPlan.{plan_of};
 ghost use Rattle.outside_core.specs.MemoryLink.{link_of, Starves, after_receipt, IsCongested, after_sending, after_failed_call, bound_at};
 
 use crate::fault_plan::FaultPlan;
-use crate::incoming::Incoming;
-use crate::{Datagram, Failed, Link, OutOfMemory, Peer};
-use std::alloc::Global;
+use crate::{Datagram, Event, Failed, Link, OutOfMemory, Peer};
+use std::alloc::{AllocError, Global};
 use std::marker::Model;
 use std::sync::Wait;
 
-/// A link in memory, of whose calls some fail, with the room for sent datagrams that it took when it
-/// was made. It has 0 for both ports until a harbor binds it. Its counts of calls and of faults stay
-/// at 2^64 - 1 once they are there.
+/// A link in memory, of whose calls some fail, with the room for all that goes over it, which it took
+/// when it was made. It has 0 for both ports until a harbor binds it. Its counts of calls and of
+/// faults stay at 2^64 - 1 once they are there.
 #[derive(Debug, Drop)]
 pub struct MemoryLink {
-    incoming: Incoming,
-    sent: Vec<Datagram>,
+    events: Vec<Event>,
+    // The last is received next.
+    incoming: Vec<Datagram>,
+    // How many more datagrams may be sent.
     room: usize,
     port: u16,
     upstream: u16,
@@ -25,22 +27,22 @@ pub struct MemoryLink {
 }
 
 impl Model for MemoryLink {
-    ghost use Rattle.std.specs.Prelude.{◌≤◌, vec_len, vec_capacity};
+    ghost use Rattle.std.specs.Prelude.{◌+◌, ◌≤◌, reverse, vec_len, vec_capacity};
     ghost use Rattle.outside_core.specs.MemoryLink.{Linking};
 
     ghost Value = { Linking };
 
     ghost view = { λ l. record {
-      received = l.incoming.received;
-      left = l.incoming.left;
-      sent = l.sent.items;
+      events = l.events.items;
+      left = reverse l.incoming.items;
       room = l.room;
       port = l.port;
       upstream = l.upstream;
       plan = l.plan;
     } };
 
-    ghost invariant = { λ l. (vec_len l.sent ≤ l.room) × (l.room ≤ vec_capacity l.sent) };
+    ghost invariant = { λ l.
+        vec_len l.events + vec_len l.incoming + l.room ≤ vec_capacity l.events };
 }
 
 impl MemoryLink {
@@ -56,9 +58,12 @@ impl MemoryLink {
         ensures { IfOk result (λ link.
             link ≡ link_of incoming.items room (plan_of failing.items)) }
     {
+        let number = incoming.len().checked_add(room).ok_or(AllocError)?;
+        let mut incoming = incoming;
+        incoming.reverse();
         Ok(MemoryLink {
-            incoming: Incoming::of(incoming),
-            sent: Vec::with_capacity(alloc, room)?,
+            events: Vec::with_capacity(alloc, number)?,
+            incoming,
             room,
             port: 0,
             upstream: 0,
@@ -66,11 +71,11 @@ impl MemoryLink {
         })
     }
 
-    /// The datagrams sent so far.
-    pub fn sent(&self) -> &[Datagram]
-        ensures { result.now ≡ self.now.sent }
+    /// What went over the link so far, in turn.
+    pub fn events(&self) -> &[Event]
+        ensures { result.now ≡ self.now.events }
     {
-        &self.sent
+        &self.events
     }
 
     // The link at a port, with an upstream port.
@@ -92,9 +97,7 @@ impl MemoryLink {
 }
 
 impl Link for MemoryLink {
-    ghost received = { λ l. Some l.received };
-
-    ghost sent = { λ l. Some l.sent };
+    ghost events = { λ l. Some l.events };
 
     ghost port = { λ l. l.port };
 
@@ -103,10 +106,9 @@ impl Link for MemoryLink {
     ghost faults = { λ l. l.plan.faults };
 
     fn receive<R: Wait>(&mut self, _rt: &R, into: &mut Datagram) -> Result<(), Failed>
-        ensures received { OnOk result (
-            self.new.received ≡ self.old.received ++ into.new ∷ []) }
-        ensures failed_received { OnErr result (self.new.received ≡ self.old.received) }
-        ensures sent { self.new.sent ≡ self.old.sent }
+        ensures awaited { OnOk result (
+            self.new.events ≡ self.old.events ++ Awaited into.new ∷ []) }
+        ensures failed { OnErr result (self.new.events ≡ self.old.events) }
         ensures port { self.new.port ≡ self.old.port }
         ensures upstream { self.new.upstream ≡ self.old.upstream }
         ensures cause { HasCause self.old.plan.faults self.new.plan.faults result }
@@ -122,10 +124,12 @@ impl Link for MemoryLink {
         if self.plan.is_due() {
             return Err(self.plan.fail());
         }
-        match self.incoming.next_copy() {
+        match self.incoming.pop() {
             None => Err(self.plan.fail()),
             Some(next) => {
-                *into = next;
+                *into = next.copy();
+                let fitted = self.events.push(Event::Awaited(next)).is_ok();
+                prove!(fitted);
                 self.plan.succeed();
                 Ok(())
             }
@@ -135,9 +139,8 @@ impl Link for MemoryLink {
     fn send(&mut self, to: Peer, octets: &[u8]) -> Result<(), Failed>
         requires { length octets.now ≤ 4096 }
         ensures sent { OnOk result (
-            self.new.sent ≡ self.old.sent ++ datagram_of to octets.now ∷ []) }
-        ensures failed_sent { OnErr result (self.new.sent ≡ self.old.sent) }
-        ensures received { self.new.received ≡ self.old.received }
+            self.new.events ≡ self.old.events ++ Sent (datagram_of to octets.now) ∷ []) }
+        ensures failed { OnErr result (self.new.events ≡ self.old.events) }
         ensures port { self.new.port ≡ self.old.port }
         ensures upstream { self.new.upstream ≡ self.old.upstream }
         ensures cause { HasCause self.old.plan.faults self.new.plan.faults result }
@@ -148,11 +151,15 @@ impl Link for MemoryLink {
             (self.new ≡ after_sending (datagram_of to octets.now) self.old) }
         ensures failed_after { OnErr result (self.new ≡ after_failed_call self.old) }
     {
-        if self.plan.is_due() || self.sent.len() >= self.room {
+        if self.plan.is_due() || self.room == 0 {
             return Err(self.plan.fail());
         }
-        let fitted = self.sent.push(Datagram::of(to, octets)).is_ok();
+        let fitted = self
+            .events
+            .push(Event::Sent(Datagram::of(to, octets)))
+            .is_ok();
         prove!(fitted);
+        self.room -= 1;
         self.plan.succeed();
         Ok(())
     }

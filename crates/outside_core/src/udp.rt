@@ -99,9 +99,7 @@ pub struct UdpLink {
 }
 
 impl Link for UdpLink {
-    ghost received = { λ _. None };
-
-    ghost sent = { λ _. None };
+    ghost events = { λ _. None };
 
     ghost port = { link_port };
 

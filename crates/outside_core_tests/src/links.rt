@@ -1,13 +1,16 @@
 // Links, harbors and clocks in memory, as generic callers see them.
-ghost use Rattle.std.specs.Prelude.{◌≡◌, List, length, ◌++◌, option_map, Some, IfOk, IfSome, OnOk};
+ghost use Rattle.std.specs.Prelude.{◌≡◌, List, length, map, ◌++◌, option_map, Some, IfOk, IfSome, OnOk};
 ghost use Rattle.std.specs.List.{All};
 ghost use Rattle.outside_core.specs.declared.datagram.Datagram.{Datagram as Carried};
-ghost use Rattle.outside_core.specs.Datagram.{one_more_told, IsClient};
+ghost use Rattle.outside_core.specs.declared.event.Event.TheVariants.{Awaited, Found, Sent};
+ghost use Rattle.outside_core.specs.Datagram.{IsClient};
+ghost use Rattle.outside_core.specs.Event.{one_more_told};
 ghost use Rattle.outside_core.specs.MemoryLink.{IsFresh};
 ghost use Rattle.outside_core.specs.Returned.{unused, then_returned, TellsAtMost};
 
 use outside_core::{
-    Clock, Datagram, Failed, FixedClock, Harbor, Link, MemoryHarbor, MemoryLink, OutOfMemory, Peer,
+    Clock, Datagram, Event, Failed, FixedClock, Harbor, Link, MemoryHarbor, MemoryLink,
+    OutOfMemory, Peer,
 };
 use std::alloc::Global;
 use std::sync::Wait;
@@ -15,9 +18,8 @@ use std::test::Fail;
 
 // Sends back what it receives.
 fn echo<R: Wait, L: Link>(rt: &R, link: &mut L, into: &mut Datagram) -> Result<(), Failed>
-    ensures received { OnOk result (
-        L.received link.new ≡ one_more_told (L.received link.old) into.new) }
-    ensures sent { OnOk result (L.sent link.new ≡ one_more_told (L.sent link.old) into.new) }
+    ensures events { OnOk result (L.events link.new ≡ one_more_told
+        (one_more_told (L.events link.old) (Awaited into.new)) (Sent into.new)) }
     ensures port { L.port link.new ≡ L.port link.old }
     ensures unfailing { OnOk result (L.faults link.new ≡ L.faults link.old) }
 {
@@ -28,10 +30,10 @@ fn echo<R: Wait, L: Link>(rt: &R, link: &mut L, into: &mut Datagram) -> Result<(
 // Takes what clients sent and waits already, at most 16 datagrams, and gives their number. `into`
 // has the last of them.
 pub(crate) fn drain<L: Link>(link: &mut L, into: &mut Datagram) -> usize
-    ensures received { (came : List Carried) × (length came ≡ result)
+    ensures found { (came : List Carried) × (length came ≡ result)
         × All (λ (one : Carried). IsClient one.peer) came
-        × (L.received link.new ≡ option_map (λ before. before ++ came) (L.received link.old)) }
-    ensures sent { L.sent link.new ≡ L.sent link.old }
+        × (L.events link.new
+        ≡ option_map (λ before. before ++ map Found came) (L.events link.old)) }
     ensures port { L.port link.new ≡ L.port link.old }
     ensures upstream { L.upstream link.new ≡ L.upstream link.old }
     ensures faults { L.faults link.new ≡ L.faults link.old }
@@ -95,16 +97,6 @@ fn starves<R: Wait>(rt: &R, link: &mut MemoryLink) -> bool {
     link.receive(rt, &mut held) == Err(Failed) && is_this(&held, Peer::Client(1), b"before")
 }
 
-// Whether the link sent two datagrams to the upstream resolver, these in turn.
-fn has_sent(link: &MemoryLink, first: &[u8], second: &[u8]) -> bool {
-    match link.sent() {
-        [one, two] => {
-            is_this(one, Peer::Upstream, first) && is_this(two, Peer::Upstream, second)
-        }
-        _ => false,
-    }
-}
-
 // Receipts and sendings are counted together: the second and the third call fail.
 #[test]
 fn a_link_fails_where_it_is_told(rt: HostRuntime) -> Result<(), Fail> {
@@ -116,7 +108,7 @@ fn a_link_fails_where_it_is_told(rt: HostRuntime) -> Result<(), Fail> {
     Ok(())
 }
 
-// Nothing is left to come, and no room to send.
+// Nothing is left to come, and no room to send. Calls that fail are no events.
 #[test]
 fn a_link_fails_at_its_ends(rt: HostRuntime) -> Result<(), Fail> {
     let alloc = rt.alloc();
@@ -126,7 +118,13 @@ fn a_link_fails_at_its_ends(rt: HostRuntime) -> Result<(), Fail> {
         answers == [Ok(()), Ok(()), Err(Failed), Err(Failed)],
         "{answers:?}"
     );
-    assert!(rt; has_sent(&link, b"ask", b"answer"));
+    let wanted = [
+        Event::Awaited(Datagram::of(Peer::Client(7), b"question")),
+        Event::Sent(Datagram::of(Peer::Upstream, b"ask")),
+        Event::Awaited(Datagram::of(Peer::Upstream, b"answer")),
+        Event::Sent(Datagram::of(Peer::Upstream, b"answer")),
+    ];
+    assert!(rt; link.events() == wanted.as_slice(), "{:?}", link.events());
     Ok(())
 }
 
@@ -172,12 +170,12 @@ fn echoed<R: Wait>(
     Some((link, answer))
 }
 
-// The ports of the two links that came back, and how many datagrams each sent.
+// The ports of the two links that came back, and how much went over each.
 fn two_back(harbor: &MemoryHarbor) -> Option<[(u16, usize); 2]> {
     match harbor.came_back() {
         [first, second] => Some([
-            (first.0, first.1.sent().len()),
-            (second.0, second.1.sent().len()),
+            (first.0, first.1.events().len()),
+            (second.0, second.1.events().len()),
         ]),
         _ => None,
     }
@@ -198,7 +196,7 @@ fn a_harbor_binds_in_order_and_has_links_back_once(rt: HostRuntime) -> Result<()
     assert!(rt; (second_bind, last_bind) == (Err(Failed), Err(Failed)));
     harbor.part(5301, second);
     harbor.part(5300, first);
-    assert!(rt; two_back(&harbor) == Some([(5301, 1), (5300, 0)]));
+    assert!(rt; two_back(&harbor) == Some([(5301, 2), (5300, 1)]));
     Ok(())
 }
 

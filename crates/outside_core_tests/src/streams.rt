@@ -216,23 +216,39 @@ fn octets_are_written_whole_or_the_sink_fails(rt: HostRuntime) -> Result<(), Fai
     Ok(())
 }
 
-#[test]
-fn streams_are_read_and_written(rt: HostRuntime) -> Result<(), Fail> {
-    let alloc = rt.alloc();
-    assert!(rt;
-        gives(
-            alloc,
-            &mut StreamSource::over(b"a zone".as_slice()),
-            b"a zone"
-        )
-    );
-    assert!(rt; stop_of(alloc, &mut StreamSource::over(Broken)) == Some(Stop::Failed));
+// Reads octets as a stream that tells them.
+fn read_as_stream(alloc: Global, octets: &[u8]) -> Result<Vec<u8>, Stop>
+    ensures { IfOk result (λ input. input.items ≡ octets.now) }
+{
+    let mut source = StreamSource::telling(octets);
+    read_to_end(alloc, &mut source)
+}
 
+// Writes octets to a stream that tells them.
+fn written_as_stream(alloc: Global, octets: &[u8]) -> Result<Vec<u8>, Failed>
+    ensures { IfOk result (λ written. written.items ≡ octets.now) }
+{
+    let mut sink = StreamSink::telling(Vec::new(alloc));
+    write_whole(&mut sink, octets)?;
+    Ok(sink.into_inner())
+}
+
+// Whether both forms of a source give this, and both forms of a sink take it.
+fn passes(alloc: Global, text: &[u8]) -> bool {
     let mut written = Vec::new(alloc);
-    let whole = write_whole(&mut StreamSink::over(&mut written), b"a zone");
-    assert!(rt; whole == Ok(()) && written.as_slice() == b"a zone".as_slice());
+    gives(alloc, &mut StreamSource::over(text), text)
+        && read_as_stream(alloc, text).is_ok()
+        && write_whole(&mut StreamSink::over(&mut written), text) == Ok(())
+        && written.as_slice() == text
+        && written_as_stream(alloc, text).is_ok()
+}
+
+#[test]
+fn streams_are_read_and_written(rt: HostRuntime) {
+    let alloc = rt.alloc();
+    assert!(rt; passes(alloc, b"a zone"));
+    assert!(rt; stop_of(alloc, &mut StreamSource::over(Broken)) == Some(Stop::Failed));
     assert!(rt; write_whole(&mut StreamSink::over(Broken), b"a zone") == Err(Failed));
-    Ok(())
 }
 
 // A slice takes what it has room for, and then 0 octets, which is a failure.

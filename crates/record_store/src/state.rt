@@ -11,12 +11,13 @@ impl State for Store {
 
     type Fault = ();
 
-    const BATCHES: u32 = u32::MAX;
+    const BATCHES: u64 = 0x3fff_ffff_ffff_ffff;
 
     ghost use Rattle.std.specs.Prelude.{None};
+    ghost use Rattle.std.proofs.Common.{arith};
     ghost use Rattle.held_laws.specs.KeyOrder.{kept_after};
 
-    ghost BATCHES = { 4_294_967_295 };
+    ghost BATCHES = { 4_611_686_018_427_387_903 };
 
     ghost after = { kept_after };
 
@@ -28,4 +29,6 @@ impl State for Store {
             Err(_) => Err(StepFault::OutOfMemory),
         }
     }
+
+    ghost few = { Prim.omega arith };
 }

@@ -2,7 +2,7 @@
 #[derive(Clone, Copy, Debug, PartialEq, Eq)]
 pub enum Outcome {
     /// The version's records prove an answer: the buffer holds the reply.
-    Answered { version: u32 },
+    Answered { version: u64 },
     /// They prove none: the buffer is empty.
-    Forward { version: u32 },
+    Forward { version: u64 },
 }

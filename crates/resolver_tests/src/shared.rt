@@ -36,7 +36,7 @@ const NO_DATA: &[u8] =
     b"\x12\x34\x81\x80\x00\x01\x00\x00\x00\x01\x00\x00\x01A\x07Example\x00\x00\x10\x00\x01\x07example\x00\x00\x06\x00\x01\x00\x00\x01\x2c\x00\x16\x00\x00\x00\x00\x00\x01\x00\x00\x0e\x10\x00\x00\x02\x58\x00\x01\x51\x80\x00\x00\x01\x2c";
 
 // The number of a version, and how many records it holds.
-type Sight = (u32, usize);
+type Sight = (u64, usize);
 
 // The zone's SOA, and an NSEC record for each owner and next.
 fn batch(alloc: Global, arcs: &[(&[u8], &[u8])]) -> Result<Batch, Fail> {
@@ -67,8 +67,8 @@ fn own_batches<R: Wait>(
     requires { IsSeatOf cache.now seat }
 {
     let mut seat = seat;
-    cache.insert(rt, alloc, &mut seat, older)?;
-    cache.insert(rt, alloc, &mut seat, newer)?;
+    cache.insert(rt, alloc, &mut seat, &older)?;
+    cache.insert(rt, alloc, &mut seat, &newer)?;
     Ok(look(cache, &mut seat))
 }
 
@@ -94,7 +94,7 @@ fn place<R: Wait>(
     requires { IsSeatOf cache.now seat }
 {
     let mut seat = seat;
-    cache.insert(rt, alloc, &mut seat, batch)?;
+    cache.insert(rt, alloc, &mut seat, &batch)?;
     Ok(())
 }
 

@@ -9,7 +9,7 @@ use Rattle.replay_meaning.specs.Replay.{IsReplay, SpellsFrames}
 use Rattle.worker_seats.specs.Cuts.{Part, parts_of}
 use Rattle.worker_seats.specs.Merge.{AreMerged, AreWritten, AreWrittenInPart, CanBeMerged}
 use Rattle.worker_seats.proofs.MergeLemmas.{one_can}
-use Rattle.running.specs.Run.{IsCutShort, IsOfSelfrun, IsReplayed}
+use Rattle.running.specs.Run.{HasReplayed, IsCutShort, IsOfSelfrun, IsReplayed}
 use Rattle.running.specs.Status.{status_number}
 use Rattle.running.specs.declared.status.Status.{Status}
 use Rattle.running.specs.declared.status.Status.TheVariants.{Good, WriteFault, OutOfMemory}
@@ -53,6 +53,17 @@ pub cut_by : (workers : ℕ) (frames : List Input) (outputs : List (List ℕ)) (
 cut_by workers frames outputs octets input left rest before after is goes are w told end =
     told_whole (λ i. IsCutShort workers i before after) left rest input told end
     (cut_of workers frames outputs goes input before after (subst (λ o. SpellsFrames workers o frames) is are) w)
+
+-- where it is lent, whatever is told
+pub run_by : (workers : ℕ) (frames : List Input) (outputs : List (List ℕ)) (octets input : List ℕ) (left rest before after : Option (List ℕ)) → octets ≡ input
+    → ((octets output : List ℕ) → SpellsFrames workers octets frames → AreMerged outputs frames output → IsReplay workers octets output)
+    → SpellsFrames workers octets frames → AreWritten outputs frames before after → left ≡ prepend_told input rest → IfSome rest (λ r. r ≡ []) → HasReplayed workers left rest before after
+run_by workers frames outputs octets input left rest before after is goes are w told end = record {
+  input = input;
+  given = told;
+  end = end;
+  replayed = replayed_of workers frames outputs goes input before after (subst (λ o. SpellsFrames workers o frames) is are) w;
+}
 
 -- one worker's octets are the output
 pub made_by_one : (outputs : List Part) (frames : List Input) (octets : List ℕ) → length outputs ≡ 1 → CanBeMerged (parts_of outputs) frames

@@ -31,6 +31,13 @@ pub record IsCutShort (workers : ℕ) (input : List ℕ) (before after : Option 
   pub strict : size < length output
   pub written : after ≡ append_told before (take size output)
 
+-- what the source gave up to its end was an input, and the sink has got the whole output of a replay of it
+pub record HasReplayed (workers : ℕ) (left rest before after : Option (List ℕ)) : Type 0 where
+  pub input : List ℕ
+  pub given : left ≡ prepend_told input rest
+  pub end : IfSome rest (λ more. more ≡ [])
+  pub replayed : IsReplayed workers input before after
+
 -- the input isn't too long
 abbrev pub IsShort : List ℕ → Type 0
 IsShort input = length input ≤ MAX_INPUT

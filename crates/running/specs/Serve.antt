@@ -2,7 +2,7 @@
 use Rattle.std.specs.Prelude.{◌≡◌, ℕ, ◌⊎◌, List, Option}
 use Rattle.outside_core.specs.Returned.{Returned}
 use Rattle.server.specs.declared.service.Service.{Service}
-use Rattle.server.specs.Back.{OneFailed, OneUnbound}
+use Rattle.server.specs.Back.{NoneServed, OneFailed, OneUnbound, ServedInWant}
 use Rattle.running.specs.declared.status.Status.{Status}
 use Rattle.running.specs.declared.status.Status.TheVariants.{Good, HarborFault, OutOfMemory}
 
@@ -22,3 +22,7 @@ IsOfServe status = (status ≡ Good) ⊎ (status ≡ HarborFault) ⊎ (status �
 -- all links served and one failed, or one couldn't be bound and none served
 abbrev pub ServedInPart : Service → Option ℕ → List Returned → Type 0
 ServedInPart service moment links = OneFailed service moment links ⊎ OneUnbound service links
+
+-- memory was wanted while all links served, or before any did
+abbrev pub EndedInWant : Service → Option ℕ → List Returned → Type 0
+EndedInWant service moment links = ServedInWant service moment links ⊎ NoneServed service links

@@ -1,12 +1,12 @@
 ghost use Rattle.std.specs.Prelude.{◌≡◌, ◌⊎◌, ℕ, ◌+◌, ◌<◌, ◌≤◌, List, [], length, IfSome, Some};
 ghost use Rattle.outside_core.specs.Fault.{Rose};
 ghost use Rattle.command_line.specs.Words.{IsCommand, AreWordsOf};
-ghost use Rattle.running.specs.Run.{HasGiven, IsReadOn, IsReplayed, IsCutShort, IsTaken, IsNoFrames, IsOfReplay, IsOfSelfrun, IsRefused, IsStatusOf};
+ghost use Rattle.running.specs.Run.{HasGiven, HasReplayed, IsReadOn, IsReplayed, IsCutShort, IsTaken, IsNoFrames, IsOfReplay, IsOfSelfrun, IsRefused, IsStatusOf};
 ghost use Rattle.running.specs.declared.reading.TheConstants.{MAX_INPUT};
 ghost use Rattle.running.specs.Summary.{IsSummed, IsSummedInPart};
 ghost use Rattle.command_line.specs.declared.command.Command.TheVariants.{Replay, Selfrun, Serve};
 ghost use Rattle.server.specs.Back.{CameBack, AllServedWhole};
-ghost use Rattle.running.specs.Serve.{service_of, IsOfServe, ServedInPart};
+ghost use Rattle.running.specs.Serve.{service_of, EndedInWant, IsOfServe, ServedInPart};
 
 use crate::reading::{MAX_INPUT, ReadError, read_whole};
 use crate::replay::replay;
@@ -32,7 +32,9 @@ pub fn run<R: Threads + Wait + Sync, S: Source, K: Sink, G: Gate, H: Harbor, C: 
     harbor: &mut H,
     clock: &C,
 ) -> Status
-    // Want of memory may take the place of any status, as it may of any answer.
+    // Want of memory, status 6, may take the place of any status, as it may of any answer: a call
+    // for memory was refused, or a count of a list's entries or of a zone's sets would have passed
+    // 2^64 - 1. No size of an input, a frame, a message or a record is told so.
     ensures usage { result ≡ Status.Usage → IsCommand words.now → ⊥ }
     ensures no_command { (IsCommand words.now → ⊥)
         → (result ≡ Status.Usage) ⊎ (result ≡ Status.OutOfMemory) }
@@ -45,6 +47,13 @@ pub fn run<R: Threads + Wait + Sync, S: Source, K: Sink, G: Gate, H: Harbor, C: 
         → result ≡ Status.Good
         → IfSome (S.left source.old) (λ input.
         IsReplayed workers input (K.written sink.old) (K.written sink.new)) }
+
+    // So it is whatever the two tell: what was read in this call spells frames, and what was
+    // written in it fits them.
+    ensures replayed { (workers : ℕ) → AreWordsOf words.now (Replay workers)
+        → result ≡ Status.Good
+        → HasReplayed workers (S.left source.old) (S.left source.new)
+        (K.written sink.old) (K.written sink.new) }
     ensures end { (workers : ℕ) → AreWordsOf words.now (Replay workers)
         → result ≡ Status.Good
         → IfSome (S.left source.old) (λ _. S.left source.new ≡ Some []) }
@@ -98,7 +107,8 @@ pub fn run<R: Threads + Wait + Sync, S: Source, K: Sink, G: Gate, H: Harbor, C: 
         → (result ≡ Status.Good) ⊎ (result ≡ Status.OutOfMemory) }
 
     // Links that came back from `serve` had each received what the words say, and sent what that
-    // calls for, over one list of batches. It neither reads nor writes.
+    // calls for before they were waited for again, over one list of batches. After a fault or want
+    // of memory what went over a link is a part of that. It neither reads nor writes.
     ensures served { (listen upstream workers datagrams : ℕ)
         → AreWordsOf words.now (Serve listen upstream workers datagrams)
         → result ≡ Status.Good
@@ -110,6 +120,15 @@ pub fn run<R: Threads + Wait + Sync, S: Source, K: Sink, G: Gate, H: Harbor, C: 
         → result ≡ Status.HarborFault
         → CameBack (H.Harbor.came_back harbor.old) (H.Harbor.came_back harbor.new)
         (ServedInPart (service_of listen upstream workers datagrams)
+        (C.Clock.moment clock.now)) }
+
+    // No link was bound, or all came back.
+    ensures served_in_want { (listen upstream workers datagrams : ℕ)
+        → AreWordsOf words.now (Serve listen upstream workers datagrams)
+        → result ≡ Status.OutOfMemory
+        → (harbor.new ≡ harbor.old)
+        ⊎ CameBack (H.Harbor.came_back harbor.old) (H.Harbor.came_back harbor.new)
+        (EndedInWant (service_of listen upstream workers datagrams)
         (C.Clock.moment clock.now)) }
     ensures serve_ends { (listen upstream workers datagrams : ℕ)
         → AreWordsOf words.now (Serve listen upstream workers datagrams) → IsOfServe result }
@@ -183,6 +202,11 @@ fn run_serve<R: Threads + Wait + Sync, H: Harbor, C: Clock>(
         → CameBack (H.Harbor.came_back harbor.old) (H.Harbor.came_back harbor.new)
         (ServedInPart (service_of listen upstream workers datagrams)
         (C.Clock.moment clock.now)) }
+    ensures in_want { result ≡ Status.OutOfMemory
+        → (harbor.new ≡ harbor.old)
+        ⊎ CameBack (H.Harbor.came_back harbor.old) (H.Harbor.came_back harbor.new)
+        (EndedInWant (service_of listen upstream workers datagrams)
+        (C.Clock.moment clock.now)) }
     ensures fault { result ≡ Status.HarborFault
         → Rose (H.Harbor.faults harbor.old) (H.Harbor.faults harbor.new) }
     ensures no_fault { result ≡ Status.Good
@@ -245,6 +269,9 @@ fn run_replay<R: Threads + Wait + Sync, S: Source, K: Sink, G: Gate>(
     ensures good { result ≡ Status.Good
         → IfSome (S.left source.old) (λ input.
         IsReplayed workers input (K.written sink.old) (K.written sink.new)) }
+    ensures replayed { result ≡ Status.Good
+        → HasReplayed workers (S.left source.old) (S.left source.new)
+        (K.written sink.old) (K.written sink.new) }
     ensures end { result ≡ Status.Good
         → IfSome (S.left source.old) (λ _. S.left source.new ≡ Some []) }
     ensures no_fault { result ≡ Status.Good

@@ -1,11 +1,12 @@
 //! A run of the program `dnsreplay`: frames of queries and upstream answers in, frames of what becomes of them out; or datagrams
-//! on loopback. `run` carries the headline.
+//! on loopback. `run` carries the headline, and the program calls it by `run_here`.
 //!
 //! Read `specs/Run.antt`, `Serve` and `Status`, then `Summary` and `Made`, then `Words` of `command_line`, and then the specs of
 //! `replay_meaning` and `server`.
 #![tactic(auto)]
 
 mod commands;
+mod machine;
 mod reading;
 mod replay;
 mod selfrun;
@@ -13,4 +14,5 @@ mod status;
 mod summary;
 
 pub use commands::run;
+pub use machine::run_here;
 pub use status::Status;

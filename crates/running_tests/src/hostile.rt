@@ -195,7 +195,7 @@ fn the_largest_parts_are_read_and_no_larger(rt: HostRuntime) -> Result<(), Fail>
 }
 
 // The number of a version, and how many records it holds.
-type Sight = (u32, usize);
+type Sight = (u64, usize);
 
 fn look(cache: &SharedCache, seat: &mut CacheSeat) -> Sight
     requires { IsSeatOf cache.now seat.old }
@@ -220,7 +220,7 @@ fn look_after<R: Wait>(
     let Ok(taken) = batch_of(alloc, message, 1_000_000_000) else {
         return Ok(before);
     };
-    let placed = cache.insert(rt, alloc, seat, taken.batch).is_ok();
+    let placed = cache.insert(rt, alloc, seat, &taken.batch).is_ok();
     let sight = look(cache, seat);
     let wanted = if placed {
         (before.0.wrapping_add(1), 2)

@@ -10,6 +10,8 @@ mod hostile;
 #[cfg(test)]
 mod life;
 #[cfg(test)]
+mod machine;
+#[cfg(test)]
 mod message;
 #[cfg(test)]
 mod pairs;

@@ -9,30 +9,27 @@ use Rattle.std.proofs.lemmas.Slice.Zip.{all_zipped_more}
 use Rattle.std.proofs.lemmas.Option.{none-some, same_Some}
 use Rattle.outside_core.specs.Fault.{Rose}
 use Rattle.outside_core.specs.Returned.{Returned, TellsAtMost, returned_of, then_returned}
-use Rattle.outside_core.specs.declared.datagram.Datagram.{Datagram}
+use Rattle.outside_core.specs.declared.event.Event.{Event}
 use Rattle.server.specs.Back.{CameBack, Unfailed}
 use Rattle.server.specs.Sight.{Sight, AreBack, IsCounted, faults_of, returned}
 
 -- ---- one link
 
 -- the link came back as this
-pub record IsShown (port upstream : ℕ) (received sent : Option (List Datagram)) (faults : ℕ) (back : Returned) : Type 0 where
+pub record IsShown (port upstream : ℕ) (events : Option (List Event)) (faults : ℕ) (back : Returned) : Type 0 where
   pub port_is : back.port ≡ port
   pub upstream_is : back.upstream ≡ upstream
-  pub received_is : received ≡ Some back.received
-  pub sent_is : sent ≡ Some back.sent
+  pub events_are : events ≡ Some back.events
   pub faults_are : back.faults ≡ faults
 
-pub shown : (port upstream : ℕ) (received sent : Option (List Datagram)) (faults : ℕ) (back : Returned) → returned_of port upstream received sent faults ≡ Some back → IsShown port upstream received sent faults back
-shown port upstream None sent faults back is = absurd (none-some _ is)
-shown port upstream (Some came) None faults back is = absurd (none-some _ is)
-shown port upstream (Some came) (Some went) faults back is =
+pub shown : (port upstream : ℕ) (events : Option (List Event)) (faults : ℕ) (back : Returned) → returned_of port upstream events faults ≡ Some back → IsShown port upstream events faults back
+shown port upstream None faults back is = absurd (none-some _ is)
+shown port upstream (Some told) faults back is =
     let same = same_Some _ _ is in
     record {
       port_is = sym (ap (λ (b : Returned). b.port) same);
       upstream_is = sym (ap (λ (b : Returned). b.upstream) same);
-      received_is = ap (λ (b : Returned). Some b.received) same;
-      sent_is = ap (λ (b : Returned). Some b.sent) same;
+      events_are = ap (λ (b : Returned). Some b.events) same;
       faults_are = sym (ap (λ (b : Returned). b.faults) same);
     }
 
@@ -100,7 +97,7 @@ faults_back [] [] back = refl
 faults_back [] (b ∷ came) back = absurd back
 faults_back (l ∷ links) [] back = absurd back
 faults_back (l ∷ links) (b ∷ came) back =
-    let first = shown l.port l.upstream l.received l.sent l.faults b back.0 in
+    let first = shown l.port l.upstream l.events l.faults b back.0 in
     omega (arith, first.faults_are, faults_back links came back.1, sum_by-cons (λ (x : Returned). x.faults) b came, sum_by-cons (λ (x : Sight). x.faults) l links)
 
 pub all_unfailed : (came : List Returned) → sum_by (λ link. link.faults) came ≡ 0 → All Unfailed came

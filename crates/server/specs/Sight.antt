@@ -1,28 +1,26 @@
--- What shows of links, whether they tell their datagrams or not.
+-- What shows of links, whether they tell what went over them or not.
 use Rattle.std.specs.Prelude.{◌≡◌, ℕ, ◌+◌, ◌<◌, ◌≤◌, ◌⊎◌, List, length, slice_index_or, Option, Some}
 use Rattle.std.specs.List.{AllZip, sum_by}
-use Rattle.outside_core.specs.Datagram.{TellsNone}
+use Rattle.outside_core.specs.Event.{TellsNone}
 use Rattle.outside_core.specs.Fault.{Rose}
 use Rattle.outside_core.specs.Returned.{Returned, returned_of}
-use Rattle.outside_core.specs.declared.datagram.Datagram.{Datagram}
+use Rattle.outside_core.specs.declared.event.Event.{Event}
 
 pub record Sight : Type 0 where
   pub port : ℕ
   pub upstream : ℕ
-  pub received : Option (List Datagram)
-  pub sent : Option (List Datagram)
+  pub events : Option (List Event)
   pub faults : ℕ
 
--- what shows of it once it has come back, where it tells its datagrams
+-- what shows of it once it has come back, where it tells its events
 abbrev pub returned : Sight → Option Returned
-returned link = returned_of link.port link.upstream link.received link.sent link.faults
+returned link = returned_of link.port link.upstream link.events link.faults
 
--- bound at these ports, without a fault; where it tells its datagrams, there are none
+-- bound at these ports, without a fault; where it tells its events, there are none
 pub record IsNew (port upstream : ℕ) (link : Sight) : Type 0 where
   pub port_is : link.port ≡ port
   pub upstream_is : link.upstream ≡ upstream
-  pub received : TellsNone link.received
-  pub sent : TellsNone link.sent
+  pub events : TellsNone link.events
   pub unfailed : link.faults ≡ 0
 
 -- new links of the ports from this one on, in their order

@@ -1,5 +1,5 @@
 //! Links are bound before anything is served.
-ghost use Rattle.std.specs.Prelude.{◌≡◌, ◌+◌, ◌<◌, ◌≤◌, IfOk, MatchBool, length};
+ghost use Rattle.std.specs.Prelude.{◌≡◌, ◌+◌, ◌<◌, ◌≤◌, IfOk, MatchBool, OnErr, length};
 ghost use Rattle.outside_core.specs.Fault.{Rose};
 ghost use Rattle.server.specs.Sight.{AreNew};
 
@@ -16,7 +16,7 @@ pub(crate) struct Bound<L: Link> {
     pub(crate) all: bool,
 }
 
-/// Binds the links in order of port, up to the first that can't be bound.
+/// Binds the links in order of port, up to the first that can't be bound. The memory for them is taken before.
 pub(crate) fn bind_all<H: Harbor>(
     alloc: Global,
     service: &Service,
@@ -30,14 +30,14 @@ pub(crate) fn bind_all<H: Harbor>(
         × (H.Harbor.faults harbor.new ≡ H.Harbor.faults harbor.old))
         ((length bound.links.items < service.now.workers)
         × Rose (H.Harbor.faults harbor.old) (H.Harbor.faults harbor.new))) }
-    ensures came_back { IfOk result (λ bound.
-        H.Harbor.came_back harbor.new ≡ H.Harbor.came_back harbor.old) }
+    ensures came_back { H.Harbor.came_back harbor.new ≡ H.Harbor.came_back harbor.old }
+    ensures untouched { OnErr result (harbor.new ≡ harbor.old) }
 {
-    let mut links = Vec::new(alloc);
+    let mut links = Vec::with_capacity(alloc, usize::from(service.workers))?;
     for place in 0..service.workers {
         let port = service.listen + u16::from(place);
         match bind(harbor, port, service.upstream) {
-            Ok(link) => links.push(link)?,
+            Ok(link) => links.push_reserved(link),
             Err(_) => return Ok(Bound { links, all: false }),
         }
     }

@@ -1,23 +1,24 @@
-ghost use Rattle.std.specs.Prelude.{◌≡◌, ◌+◌, ◌≤◌, IfErr, IfOk, OnOk, length};
+ghost use Rattle.std.specs.Prelude.{◌≡◌, ◌+◌, ◌≤◌, IfErr, OnOk, Err, length};
 ghost use Rattle.server.specs.Back.{AllServedWhole, CameBack, EndsEarly};
 ghost use Rattle.server.specs.Sight.{AreNew};
 ghost use Rattle.server.specs.Watch.{HaveServed};
+ghost use Rattle.serving.specs.declared.serve_fault.ServeFault.TheVariants.{OutOfMemory};
 
 use crate::binding::{Bound, bind_all};
 use crate::moored::Moored;
 use crate::parting::part_all;
-use crate::watches::{AllEnded, keep_watches};
+use crate::watches::{AllEnded, keep_watches, room_for};
 use crate::{ServeError, Service};
-use dname::OutOfMemory;
 use outside_core::{Clock, Harbor, Link};
 use resolver::SharedCache;
+use serving::ServeFault;
 use std::alloc::Global;
 use std::sync::Wait;
 use std::thread::Threads;
 
 /// Binds the links of all workers in order of port, serves over them, each on a thread of its own and all over one new cache, and
 /// gives them back in order of port once all have ended. After a fault of one worker the others go on to their own end. Where a
-/// link can't be bound, those bound before are given back, and nothing is served. After want of memory links may be dropped.
+/// link can't be bound, those bound before are given back, and nothing is served. After want of memory all are given back too.
 pub fn serve<R: Threads + Wait + Sync, H: Harbor, C: Clock>(
     rt: &R,
     alloc: Global,
@@ -33,7 +34,7 @@ pub fn serve<R: Threads + Wait + Sync, H: Harbor, C: Clock>(
         (H.Harbor.came_back harbor.new)
         (AllServedWhole service.now (C.Clock.moment clock.now))) }
     ensures early { IfErr result (EndsEarly service.now (C.Clock.moment clock.now)
-        (H.Harbor.came_back harbor.old) (H.Harbor.came_back harbor.new)
+        harbor.old harbor.new (H.Harbor.came_back harbor.old) (H.Harbor.came_back harbor.new)
         (H.Harbor.faults harbor.old) (H.Harbor.faults harbor.new)) }
 {
     let Bound { links, all } = bind_all(alloc, service, harbor)?;
@@ -41,53 +42,58 @@ pub fn serve<R: Threads + Wait + Sync, H: Harbor, C: Clock>(
         part_all(harbor, links);
         return Err(ServeError::Harbor);
     }
-    let Served { links, failed } = serve_links(rt, alloc, service, links, clock)?;
+    let Served { links, ended } = serve_links(rt, alloc, service, links, clock);
     part_all(harbor, links);
-    if failed {
-        Err(ServeError::Harbor)
-    } else {
-        Ok(())
+    match ended {
+        Ok(()) => Ok(()),
+        Err(ServeFault::Link) => Err(ServeError::Harbor),
+        Err(ServeFault::OutOfMemory) => Err(ServeError::OutOfMemory),
     }
 }
 
-// The links after all workers have ended, and whether one has failed.
+// The links after all workers have ended, and how the worst of their work has ended.
 #[derive(Drop)]
 struct Served<L: Link> {
     links: Vec<Moored<L>>,
-    failed: bool,
+    ended: Result<(), ServeFault>,
 }
 
-// Serves over the links and one new cache.
+// Serves over the links and one new cache. All memory but that of the workers is taken before, so that no link is lost.
 fn serve_links<R: Threads + Wait + Sync, L: Link + Send + Drop, C: Clock>(
     rt: &R,
     alloc: Global,
     service: &Service,
     links: Vec<Moored<L>>,
     clock: &C,
-) -> Result<Served<L>, OutOfMemory>
+) -> Served<L>
     requires some { 1 ≤ service.now.workers }
     requires most { service.now.workers ≤ 32 }
     requires new { AreNew service.now.listen service.now.upstream links.items }
     requires all { length links.items ≡ service.now.workers }
-    ensures { IfOk result (λ served. HaveServed service.now (C.Clock.moment clock.now)
-        served.links.items served.failed) }
+    ensures { HaveServed service.now (C.Clock.moment clock.now) result.links.items result.ended }
 {
-    let (cache, seats) = SharedCache::with_seats(rt, alloc, service.workers)?;
+    let Ok((cache, seats)) = SharedCache::with_seats(rt, alloc, service.workers) else {
+        return unserved(links);
+    };
+    let Ok(room) = room_for(alloc, links.len()) else {
+        cache.give_up(rt);
+        return unserved(links);
+    };
     let datagrams = u32::from(service.datagrams);
-    match keep_watches(rt, alloc, &cache, seats, links, clock, datagrams) {
-        Ok(
-            AllEnded {
-                seats,
-                links,
-                failed,
-            },
-        ) => {
-            let _closed = cache.close(rt, seats);
-            Ok(Served { links, failed })
-        }
-        Err(fault) => {
-            cache.give_up(rt);
-            Err(fault)
-        }
-    }
+    let AllEnded {
+        seats,
+        links,
+        ended,
+    } = keep_watches(rt, alloc, &cache, seats, links, room, clock, datagrams);
+    let _closed = cache.close(rt, seats);
+    Served { links, ended }
+}
+
+// There was no memory to serve over the links.
+fn unserved<L: Link>(links: Vec<Moored<L>>) -> Served<L>
+    ensures links { result.links.items ≡ links.items }
+    ensures ended { result.ended ≡ Err OutOfMemory }
+{
+    let ended = Err(ServeFault::OutOfMemory);
+    Served { links, ended }
 }

@@ -30,8 +30,7 @@ impl<L: Link> Model for Moored<L> {
     ghost view = { λ m. record {
       port = L.Link.port m.link;
       upstream = L.Link.upstream m.link;
-      received = L.Link.received m.link;
-      sent = L.Link.sent m.link;
+      events = L.Link.events m.link;
       faults = L.Link.faults m.link;
     } };
 
@@ -55,7 +54,7 @@ impl<L: Link> Moored<L> {
         ensures upstream { self.new.upstream ≡ self.old.upstream }
         ensures faults { HasFaults self.old.faults self.new.faults result }
         ensures served { HasServed datagrams (C.Clock.moment clock.now) seat.old seat.new
-            self.old.received self.new.received self.old.sent self.new.sent result }
+            self.old.events self.new.events result }
     {
         serve_worker(rt, alloc, cache, seat, &mut self.link, clock, datagrams)
     }

@@ -1,51 +1,36 @@
 //! One worker's watch.
-ghost use Rattle.std.specs.Prelude.{IfOk};
 ghost use Rattle.resolver.specs.Caches.{IsSeatOf};
-ghost use Rattle.server.specs.Watch.{HasEnded};
+ghost use Rattle.server.specs.Watch.{HasKept};
 
 use crate::moored::Moored;
-use dname::OutOfMemory;
 use outside_core::{Clock, Link};
 use resolver::{CacheSeat, SharedCache};
 use serving::ServeFault;
-use std::alloc::{AllocError, Global};
+use std::alloc::Global;
 use std::sync::Wait;
 
-/// The seat and the link of a worker.
+/// The seat and the link of a worker, and how its work has ended.
 #[derive(Drop)]
 pub(crate) struct Watch<L: Link> {
     pub(crate) seat: CacheSeat,
     pub(crate) link: Moored<L>,
+    pub(crate) ended: Result<(), ServeFault>,
 }
 
-/// What a worker leaves, and whether its link has failed.
-#[derive(Drop)]
-pub(crate) struct Ended<L: Link> {
-    pub(crate) seat: CacheSeat,
-    pub(crate) link: Moored<L>,
-    pub(crate) failed: bool,
-}
-
-/// Serves over the seat and the link until so many datagrams have come, or the link fails.
-pub(crate) fn keep_watch<R: Wait, L: Link + Drop, C: Clock>(
+/// Serves over the seat and the link until so many datagrams have come, the link fails, or memory is wanted.
+pub(crate) fn keep_watch<R: Wait, L: Link, C: Clock>(
     rt: &R,
     alloc: Global,
     cache: &SharedCache,
-    watch: Watch<L>,
+    watch: &mut Watch<L>,
     clock: &C,
     datagrams: u32,
-) -> Result<Ended<L>, OutOfMemory>
-    requires { IsSeatOf cache.now watch.seat }
-    ensures { IfOk result (λ ended. HasEnded cache.now datagrams (C.Clock.moment clock.now)
-        watch.seat ended.seat watch.link ended.link ended.failed) }
+)
+    requires { IsSeatOf cache.now watch.old.seat }
+    ensures { HasKept cache.now datagrams (C.Clock.moment clock.now)
+        watch.old.seat watch.new.seat watch.old.link watch.new.link watch.new.ended }
 {
-    let Watch { seat, link } = watch;
-    let mut seat = seat;
-    let mut link = link;
-    let failed = match link.serve(rt, alloc, cache, &mut seat, clock, datagrams) {
-        Ok(()) => false,
-        Err(ServeFault::Link) => true,
-        Err(ServeFault::OutOfMemory) => return Err(AllocError),
-    };
-    Ok(Ended { seat, link, failed })
+    watch.ended = watch
+        .link
+        .serve(rt, alloc, cache, &mut watch.seat, clock, datagrams);
 }

@@ -4,6 +4,7 @@ ghost use Rattle.std.specs.List.{All};
 ghost use Rattle.outside_core.specs.MemoryLink.{IsFresh};
 
 use super::messages::{QUERY, THEN};
+use super::went::count_sent;
 use outside_core::{Datagram, FixedClock, MemoryHarbor, MemoryLink, OutOfMemory, Peer};
 use server::{ServeError, Service, serve};
 use std::alloc::Global;
@@ -43,7 +44,7 @@ fn two_links(
 fn sent_by_port(alloc: Global, harbor: &MemoryHarbor) -> Result<Vec<(u16, usize)>, OutOfMemory> {
     let mut came = Vec::new(alloc);
     for back in harbor.came_back() {
-        came.push((back.0, back.1.sent().len()))?;
+        came.push((back.0, count_sent(back.1.events())))?;
     }
     Ok(came)
 }

@@ -8,8 +8,12 @@ mod meeting;
 #[cfg(test)]
 mod messages;
 #[cfg(test)]
+mod moments;
+#[cfg(test)]
+mod moving;
+#[cfg(test)]
 mod row;
 #[cfg(test)]
-mod sent;
-#[cfg(test)]
 mod waiting;
+#[cfg(test)]
+mod went;

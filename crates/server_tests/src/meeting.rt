@@ -4,8 +4,8 @@ ghost use Rattle.std.specs.List.{All};
 ghost use Rattle.outside_core.specs.MemoryLink.{IsFresh};
 
 use super::messages::{ANSWER, ASKED, DENIED, NEXT_QUERY, QUERY, RELAYED, THEN};
-use super::sent::{Wrong, sent_otherwise};
 use super::waiting::{Flags, WaitingHarbor, Waits};
+use super::went::{Went, Wrong, went_otherwise};
 use outside_core::{Datagram, FixedClock, MemoryHarbor, MemoryLink, OutOfMemory, Peer};
 use server::{ServeError, Service, serve};
 use std::alloc::Global;
@@ -65,17 +65,27 @@ fn served<R: Threads + Wait + Sync>(
     serve(rt, alloc, &service, harbor, &FixedClock { now: THEN })
 }
 
-// The first link that hasn't sent what is wanted, the place where, and what was sent there; or how many links came back.
+// The first link over which not what is wanted went, the place where, and what went there; or how many links came back.
 fn links_otherwise(harbor: &MemoryHarbor) -> Option<(usize, Option<Wrong>)> {
     let [(_, first), (_, second)] = harbor.came_back() else {
         return Some((harbor.came_back().len(), None));
     };
-    let wanted = [(Peer::Upstream, ASKED), (CLIENT, RELAYED)];
-    if let Some(wrong) = sent_otherwise(first.sent(), &wanted) {
+    let wanted = [
+        Went::From(CLIENT, QUERY),
+        Went::To(Peer::Upstream, ASKED),
+        Went::From(Peer::Upstream, ANSWER),
+        Went::To(CLIENT, RELAYED),
+    ];
+    if let Some(wrong) = went_otherwise(first.events(), &wanted) {
         return Some((0, Some(wrong)));
     }
-    let wanted = [(OTHER, DENIED), (OTHER, DENIED)];
-    match sent_otherwise(second.sent(), &wanted) {
+    let wanted = [
+        Went::From(OTHER, NEXT_QUERY),
+        Went::To(OTHER, DENIED),
+        Went::From(OTHER, NEXT_QUERY),
+        Went::To(OTHER, DENIED),
+    ];
+    match went_otherwise(second.events(), &wanted) {
         Some(wrong) => Some((1, Some(wrong))),
         None => None,
     }

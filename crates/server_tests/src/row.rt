@@ -1,10 +1,11 @@
-//! One worker over a harbor in memory. What it sends is what the RFCs say of the answers of another program.
+//! One worker over a harbor in memory. What it sends is what the RFCs say of the answers of another program, and it sends it before
+//! it waits again.
 ghost use Rattle.std.specs.Prelude.{IfOk};
 ghost use Rattle.std.specs.List.{All};
 ghost use Rattle.outside_core.specs.MemoryLink.{IsFresh};
 
 use super::messages::{ANSWER, ASKED, DENIED, NEXT_QUERY, QUERY, RELAYED, THEN};
-use super::sent::sent_otherwise;
+use super::went::{Went, went_otherwise};
 use outside_core::{Datagram, FixedClock, MemoryHarbor, MemoryLink, OutOfMemory, Peer};
 use server::{Service, serve};
 use std::alloc::Global;
@@ -46,8 +47,15 @@ fn an_answer_is_stored_and_relayed(rt: HostRuntime) -> Result<(), Fail> {
     let [(port, link)] = harbor.came_back() else {
         return Err("not one link")?;
     };
-    let wanted = [(Peer::Upstream, ASKED), (CLIENT, RELAYED), (OTHER, DENIED)];
-    let wrong = sent_otherwise(link.sent(), &wanted);
+    let wanted = [
+        Went::From(CLIENT, QUERY),
+        Went::To(Peer::Upstream, ASKED),
+        Went::From(Peer::Upstream, ANSWER),
+        Went::To(CLIENT, RELAYED),
+        Went::From(OTHER, NEXT_QUERY),
+        Went::To(OTHER, DENIED),
+    ];
+    let wrong = went_otherwise(link.events(), &wanted);
     assert!(rt; wrong.is_none(), "{wrong:?}");
     assert!(rt; ended == Ok(()) && *port == 5300, "{ended:?} {port}");
     Ok(())

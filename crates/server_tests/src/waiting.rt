@@ -81,9 +81,7 @@ pub struct WaitingLink<'a> {
 }
 
 impl Link for WaitingLink<'_> {
-    ghost received = { λ l. Some l.inner.received };
-
-    ghost sent = { λ l. Some l.inner.sent };
+    ghost events = { λ l. Some l.inner.events };
 
     ghost port = { λ l. l.inner.port };
 

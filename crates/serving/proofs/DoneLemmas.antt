@@ -1,5 +1,5 @@
 -- What one datagram does, case by case.
-use Rattle.std.proofs.Common.{◌≡◌, ℕ, ◌+◌, ◌*◌, ◌%◌, ◌⊎◌, inl, inr, List, [], Option, None, Some, sym, ◌∙◌, ap}
+use Rattle.std.proofs.Common.{◌≡◌, ℕ, ◌+◌, ◌*◌, ◌%◌, ◌⊎◌, inl, inr, List, [], Option, None, Some, ◌∙◌, ap}
 use Rattle.dnswire.specs.declared.message.Message.{Message}
 use Rattle.dnswire.specs.declared.wire_fault.WireFault.{WireFault}
 use Rattle.dnswire.specs.declared.wire_fault.WireFault.TheVariants as wire_faults
@@ -12,25 +12,11 @@ use Rattle.reply_core.specs.Ask.{ask_octets}
 use Rattle.reply_core.specs.Error.{plain_octets}
 use Rattle.reply_core.specs.Relay.{relay_octets}
 use Rattle.reply_core.specs.declared.rcode.TheConstants.{SERVER_FAILURE}
-use Rattle.resolver.specs.Pending.{Entry, Slot, entry_of, least_free, relayed_of, sent_from, table_at, turn_at, with_entry, without_entry}
+use Rattle.resolver.specs.Pending.{Entry, Slot, entry_of, relayed_of, sent_from, turn_at, with_entry, without_entry}
 use Rattle.resolver.specs.declared.action.Action.TheVariants.{Send, ServFail, Relay, Ignored}
 use Rattle.serving.specs.declared.deed.Deed.TheVariants as deeds
 use Rattle.serving.specs.declared.why.Why.TheVariants as whys
-use Rattle.serving.specs.Done.{Done, IsDoneOf, asked, batch_in, done_as, queried, replied}
-
--- ---- a query
-
-pub answered_done : (table : List Slot) (now version client count : ℕ) (question : Question) (found : Option (List ℕ)) (octets : List ℕ)
-    → version ≡ count → found ≡ Some octets
-    → done_as (deeds.ToClient client (whys.Answered version)) octets table None ≡ queried table now count client question found
-answered_done table now version client count question found octets version_is found_is =
-    ap (λ (v : ℕ). replied table client (whys.Answered v) octets) version_is ∙ sym (ap (queried table now count client question) found_is)
-
-pub forwarded_done : (table : List Slot) (now client count : ℕ) (question : Question) (found : Option (List ℕ)) (done : Done)
-    → found ≡ None → done ≡ asked (table_at now table) now client question (least_free (table_at now table))
-    → done ≡ queried table now count client question found
-forwarded_done table now client count question found done found_is is =
-    is ∙ sym (ap (queried table now count client question) found_is)
+use Rattle.serving.specs.Done.{IsDoneOf, asked, batch_in, done_as}
 
 -- ---- what goes upstream
 

@@ -1,6 +1,7 @@
 -- The shifts of all workers are those of links that serve.
 use Rattle.std.proofs.Common.{◌≡◌, ℕ, zero, suc, ◌+◌, ◌-◌, ◌*◌, ◌<◌, ◌≤◌, ◌^◌, ◌⊎◌, inl, inr, Bool, true, false, not, ◌==◌, cond, List, [], ◌∷◌, ◌++◌, length, map, is_none, Option, None, Some, refl, sym, ◌∙◌, ap, subst, arith, length-append, zero-add}
 use Rattle.std.specs.List.{All, AllZip, flat_map, sum_by}
+use Rattle.std.proofs.lemmas.Grind.{flat_map-append}
 use Rattle.std.proofs.Math.Nat.{suc-mul}
 use Rattle.std.proofs.lemmas.Bool.Decides.{nat_tests}
 use Rattle.std.specs.Prelude.{Result, Ok, Err}
@@ -16,15 +17,20 @@ use Rattle.cache_versions.specs.declared.seat.Seat.{Seat}
 use Rattle.cache_versions.specs.Seats.{places_by, seen_by}
 use Rattle.cache_versions.specs.Hands.{AreAllBelow, times}
 use Rattle.resolver.specs.Pending.{Slot, empty_table}
+use Rattle.outside_core.specs.Event.{received_by, received_in}
 use Rattle.outside_core.specs.Returned.{Returned}
 use Rattle.outside_core.specs.Fault.{Rose}
 use Rattle.outside_core.specs.declared.datagram.Datagram.{Datagram}
+use Rattle.outside_core.specs.declared.event.Event.{Event}
+use Rattle.outside_core.specs.declared.event.Event.TheVariants.{Awaited}
 use Rattle.serving.specs.declared.serve_fault.ServeFault.{ServeFault}
 use Rattle.serving.specs.declared.serve_fault.ServeFault.TheVariants.{Link, OutOfMemory}
 use Rattle.serving.specs.Worker.{Ends, HasFaults, HasServed}
 use Rattle.serving.specs.Serves.{LAST}
-use Rattle.serving.specs.Turn.{Turn, AreTurns, AreTurnsOf, IsKeptAt, places_of, sent_of}
-use Rattle.serving.specs.Links.{HasSent, IsServed, IsShift, LinksServe, Shift}
+use Rattle.serving.specs.Turn.{Turn, AreTurns, AreTurnsOf, IsKeptAt, places_of}
+use Rattle.serving.specs.Rounds.{Round, events_of, places_in, turns_in}
+use Rattle.serving.specs.Links.{HasEnded, HasSent, IsServed, IsShift, LinksServe, Shift}
+use Rattle.serving.proofs.EventLemmas.{datagram_in, received_awaited, received_rounds}
 use Rattle.serving.proofs.TurnLemmas.{turns_more}
 
 -- ---- numbers that are each once in a list
@@ -95,27 +101,25 @@ turns_all (turn ∷ later) many =
 
 -- ---- a batch that was not placed
 
-module _ (datagrams now : ℕ) (journal : List Batch) where
+module _ (wanting : Bool) (datagrams : ℕ) (moment : Option ℕ) (journal : List Batch) where
   abbrev placed_of : Shift → List ℕ
   placed_of shift = shift.placed
 
-  abbrev count_of : Returned → ℕ
-  count_of link = length link.received
+  abbrev count_of : Shift → ℕ
+  count_of shift = length (turns_in shift.rounds)
 
-  one_few : (link : Returned) (shift : Shift) → IsShift datagrams now journal link shift → length shift.placed ≤ length link.received
-  one_few link shift is =
-      omega (arith, ap length is.are.places, ap length is.received, length-map shift.turns (λ (t : Turn). t.datagram), turns_few shift.turns)
+  one_few : (link : Returned) (shift : Shift) → IsShift wanting datagrams moment journal link shift → length shift.placed ≤ length (turns_in shift.rounds)
+  one_few link shift is = omega (arith, ap length is.are.places, turns_few (turns_in shift.rounds))
 
-  one_all : (link : Returned) (shift : Shift) → IsShift datagrams now journal link shift → length link.received ≤ length shift.placed → All IsPlacing shift.turns
-  one_all link shift is many =
-      turns_all shift.turns (omega (arith, many, ap length is.are.places, ap length is.received, length-map shift.turns (λ (t : Turn). t.datagram)))
+  one_all : (link : Returned) (shift : Shift) → IsShift wanting datagrams moment journal link shift → length (turns_in shift.rounds) ≤ length shift.placed → All IsPlacing (turns_in shift.rounds)
+  one_all link shift is many = turns_all (turns_in shift.rounds) (omega (arith, many, ap length is.are.places))
 
-  shifts_few : (links : List Returned) (shifts : List Shift) → AllZip (IsShift datagrams now journal) links shifts → length (flat_map placed_of shifts) ≤ sum_by count_of links
+  shifts_few : (links : List Returned) (shifts : List Shift) → AllZip (IsShift wanting datagrams moment journal) links shifts → length (flat_map placed_of shifts) ≤ sum_by count_of shifts
   shifts_few [] [] all = omega arith
   shifts_few [] (shift ∷ shifts) all = absurd all
   shifts_few (link ∷ links) [] all = absurd all
   shifts_few (link ∷ links) (shift ∷ shifts) all =
-      omega (arith, length-append shift.placed (flat_map placed_of shifts), sum_by-cons count_of link links, one_few link shift all.0, shifts_few links shifts all.1)
+      omega (arith, length-append shift.placed (flat_map placed_of shifts), sum_by-cons count_of shift shifts, one_few link shift all.0, shifts_few links shifts all.1)
 
   -- a shift with what the law says of it, where a journal as long as can be has room for no turn that places nothing
   kept_all : (batch : Option Batch) (version : ℕ) (placed : Bool) → version ≤ length journal → (LAST ≤ length journal → placed ≡ true) → IsKeptAt journal version batch placed → placed ≡ not (is_none batch)
@@ -130,52 +134,51 @@ module _ (datagrams now : ℕ) (journal : List Batch) where
       (kept_all turn.done.batch turn.version turn.placed are.0.within (λ full. All-head IsPlacing turn later (free full)) are.0.kept)
       (turns_kept turn.done.table later (λ full. All-tail IsPlacing turn later (free full)) are.1)
 
-  served : (link : Returned) (shift : Shift) → (LAST ≤ length journal → All IsPlacing shift.turns) → IsShift datagrams now journal link shift → IsServed datagrams now journal link shift.turns
+  served : (link : Returned) (shift : Shift) → (LAST ≤ length journal → All IsPlacing (turns_in shift.rounds)) → IsShift wanting datagrams moment journal link shift → IsServed wanting datagrams moment journal link shift.rounds
   served link shift free is =
-      let each = turns_more shift.seen journal empty_table shift.turns is.begins is.are.each in
+      let each = turns_more shift.seen journal empty_table (turns_in shift.rounds) is.begins is.are.each in
       record {
-        received = is.received;
-        sent = is.sent;
+        ended = is.ended;
         moments = is.moments;
         each = each;
         order = is.are.order;
-        all = turns_kept empty_table shift.turns free each;
+        all = turns_kept empty_table (turns_in shift.rounds) free each;
       }
 
-  turns_in : List Shift → List (List Turn)
-  turns_in shifts = map (λ shift. shift.turns) shifts
+  rounds_of : List Shift → List (List Round)
+  rounds_of shifts = map (λ shift. shift.rounds) shifts
 
-  all_served : (links : List Returned) (shifts : List Shift) → (LAST ≤ length journal → sum_by count_of links ≤ length (flat_map placed_of shifts)) → AllZip (IsShift datagrams now journal) links shifts → AllZip (IsServed datagrams now journal) links (turns_in shifts)
-  unfolding turns_in
+  all_served : (links : List Returned) (shifts : List Shift) → (LAST ≤ length journal → sum_by count_of shifts ≤ length (flat_map placed_of shifts)) → AllZip (IsShift wanting datagrams moment journal) links shifts → AllZip (IsServed wanting datagrams moment journal) links (rounds_of shifts)
+  unfolding rounds_of
   all_served [] [] free all = tt
   all_served [] (shift ∷ shifts) free all = absurd all
   all_served (link ∷ links) [] free all = absurd all
   all_served (link ∷ links) (shift ∷ shifts) free all =
       let split = length-append shift.placed (flat_map placed_of shifts) in
-      let total = sum_by-cons count_of link links in (
+      let total = sum_by-cons count_of shift shifts in (
         served link shift (λ full. let many = free full in one_all link shift all.0 (omega (arith, many, split, total, shifts_few links shifts all.1))) all.0,
         all_served links shifts (λ full. let many = free full in omega (arith, many, split, total, one_few link shift all.0)) all.1,
       )
 
-  places_same : (links : List Returned) (shifts : List Shift) → AllZip (IsShift datagrams now journal) links shifts → flat_map placed_of shifts ≡ flat_map (flat_map places_of) (turns_in shifts)
-  unfolding turns_in
+  places_same : (links : List Returned) (shifts : List Shift) → AllZip (IsShift wanting datagrams moment journal) links shifts → flat_map placed_of shifts ≡ flat_map places_in (rounds_of shifts)
+  unfolding rounds_of
   places_same [] [] all = refl
   places_same [] (shift ∷ shifts) all = absurd all
   places_same (link ∷ links) [] all = absurd all
   places_same (link ∷ links) (shift ∷ shifts) all = (λ i. all.0.are.places i ++ places_same links shifts all.1 i)
 
-  links_few : (links : List Returned) (shifts : List Shift) → AllZip (IsShift datagrams now journal) links shifts → sum_by count_of links ≤ length links * datagrams
+  links_few : (links : List Returned) (shifts : List Shift) → AllZip (IsShift wanting datagrams moment journal) links shifts → sum_by count_of shifts ≤ length links * datagrams
   links_few [] [] all = omega arith
   links_few [] (shift ∷ shifts) all = absurd all
   links_few (link ∷ links) [] all = absurd all
   links_few (link ∷ links) (shift ∷ shifts) all =
-      omega (arith, sum_by-cons count_of link links, suc-mul (length links) datagrams, all.0.sent.few, links_few links shifts all.1)
+      omega (arith, sum_by-cons count_of shift shifts, suc-mul (length links) datagrams, all.0.few, links_few links shifts all.1)
 
-  pub links_serve : (links : List Returned) (shifts : List Shift) → length links * datagrams < 2 ^ 32 → AllZip (IsShift datagrams now journal) links shifts → AreAllBelow (length journal) (flat_map placed_of shifts) → LinksServe datagrams now journal links
+  pub links_serve : (links : List Returned) (shifts : List Shift) → length links * datagrams < 2 ^ 32 → AllZip (IsShift wanting datagrams moment journal) links shifts → AreAllBelow (length journal) (flat_map placed_of shifts) → LinksServe wanting datagrams moment journal links
   links_serve links shifts few all once =
       let many : length journal ≤ length (flat_map placed_of shifts) = at_least (length journal) (flat_map placed_of shifts) (λ place within. let one = (once place).0 within in omega (arith, one)) in
       record {
-        turns = turns_in shifts;
+        rounds = rounds_of shifts;
         each = all_served links shifts (λ full. omega (arith, full, many, few, links_few links shifts all)) all;
         once = subst (AreAllBelow (length journal)) (places_same links shifts all) once;
       }
@@ -186,53 +189,90 @@ pub rose_above : (faults : ℕ) → Rose 0 faults → 1 ≤ faults
 rose_above faults (inl more) = more
 rose_above faults (inr full) = absurd (omega (arith, full.0))
 
--- the link has sent what its turns say, as its count of faults tells
-sent_as : (datagrams : ℕ) (link : Returned) (turns : List Turn) (lost went : List Datagram) (result : Result (Unit {0}) ServeFault)
-    → (result ≡ Err OutOfMemory → ⊥) → HasFaults 0 link.faults result → link.received ≡ map (λ turn. turn.datagram) turns ++ lost → link.sent ≡ went → Ends datagrams turns lost went result
-    → (link.received ≡ map (λ turn. turn.datagram) turns) × HasSent datagrams link turns
-sent_as datagrams link turns lost went (Ok done) other faults received sent ends =
-    let same = received ∙ ap (λ l. map (λ turn. turn.datagram) turns ++ l) ends.1 ∙ append-nil (map (λ (t : Turn). t.datagram) turns) in (
-      same,
-      record {
-        few = omega (arith, ap length same, length-map turns (λ (t : Turn). t.datagram), ends.0);
-        whole = λ none. (ap length same ∙ length-map turns (λ (t : Turn). t.datagram) ∙ ends.0, sent ∙ ends.2);
-        part = λ some. absurd (omega (arith, faults, some));
-      },
-    )
-sent_as datagrams link turns lost went (Err Link) other faults received sent ends =
-    let same = received ∙ ap (λ l. map (λ turn. turn.datagram) turns ++ l) ends.1 ∙ append-nil (map (λ (t : Turn). t.datagram) turns) in
-    let count = ap length same ∙ length-map turns (λ (t : Turn). t.datagram) in (
-      same,
-      record {
-        few = omega (arith, count, ends.0);
-        whole = λ none. absurd (let some = rose_above link.faults faults in omega (arith, none, some));
-        part = λ some. (
-          subst (λ l. IsPrefix l (sent_of turns)) (sym sent) ends.2,
-          fewer_or_shorter count ends.3,
-        );
-      },
-    )
+-- what went over the link are the datagrams of the turns, and the one that has none
+pub received_all : (datagrams : ℕ) (rounds : List Round) (lost : List Datagram) (went : List Event) (result : Result (Unit {0}) ServeFault)
+    → Ends datagrams rounds lost went result → received_in went ≡ map datagram_in (turns_in rounds) ++ lost
+received_all datagrams rounds lost went (Ok done) ends =
+    ap received_in ends.2 ∙ received_rounds rounds ∙ sym (ap (λ l. map datagram_in (turns_in rounds) ++ l) ends.1 ∙ append-nil (map datagram_in (turns_in rounds)))
+received_all datagrams rounds lost went (Err Link) ends =
+    ends.3 ∙ sym (ap (λ l. map datagram_in (turns_in rounds) ++ l) ends.1 ∙ append-nil (map datagram_in (turns_in rounds)))
+received_all datagrams rounds lost went (Err OutOfMemory) ends =
+    ap received_in ends.2 ∙ flat_map-append received_by (events_of rounds) (map Awaited lost) ∙ (λ i. received_rounds rounds i ++ received_awaited lost i)
+
+-- how many these are
+pub many_received : (datagrams : ℕ) (rounds : List Round) (lost : List Datagram) (went : List Event) (result : Result (Unit {0}) ServeFault)
+    → Ends datagrams rounds lost went result → length (received_in went) ≡ length (turns_in rounds) + length lost
+many_received datagrams rounds lost went result ends =
+    let all = ap length (received_all datagrams rounds lost went result ends) in
+    omega (arith, all, length-append (map datagram_in (turns_in rounds)) lost, length-map (turns_in rounds) datagram_in)
+
+-- what went over the link is what the rounds say, as its count of faults tells
+sent_as : (datagrams : ℕ) (link : Returned) (rounds : List Round) (lost : List Datagram) (result : Result (Unit {0}) ServeFault)
+    → (result ≡ Err OutOfMemory → ⊥) → HasFaults 0 link.faults result → Ends datagrams rounds lost link.events result
+    → HasSent datagrams link rounds
+sent_as datagrams link rounds lost (Ok done) other faults ends =
+    let same = ap received_in ends.2 ∙ received_rounds rounds in
+    let count = ap length same ∙ length-map (turns_in rounds) datagram_in in
+    record {
+      received = same;
+      few = omega (arith, count, ends.0);
+      whole = λ none. (count ∙ ends.0, ends.2);
+      part = λ some. absurd (omega (arith, faults, some));
+    }
+sent_as datagrams link rounds lost (Err Link) other faults ends =
+    let count = ap length ends.3 ∙ length-map (turns_in rounds) datagram_in in
+    record {
+      received = ends.3;
+      few = omega (arith, count, ends.0);
+      whole = λ none. absurd (let some = rose_above link.faults faults in omega (arith, none, some));
+      part = λ some. (ends.2, fewer_or_shorter count ends.4);
+    }
   where
-    fewer_or_shorter : length link.received ≡ length turns → (length turns < datagrams) ⊎ (length went < length (sent_of turns)) → (length link.received < datagrams) ⊎ (length link.sent < length (sent_of turns))
+    fewer_or_shorter : length (received_in link.events) ≡ length (turns_in rounds) → (length (turns_in rounds) < datagrams) ⊎ (length link.events < length (events_of rounds))
+        → (length (received_in link.events) < datagrams) ⊎ (length link.events < length (events_of rounds))
     fewer_or_shorter count (inl fewer) = inl (omega (arith, count, fewer))
-    fewer_or_shorter count (inr shorter) = inr (omega (arith, ap length sent, shorter))
-sent_as datagrams link turns lost went (Err OutOfMemory) other faults received sent ends = absurd (other refl)
+    fewer_or_shorter count (inr shorter) = inr shorter
+sent_as datagrams link rounds lost (Err OutOfMemory) other faults ends = absurd (other refl)
+
+ok_wants_none : (result : Result (Unit {0}) ServeFault) (done : Unit {0}) → result ≡ Ok done → result ≡ Err OutOfMemory → ⊥
+ok_wants_none result done is wanted = cc
+
+link_wants_none : (result : Result (Unit {0}) ServeFault) → result ≡ Err Link → result ≡ Err OutOfMemory → ⊥
+link_wants_none result is wanted = cc
+
+ended_as : (wanting : Bool) (datagrams : ℕ) (link : Returned) (rounds : List Round) (lost : List Datagram) (result : Result (Unit {0}) ServeFault)
+    → (wanting ≡ false → result ≡ Err OutOfMemory → ⊥) → HasFaults 0 link.faults result → Ends datagrams rounds lost link.events result
+    → HasEnded wanting datagrams link rounds
+ended_as false datagrams link rounds lost result other faults ends = sent_as datagrams link rounds lost result (other refl) faults ends
+ended_as true datagrams link rounds lost (Ok done) other faults ends = inl (sent_as datagrams link rounds lost (Ok done) (ok_wants_none (Ok done) done refl) faults ends)
+ended_as true datagrams link rounds lost (Err Link) other faults ends = inl (sent_as datagrams link rounds lost (Err Link) (link_wants_none (Err Link) refl) faults ends)
+ended_as true datagrams link rounds lost (Err OutOfMemory) other faults ends = inr (record {
+  lost = lost;
+  one = ends.1;
+  events = ends.2;
+  few = omega (arith, many_received datagrams rounds lost link.events (Err OutOfMemory) ends, ends.0);
+  unfailed = faults;
+})
+
+turns_at_most : (datagrams : ℕ) (rounds : List Round) (lost : List Datagram) (went : List Event) (result : Result (Unit {0}) ServeFault) → Ends datagrams rounds lost went result → length (turns_in rounds) ≤ datagrams
+turns_at_most datagrams rounds lost went (Ok done) ends = omega (arith, ends.0)
+turns_at_most datagrams rounds lost went (Err Link) ends = ends.0
+turns_at_most datagrams rounds lost went (Err OutOfMemory) ends = omega (arith, ends.0)
 
 module _ {g : Ghosts Held Batch (Unit {0})} where
-  -- What a worker did over a fresh seat and a new link, unless it wanted memory, is a shift of the cache that is closed later
-  pub shift_of : (datagrams now : ℕ) (journal : List Batch) (before after : Seat Held Batch (Unit {0}) g) (link : Returned) (result : Result (Unit {0}) ServeFault)
-      → (result ≡ Err OutOfMemory → ⊥) → seen_by before ≡ [] → places_by before ≡ [] → IsPrefix (seen_by after) journal → HasFaults 0 link.faults result
-      → (served : HasServed datagrams (Some now) before after (Some []) (Some link.received) (Some []) (Some link.sent) result)
-      → IsShift datagrams now journal link (record { seen = seen_by after; placed = places_by after; turns = served.turns })
-  shift_of datagrams now journal before after link result other seen placed begins faults served =
-      let received : link.received ≡ map (λ turn. turn.datagram) served.turns ++ served.lost = same_Some _ _ served.received_are in
-      let sent : link.sent ≡ served.went = same_Some _ _ served.sent_are in
-      let both = sent_as datagrams link served.turns served.lost served.went result other faults received sent served.ends in
+  -- What a worker did over a fresh seat and a new link is a shift of the cache that is closed later
+  pub shift_of : (wanting : Bool) (datagrams : ℕ) (moment : Option ℕ) (journal : List Batch) (before after : Seat Held Batch (Unit {0}) g) (link : Returned) (result : Result (Unit {0}) ServeFault)
+      → (wanting ≡ false → result ≡ Err OutOfMemory → ⊥) → seen_by before ≡ [] → places_by before ≡ [] → IsPrefix (seen_by after) journal → HasFaults 0 link.faults result
+      → (served : HasServed datagrams moment before after (Some []) (Some link.events) result)
+      → IsShift wanting datagrams moment journal link (record { seen = seen_by after; placed = places_by after; rounds = served.rounds })
+  shift_of wanting datagrams moment journal before after link result other seen placed begins faults served =
+      let went : link.events ≡ served.went = same_Some _ _ served.events_are in
+      let ends = subst (λ l. Ends datagrams served.rounds served.lost l result) (sym went) served.ends in
       let places : places_by after ≡ served.placed = served.places ∙ ap (λ l. l ++ served.placed) placed in
       record {
         begins = begins;
-        are = subst (λ p. AreTurnsOf 0 (seen_by after) p served.turns) (sym places) (subst (λ n. AreTurnsOf n (seen_by after) served.placed served.turns) (ap length seen) served.are);
+        are = subst (λ p. AreTurnsOf 0 (seen_by after) p (turns_in served.rounds)) (sym places) (subst (λ n. AreTurnsOf n (seen_by after) served.placed (turns_in served.rounds)) (ap length seen) served.are);
+        few = turns_at_most datagrams served.rounds served.lost link.events result ends;
         moments = served.moments;
-        received = both.0;
-        sent = both.1;
+        ended = ended_as wanting datagrams link served.rounds served.lost result other faults ends;
       }

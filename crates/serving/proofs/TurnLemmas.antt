@@ -19,8 +19,10 @@ use Rattle.resolver.specs.Pending.{Slot, empty_table}
 use Rattle.outside_core.specs.declared.datagram.Datagram.{Datagram}
 use Rattle.serving.specs.Done.{Done, IsDone}
 use Rattle.serving.specs.Serves.{IsKept, IsPlaced, Serves}
-use Rattle.serving.specs.Round.{left_by}
+use Rattle.serving.specs.Sound.{IsSoundDone}
+use Rattle.serving.specs.AtWork.{left_by}
 use Rattle.serving.specs.Turn.{Turn, AreTurns, AreTurnsOf, IsInTurn, IsKeptAt, IsTurn, places_of}
+use Rattle.serving.proofs.SoundLemmas.{done_sound}
 
 -- ---- more batches
 
@@ -30,11 +32,14 @@ kept_more seen journal version (Some batch) true begins kept = (kept.0, prefix_g
 kept_more seen journal version (Some batch) false begins kept = kept
 
 pub turn_more : (seen journal : List Batch) (table : List Slot) (turn : Turn) → IsPrefix seen journal → IsTurn seen table turn → IsTurn journal table turn
-turn_more seen journal table turn begins is = record {
-  within = omega (arith, is.within, prefix_length seen journal begins);
-  does = subst (λ l. IsDone table turn.now l turn.datagram turn.done) (take_prefix seen journal turn.version begins is.within) is.does;
-  kept = kept_more seen journal turn.version turn.done.batch turn.placed begins is.kept;
-}
+turn_more seen journal table turn begins is =
+    let same = take_prefix seen journal turn.version begins is.within in
+    record {
+      within = omega (arith, is.within, prefix_length seen journal begins);
+      does = subst (λ l. IsDone table turn.now l turn.datagram turn.done) same is.does;
+      sound = subst (λ l. IsSoundDone l turn.now turn.datagram.octets turn.done) same is.sound;
+      kept = kept_more seen journal turn.version turn.done.batch turn.placed begins is.kept;
+    }
 
 pub turns_more : (seen journal : List Batch) (table : List Slot) (turns : List Turn) → IsPrefix seen journal → AreTurns seen table turns → AreTurns journal table turns
 turns_more seen journal table [] begins are = tt
@@ -104,11 +109,14 @@ module _ {g : Ghosts Held Batch (Unit {0})} where
 
   is_turn : (now : ℕ) (before after : Seat Held Batch (Unit {0}) g) (table : List Slot) (datagram : Datagram) (done : Done) (serves : Serves now before after table datagram done)
       → IsTurn (seen_by after) table (turn_of now before after table datagram done serves)
-  is_turn now before after table datagram done serves = record {
-    within = omega arith;
-    does = subst (λ l. IsDone table now l datagram done) (sym (take_all (length (seen_by after)) (seen_by after) (omega arith))) serves.does;
-    kept = kept_at before after done.batch serves.kept;
-  }
+  is_turn now before after table datagram done serves =
+      let whole = sym (take_all (length (seen_by after)) (seen_by after) (omega arith)) in
+      record {
+        within = omega arith;
+        does = subst (λ l. IsDone table now l datagram done) whole serves.does;
+        sound = subst (λ l. IsSoundDone l now datagram.octets done) whole (done_sound table now (seen_by after) datagram done serves.does);
+        kept = kept_at before after done.batch serves.kept;
+      }
 
   -- the turns of a worker, whose seat had seen so many batches before, and then one more
   pub turns_one_more : (seen : ℕ) (now : ℕ) (before after : Seat Held Batch (Unit {0}) g) (placed : List ℕ) (turns : List Turn) (datagram : Datagram) (done : Done)

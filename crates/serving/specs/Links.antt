@@ -1,63 +1,86 @@
 -- What the workers of one cache did, each over its own link, once the cache is closed.
-use Rattle.std.specs.Prelude.{◌≡◌, ℕ, ◌<◌, ◌≤◌, ◌^◌, ◌*◌, ◌⊎◌, List, length, map, not, is_none}
+use Rattle.std.specs.Prelude.{◌≡◌, ℕ, ◌<◌, ◌≤◌, ◌^◌, ◌*◌, ◌⊎◌, Bool, true, false, List, ◌++◌, length, map, not, is_none, Option, IfSome}
 use Rattle.std.specs.List.{All, AllPairs, AllZip, flat_map}
 use mathlib.Core.List.{IsPrefix}
 use Rattle.denial_records.specs.declared.batch.Batch.{Batch}
 use Rattle.cache_versions.specs.Hands.{AreAllBelow}
 use Rattle.resolver.specs.Pending.{empty_table}
+use Rattle.outside_core.specs.Event.{received_in}
 use Rattle.outside_core.specs.Returned.{Returned}
-use Rattle.serving.specs.Turn.{Turn, AreTurns, AreTurnsOf, IsInTurn, places_of, sent_of}
+use Rattle.outside_core.specs.declared.datagram.Datagram.{Datagram}
+use Rattle.outside_core.specs.declared.event.Event.TheVariants.{Awaited}
+use Rattle.serving.specs.Turn.{AreTurns, AreTurnsOf, IsInTurn}
+use Rattle.serving.specs.Rounds.{Round, events_of, places_in, turns_in}
 
 -- ---- one link
 
--- Of so many datagrams all were received, and all is sent that the turns say; or the link failed, and what was sent is a prefix of
--- that, a strict one where all were received
-pub record HasSent (datagrams : ℕ) (link : Returned) (turns : List Turn) : Type 0 where
-  pub few : length link.received ≤ datagrams
-  pub whole : link.faults ≡ 0 → (length link.received ≡ datagrams) × (link.sent ≡ sent_of turns)
+-- Of so many datagrams all were received, and the rounds are whole; or the link failed, and what went over it is a prefix of the
+-- rounds, a strict one where all were received. All is received that was done
+pub record HasSent (datagrams : ℕ) (link : Returned) (rounds : List Round) : Type 0 where
+  pub received : received_in link.events ≡ map (λ turn. turn.datagram) (turns_in rounds)
+  pub few : length (received_in link.events) ≤ datagrams
+  pub whole :
+      link.faults ≡ 0
+      → (length (received_in link.events) ≡ datagrams) × (link.events ≡ events_of rounds)
   pub part :
       1 ≤ link.faults
-      → IsPrefix link.sent (sent_of turns)
-      × ((length link.received < datagrams) ⊎ (length link.sent < length (sent_of turns)))
+      → IsPrefix link.events (events_of rounds)
+      × ((length (received_in link.events) < datagrams)
+      ⊎ (length link.events < length (events_of rounds)))
 
--- The link has these turns, all at this moment, from an empty table, where these batches were placed. Each batch that was to be
--- placed was placed
-pub record IsServed (datagrams now : ℕ) (journal : List Batch) (link : Returned) (turns : List Turn) : Type 0 where
-  pub received : link.received ≡ map (λ turn. turn.datagram) turns
-  pub sent : HasSent datagrams link turns
-  pub moments : All (λ turn. turn.now ≡ now) turns
-  pub each : AreTurns journal empty_table turns
-  pub order : AllPairs IsInTurn turns
-  pub all : All (λ turn. turn.placed ≡ not (is_none turn.done.batch)) turns
+-- Memory was wanted: behind whole rounds one datagram at most was waited for and has no turn
+pub record HasWanted (datagrams : ℕ) (link : Returned) (rounds : List Round) : Type 0 where
+  pub lost : List Datagram
+  pub one : length lost ≤ 1
+  pub events : link.events ≡ events_of rounds ++ map Awaited lost
+  pub few : length (received_in link.events) ≤ datagrams
+  pub unfailed : link.faults ≡ 0
+
+-- where memory may have been wanted, the one or the other
+abbrev pub HasEnded : Bool → ℕ → Returned → List Round → Type 0
+HasEnded false datagrams link rounds = HasSent datagrams link rounds
+HasEnded true datagrams link rounds =
+    HasSent datagrams link rounds ⊎ HasWanted datagrams link rounds
+
+-- The link has these rounds from an empty table, where these batches were placed, each turn at a moment of its own, which is the one
+-- moment that the clock tells, if it tells one. Each batch that was to be placed was placed
+pub record IsServed (wanting : Bool) (datagrams : ℕ) (moment : Option ℕ) (journal : List Batch) (link : Returned) (rounds : List Round) : Type 0 where
+  pub ended : HasEnded wanting datagrams link rounds
+  pub moments : IfSome moment (λ always. All (λ turn. turn.now ≡ always) (turns_in rounds))
+  pub each : AreTurns journal empty_table (turns_in rounds)
+  pub order : AllPairs IsInTurn (turns_in rounds)
+  pub all : All (λ turn. turn.placed ≡ not (is_none turn.done.batch)) (turns_in rounds)
 
 -- ---- all links
 
--- the links have turns by one list of batches, of which each was placed by one turn
-pub record LinksServe (datagrams now : ℕ) (journal : List Batch) (links : List Returned) : Type 0 where
-  pub turns : List (List Turn)
-  pub each : AllZip (IsServed datagrams now journal) links turns
-  pub once : AreAllBelow (length journal) (flat_map (flat_map places_of) turns)
+-- the links have rounds by one list of batches, of which each was placed by one turn
+pub record LinksServe (wanting : Bool) (datagrams : ℕ) (moment : Option ℕ) (journal : List Batch) (links : List Returned) : Type 0 where
+  pub rounds : List (List Round)
+  pub each : AllZip (IsServed wanting datagrams moment journal) links rounds
+  pub once : AreAllBelow (length journal) (flat_map places_in rounds)
 
 -- ---- the law
 
--- what one worker did: the batches that its seat has seen in the end, where it placed batches, and its turns
+-- what one worker did: the batches that its seat has seen in the end, where it placed batches, and its rounds
 pub record Shift : Type 0 where
   pub seen : List Batch
   pub placed : List ℕ
-  pub turns : List Turn
+  pub rounds : List Round
 
-pub record IsShift (datagrams now : ℕ) (journal : List Batch) (link : Returned) (shift : Shift) : Type 0 where
+pub record IsShift (wanting : Bool) (datagrams : ℕ) (moment : Option ℕ) (journal : List Batch) (link : Returned) (shift : Shift) : Type 0 where
   pub begins : IsPrefix shift.seen journal
-  pub are : AreTurnsOf 0 shift.seen shift.placed shift.turns
-  pub moments : All (λ turn. turn.now ≡ now) shift.turns
-  pub received : link.received ≡ map (λ turn. turn.datagram) shift.turns
-  pub sent : HasSent datagrams link shift.turns
+  pub are : AreTurnsOf 0 shift.seen shift.placed (turns_in shift.rounds)
+  pub few : length (turns_in shift.rounds) ≤ datagrams
+  pub moments :
+      IfSome moment (λ always. All (λ turn. turn.now ≡ always) (turns_in shift.rounds))
+  pub ended : HasEnded wanting datagrams link shift.rounds
 
 -- the shifts of all workers of one new cache, which was closed with this journal, are those of links that serve
 abbrev pub ShiftsServe : Type 0
 ShiftsServe =
-    (datagrams now : ℕ) (journal : List Batch) (links : List Returned) (shifts : List Shift)
+    (wanting : Bool) (datagrams : ℕ) (moment : Option ℕ) (journal : List Batch)
+    (links : List Returned) (shifts : List Shift)
     → length links * datagrams < 2 ^ 32
-    → AllZip (IsShift datagrams now journal) links shifts
+    → AllZip (IsShift wanting datagrams moment journal) links shifts
     → AreAllBelow (length journal) (flat_map (λ shift. shift.placed) shifts)
-    → LinksServe datagrams now journal links
+    → LinksServe wanting datagrams moment journal links

@@ -17,7 +17,7 @@ use Rattle.serving.specs.Done.{Done, IsAnswer, IsDone, awaited, batch_in, done_a
 
 -- the number of the last version that a cache can have
 abbrev pub LAST : ℕ
-LAST = 4294967295
+LAST = 4611686018427387903
 
 module _ {g : Ghosts Held Batch (Unit {0})} where
   -- the batch is the last one seen, behind a journal that begins with what the seat had seen. Its place is the seat's last one

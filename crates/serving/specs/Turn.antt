@@ -10,6 +10,7 @@ use Rattle.serving.specs.declared.deed.Deed.{Deed}
 use Rattle.serving.specs.declared.deed.Deed.TheVariants.{Quiet, Ignored, ToUpstream, ToClient}
 use Rattle.serving.specs.Done.{Done, IsDone}
 use Rattle.serving.specs.Serves.{LAST}
+use Rattle.serving.specs.Sound.{IsSoundDone}
 
 -- a datagram that was received, the moment, the number of the version's batches, what was done, and whether a batch was placed
 pub record Turn : Type 0 where
@@ -28,10 +29,11 @@ IsKeptAt journal version (Some batch) true =
     (1 ≤ version) × (slice_get journal (version - 1) ≡ Some batch)
 IsKeptAt journal version (Some batch) false = version ≡ LAST
 
--- the datagram did this to the table, at its version
+-- the datagram did this to the table, at its version, and a reply that the version's records prove is sound
 pub record IsTurn (journal : List Batch) (table : List Slot) (turn : Turn) : Type 0 where
   pub within : turn.version ≤ length journal
   pub does : IsDone table turn.now (take turn.version journal) turn.datagram turn.done
+  pub sound : IsSoundDone (take turn.version journal) turn.now turn.datagram.octets turn.done
   pub kept : IsKeptAt journal turn.version turn.done.batch turn.placed
 
 -- each datagram finds the table that the one before it left

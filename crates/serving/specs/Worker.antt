@@ -8,42 +8,48 @@ use Rattle.cache_versions.specs.declared.state.State.{Ghosts}
 use Rattle.cache_versions.specs.declared.seat.Seat.{Seat}
 use Rattle.cache_versions.specs.Seats.{places_by, seen_by}
 use Rattle.outside_core.specs.declared.datagram.Datagram.{Datagram}
+use Rattle.outside_core.specs.declared.event.Event.{Event}
+use Rattle.outside_core.specs.declared.event.Event.TheVariants.{Awaited}
+use Rattle.outside_core.specs.Event.{received_in}
 use Rattle.outside_core.specs.Fault.{Rose}
 use Rattle.serving.specs.declared.serve_fault.ServeFault.{ServeFault}
 use Rattle.serving.specs.declared.serve_fault.ServeFault.TheVariants.{Link, OutOfMemory}
-use Rattle.serving.specs.Turn.{Turn, AreTurnsOf, sent_of}
+use Rattle.serving.specs.Turn.{AreTurnsOf}
+use Rattle.serving.specs.Rounds.{Round, events_of, turns_in}
 
--- the datagrams that a link tells, where it tells them, and then these
-abbrev pub more_told : Option (List Datagram) → List Datagram → Option (List Datagram)
-more_told told datagrams = option_map (λ before. before ++ datagrams) told
+-- the events that a link tells, where it tells them, and then these
+abbrev pub more_told : Option (List Event) → List Event → Option (List Event)
+more_told told events = option_map (λ before. before ++ events) told
 
--- How the work ends, of so many datagrams. All are received and all is sent that the turns say; or the link failed, and what
--- was sent is a prefix of that, a strict one where all were received; or memory was wanted, and one datagram at most has no turn.
-abbrev pub Ends : ℕ → List Turn → List Datagram → List Datagram → Result (Unit {0}) ServeFault → Type 0
-Ends datagrams turns lost went (Ok done) =
-    (length turns ≡ datagrams) × (lost ≡ []) × (went ≡ sent_of turns)
-Ends datagrams turns lost went (Err Link) =
-    (length turns ≤ datagrams) × (lost ≡ []) × IsPrefix went (sent_of turns)
-    × ((length turns < datagrams) ⊎ (length went < length (sent_of turns)))
-Ends datagrams turns lost went (Err OutOfMemory) =
-    (length turns + length lost ≤ datagrams) × (length lost ≤ 1) × (went ≡ sent_of turns)
+-- How the work ends, of so many datagrams, and what went over the link. All are received, and the rounds are whole; or the link
+-- failed: all is received that was done, and what went is a prefix of the rounds, a strict one where all were received; or memory
+-- was wanted: behind whole rounds one datagram at most was waited for and has no turn.
+abbrev pub Ends : ℕ → List Round → List Datagram → List Event → Result (Unit {0}) ServeFault → Type 0
+Ends datagrams rounds lost went (Ok done) =
+    (length (turns_in rounds) ≡ datagrams) × (lost ≡ []) × (went ≡ events_of rounds)
+Ends datagrams rounds lost went (Err Link) =
+    (length (turns_in rounds) ≤ datagrams) × (lost ≡ []) × IsPrefix went (events_of rounds)
+    × (received_in went ≡ map (λ turn. turn.datagram) (turns_in rounds))
+    × ((length (turns_in rounds) < datagrams) ⊎ (length went < length (events_of rounds)))
+Ends datagrams rounds lost went (Err OutOfMemory) =
+    (length (turns_in rounds) + length lost ≤ datagrams) × (length lost ≤ 1)
+    × (went ≡ events_of rounds ++ map Awaited lost)
 
 module _ {g : Ghosts Held Batch (Unit {0})} where
-  -- a worker's turns, what its seat was before and is after, and what its link tells before and after
-  pub record HasServed (datagrams : ℕ) (moment : Option ℕ) (before after : Seat Held Batch (Unit {0}) g) (received received' sent sent' : Option (List Datagram)) (result : Result (Unit {0}) ServeFault) : Type 0 where
-    pub turns : List Turn
+  -- a worker's rounds, what its seat was before and is after, and what its link tells before and after
+  pub record HasServed (datagrams : ℕ) (moment : Option ℕ) (before after : Seat Held Batch (Unit {0}) g) (events events' : Option (List Event)) (result : Result (Unit {0}) ServeFault) : Type 0 where
+    pub rounds : List Round
     -- at the one moment that the clock tells, if it tells one
-    pub moments : IfSome moment (λ always. All (λ turn. turn.now ≡ always) turns)
+    pub moments : IfSome moment (λ always. All (λ turn. turn.now ≡ always) (turns_in rounds))
     pub begins : IsPrefix (seen_by before) (seen_by after)
     pub placed : List ℕ
     pub places : places_by after ≡ places_by before ++ placed
-    pub are : AreTurnsOf (length (seen_by before)) (seen_by after) placed turns
+    pub are : AreTurnsOf (length (seen_by before)) (seen_by after) placed (turns_in rounds)
     -- received without a turn
     pub lost : List Datagram
-    pub received_are : received' ≡ more_told received (map (λ turn. turn.datagram) turns ++ lost)
-    pub went : List Datagram
-    pub sent_are : sent' ≡ more_told sent went
-    pub ends : Ends datagrams turns lost went result
+    pub went : List Event
+    pub events_are : events' ≡ more_told events went
+    pub ends : Ends datagrams rounds lost went result
 
 -- the link's count of faults rises where the link failed, and else stays
 abbrev pub HasFaults : ℕ → ℕ → Result (Unit {0}) ServeFault → Type 0

@@ -1,7 +1,7 @@
 //! One worker of a forwarder that denies from the cache: what one datagram does, and what a worker does over its link.
 //!
-//! Of this crate's specs read `specs/Done.antt`, `Serves`, `Turn`, `Worker` and `Links`, in this order; `Round` serves the inner
-//! steps.
+//! Of this crate's specs read `specs/Done.antt`, `Sound`, `Serves`, `Turn`, `Rounds`, `Worker` and `Links`, in this order; `AtWork`
+//! serves the inner steps.
 #![tactic(auto)]
 
 mod answer;

@@ -1,12 +1,13 @@
 //! Datagrams that come together: all are received, then done, then answered.
-ghost use Rattle.std.specs.Prelude.{◌≡◌, ◌⊎◌, ◌<◌, ◌≤◌, length, take, IfOk, OnOk, OnErr};
+ghost use Rattle.std.specs.Prelude.{◌≡◌, ◌⊎◌, ◌<◌, ◌≤◌, length, map, take, IfOk, OnOk, OnErr};
 ghost use Rattle.std.specs.List.{All};
 ghost use Rattle.cache_versions.specs.Seats.{number_by};
 ghost use Rattle.resolver.specs.Caches.{IsSeatOf};
 ghost use Rattle.outside_core.specs.Datagram.{IsClient};
 ghost use Rattle.outside_core.specs.Fault.{HasCause};
 ghost use Rattle.outside_core.specs.declared.datagram.Peer.{Peer};
-ghost use Rattle.serving.specs.Round.{DoesSome, IsSentInPart, due_of};
+ghost use Rattle.outside_core.specs.declared.event.Event.TheVariants.{Sent};
+ghost use Rattle.serving.specs.AtWork.{DoesSome, IsSentInPart, came_as, due_of};
 ghost use Rattle.serving.specs.Serves.{DoesServe, IsUnmoved};
 ghost use Rattle.serving.specs.Turn.{sent_by};
 ghost use Rattle.serving.specs.Worker.{more_told};
@@ -36,12 +37,11 @@ pub(crate) fn receive_some<R: Wait, L: Link>(
     ensures some { IfOk result (λ count. 1 ≤ count) }
     ensures most { IfOk result (λ count. count ≤ most) }
     ensures within { IfOk result (λ count. count ≤ length datagrams.new.items) }
-    ensures received { IfOk result (λ count. L.Link.received link.new
-        ≡ more_told (L.Link.received link.old) (take count datagrams.new.items)) }
+    ensures came { IfOk result (λ count. L.Link.events link.new
+        ≡ more_told (L.Link.events link.old) (came_as (take count datagrams.new.items))) }
     ensures clients { IfOk result (λ count. (count ≡ 1)
         ⊎ All (λ datagram. IsClient datagram.peer) (take count datagrams.new.items)) }
-    ensures failed_received { OnErr result (L.Link.received link.new ≡ L.Link.received link.old) }
-    ensures sent { L.Link.sent link.new ≡ L.Link.sent link.old }
+    ensures failed { OnErr result (L.Link.events link.new ≡ L.Link.events link.old) }
     ensures port { L.Link.port link.new ≡ L.Link.port link.old }
     ensures upstream { L.Link.upstream link.new ≡ L.Link.upstream link.old }
     ensures cause { HasCause (L.Link.faults link.old) (L.Link.faults link.new) result }
@@ -79,7 +79,7 @@ pub(crate) fn do_all<R: Wait, C: Clock>(
     ensures object { IsSeatOf cache.now seat.new }
     ensures number { number_by seat.new ≡ number_by seat.old }
     ensures room { length answers.new.items ≡ length answers.old.items }
-    ensures done { OnOk result (DoesSome (length datagrams.now) (C.Clock.moment clock.now)
+    ensures done { OnOk result (DoesSome (C.Clock.moment clock.now)
         seat.old seat.new core.old core.new datagrams.now
         (due_of (take (length datagrams.now) answers.new.items))) }
     ensures one { OnErr result (length datagrams.now ≡ 1) }
@@ -134,11 +134,10 @@ fn do_one<R: Wait>(
 
 /// Sends what is to be sent by the answers, in order, up to the first failure.
 pub(crate) fn send_all<L: Link>(link: &mut L, answers: &[Answer]) -> Result<(), Failed>
-    ensures sent { OnOk result (L.Link.sent link.new
-        ≡ more_told (L.Link.sent link.old) (due_of answers.now)) }
+    ensures sent { OnOk result (L.Link.events link.new
+        ≡ more_told (L.Link.events link.old) (map Sent (due_of answers.now))) }
     ensures part { OnErr result (IsSentInPart (due_of answers.now)
-        (L.Link.sent link.old) (L.Link.sent link.new)) }
-    ensures received { L.Link.received link.new ≡ L.Link.received link.old }
+        (L.Link.events link.old) (L.Link.events link.new)) }
     ensures port { L.Link.port link.new ≡ L.Link.port link.old }
     ensures upstream { L.Link.upstream link.new ≡ L.Link.upstream link.old }
     ensures cause { HasCause (L.Link.faults link.old) (L.Link.faults link.new) result }
@@ -151,11 +150,10 @@ pub(crate) fn send_all<L: Link>(link: &mut L, answers: &[Answer]) -> Result<(), 
 
 // Sends the octets to whom the deed says.
 fn send<L: Link>(link: &mut L, deed: Deed, out: &ReplyBuffer) -> Result<(), Failed>
-    ensures sent { OnOk result (L.Link.sent link.new
-        ≡ more_told (L.Link.sent link.old) (sent_by deed out.now)) }
-    ensures failed_sent { OnErr result (L.Link.sent link.new ≡ L.Link.sent link.old) }
+    ensures sent { OnOk result (L.Link.events link.new
+        ≡ more_told (L.Link.events link.old) (map Sent (sent_by deed out.now))) }
+    ensures failed { OnErr result (L.Link.events link.new ≡ L.Link.events link.old) }
     ensures some { OnErr result (1 ≤ length (sent_by deed out.now)) }
-    ensures received { L.Link.received link.new ≡ L.Link.received link.old }
     ensures port { L.Link.port link.new ≡ L.Link.port link.old }
     ensures upstream { L.Link.upstream link.new ≡ L.Link.upstream link.old }
     ensures cause { HasCause (L.Link.faults link.old) (L.Link.faults link.new) result }

@@ -30,7 +30,7 @@ pub(crate) fn store<R: Wait>(
     ensures unmoved { OnErr result (IsUnmoved seat.old seat.new) }
 {
     match batch_of(alloc, octets, now) {
-        Ok(taken) => insert(rt, alloc, cache, seat, taken.batch),
+        Ok(taken) => insert(rt, alloc, cache, seat, &taken.batch),
         Err(fault) => pass_over(fault),
     }
 }
@@ -55,13 +55,13 @@ fn insert<R: Wait>(
     alloc: Global,
     cache: &SharedCache,
     seat: &mut CacheSeat,
-    batch: Batch,
+    batch: &Batch,
 ) -> Result<(), OutOfMemory>
     requires { IsSeatOf cache.now seat.old }
     ensures object { IsSeatOf cache.now seat.new }
     ensures number { number_by seat.new ≡ number_by seat.old }
     ensures begins { IsPrefix (seen_by seat.old) (seen_by seat.new) }
-    ensures kept { OnOk result (IsKept seat.old seat.new (Some batch)) }
+    ensures kept { OnOk result (IsKept seat.old seat.new (Some batch.entry.now)) }
     ensures unmoved { OnErr result (IsUnmoved seat.old seat.new) }
 {
     match cache.insert(rt, alloc, seat, batch) {

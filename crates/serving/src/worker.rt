@@ -3,7 +3,7 @@ ghost use Rattle.std.specs.Prelude.{◌≡◌, ◌≤◌, length, IfOk, IfErr, E
 ghost use Rattle.cache_versions.specs.Seats.{number_by};
 ghost use Rattle.resolver.specs.Caches.{IsSeatOf};
 ghost use Rattle.serving.specs.declared.desk.TheConstants.{AT_ONCE};
-ghost use Rattle.serving.specs.Round.{Halts, WorksOn};
+ghost use Rattle.serving.specs.AtWork.{Halts, WorksOn};
 ghost use Rattle.serving.specs.Worker.{HasServed, HasFaults};
 
 use crate::ServeFault;
@@ -17,8 +17,8 @@ use std::sync::Wait;
 
 /// Receives so many datagrams, does each at a moment that the clock tells, and sends what is to be sent. Datagrams of clients
 /// that have come together are all received before the first is done, and all done before anything is sent, sixteen at most; one of
-/// the upstream is done alone. No query waits at first. It stops at the first fault; what was received, sent and stored before
-/// stays.
+/// the upstream is done alone. The link is waited for only once all is sent that is due. No query waits at first. It stops at the
+/// first fault; what was received, sent and stored before stays.
 pub fn serve_worker<R: Wait, L: Link, C: Clock>(
     rt: &R,
     alloc: Global,
@@ -35,8 +35,7 @@ pub fn serve_worker<R: Wait, L: Link, C: Clock>(
     ensures upstream { L.Link.upstream link.new ≡ L.Link.upstream link.old }
     ensures faults { HasFaults (L.Link.faults link.old) (L.Link.faults link.new) result }
     ensures served { HasServed datagrams (C.Clock.moment clock.now) seat.old seat.new
-        (L.Link.received link.old) (L.Link.received link.new)
-        (L.Link.sent link.old) (L.Link.sent link.new) result }
+        (L.Link.events link.old) (L.Link.events link.new) result }
 {
     let mut desk = Desk::new(alloc)?;
     let mut left = datagrams as usize;
@@ -74,12 +73,10 @@ fn serve_next<R: Wait, L: Link, C: Clock>(
         HasFaults (L.Link.faults link.old) (L.Link.faults link.new) (Err fault)) }
     ensures works { IfOk result (λ count. WorksOn count (C.Clock.moment clock.now)
         seat.old seat.new desk.old.core desk.new.core
-        (L.Link.received link.old) (L.Link.received link.new)
-        (L.Link.sent link.old) (L.Link.sent link.new)) }
+        (L.Link.events link.old) (L.Link.events link.new)) }
     ensures halts { IfErr result (Halts most (C.Clock.moment clock.now)
         seat.old seat.new desk.old.core
-        (L.Link.received link.old) (L.Link.received link.new)
-        (L.Link.sent link.old) (L.Link.sent link.new)) }
+        (L.Link.events link.old) (L.Link.events link.new)) }
 {
     let count = receive_some(rt, link, &mut desk.datagrams, most)?;
     do_all(

@@ -2,7 +2,7 @@
 ghost use Rattle.resolver.specs.Caches.{IsSeatOf};
 
 use super::messages::{ANSWER, ASKED, DENIED, NEXT_ASKED, NEXT_QUERY, QUERY, RELAYED, THEN};
-use super::sent::sent_otherwise;
+use super::sent::{sent_among, sent_otherwise};
 use outside_core::{Datagram, FixedClock, MemoryLink, OutOfMemory, Peer};
 use resolver::{CacheSeat, SharedCache};
 use serving::{ServeFault, serve_worker};
@@ -67,7 +67,8 @@ fn served<R: Wait>(
 fn an_answer_answers_the_next_query(rt: HostRuntime) -> Result<(), Fail> {
     let (ended, link) = served(&rt, rt.alloc(), 0, &[])?;
     let wanted = [(Peer::Upstream, ASKED), (CLIENT, RELAYED), (OTHER, DENIED)];
-    let wrong = sent_otherwise(link.sent(), &wanted);
+    let sent = sent_among(rt.alloc(), link.events())?;
+    let wrong = sent_otherwise(&sent, &wanted);
     assert!(rt; ended == Ok(()), "{ended:?}");
     assert!(rt; wrong.is_none(), "{wrong:?}");
     Ok(())
@@ -78,7 +79,8 @@ fn an_answer_answers_the_next_query(rt: HostRuntime) -> Result<(), Fail> {
 fn an_answer_with_another_id_is_ignored(rt: HostRuntime) -> Result<(), Fail> {
     let (ended, link) = served(&rt, rt.alloc(), 1, &[])?;
     let wanted = [(Peer::Upstream, ASKED), (Peer::Upstream, NEXT_ASKED)];
-    let wrong = sent_otherwise(link.sent(), &wanted);
+    let sent = sent_among(rt.alloc(), link.events())?;
+    let wrong = sent_otherwise(&sent, &wanted);
     assert!(rt; ended == Ok(()), "{ended:?}");
     assert!(rt; wrong.is_none(), "{wrong:?}");
     Ok(())
@@ -91,7 +93,7 @@ fn failed<R: Wait>(
     call: u32,
 ) -> Result<(Result<(), ServeFault>, usize), Fail> {
     let (ended, link) = served(rt, alloc, 0, &[call])?;
-    Ok((ended, link.sent().len()))
+    Ok((ended, sent_among(alloc, link.events())?.len()))
 }
 
 // The first receipt fails, or the first sending, which is the second call.

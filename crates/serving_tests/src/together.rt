@@ -61,9 +61,7 @@ impl Crowded {
 }
 
 impl Link for Crowded {
-    ghost received = { λ _. None };
-
-    ghost sent = { λ _. None };
+    ghost events = { λ _. None };
 
     ghost port = { λ _. 0 };
 

@@ -1,5 +1,5 @@
 -- An answer over batches that were seen is one over all that were placed; and what a frame has placed.
-use Rattle.std.proofs.Common.{◌≡◌, ℕ, ◌<◌, ◌≤◌, ◌⊎◌, inl, inr, true, false, List, length, take, Option, None, Some, refl, sym, ◌∙◌, ap, arith}
+use Rattle.std.proofs.Common.{◌≡◌, ℕ, ◌<◌, ◌≤◌, inr, true, false, List, take, Option, None, Some, refl, sym, ◌∙◌, ap, arith}
 use Rattle.std.proofs.lemmas.Bool.{false≢true}
 use Rattle.facts.proofs.Prefixes.{take_prefix}
 use mathlib.Core.List.{IsPrefix}
@@ -15,11 +15,11 @@ use Rattle.cache_versions.proofs.Fronts.{prefix_get, prefix_length}
 use Rattle.replay_meaning.specs.Frame.{Input}
 use Rattle.replay_meaning.specs.OutFrame.{Output}
 use Rattle.reply_core.specs.Answered.{reply_in}
-use Rattle.replay_meaning.specs.Step.{Step, Query, Insert, Tell, Does}
+use Rattle.replay_meaning.specs.Step.{Step, Query, Insert, Tell}
 use Rattle.replay_meaning.specs.Fits.{IsOutputOf, IsFor, is_placed, query_output}
 use Rattle.replay_meaning.proofs.StepLemmas.{TellsNoCall, tells_no_call}
 use Rattle.replay_meaning.specs.declared.frame.FrameKind.TheVariants.{Upstream}
-use Rattle.worker_seats.specs.Answer.{LAST, IsSpent, IsAnswered, spent_output}
+use Rattle.worker_seats.specs.Answer.{IsAnswered}
 use Rattle.worker_seats.specs.OneFrame.{HasPlacedAtMost}
 
 -- ---- more batches
@@ -33,28 +33,22 @@ says_more seen journal input (Query question) output begins (version, within, is
 says_more seen journal input (Insert taken) output begins (before, at, is) = (before, prefix_get seen journal before taken.batch begins at, is)
 says_more seen journal input (Tell kind body) output begins is = is
 
-spent_more : (seen journal : List Batch) (input : Input) (step : Step) (output : Output) → IsPrefix seen journal → IsSpent seen input step output → IsSpent journal input step output
-spent_more seen journal input step output begins spent = record { taken = spent.taken; inserts = spent.inserts; met = omega (arith, spent.met, prefix_length seen journal begins); says = spent.says }
-
-either_more : (seen journal : List Batch) (input : Input) (step : Step) (output : Output) → IsPrefix seen journal → IsOutputOf seen input step output ⊎ IsSpent seen input step output → IsOutputOf journal input step output ⊎ IsSpent journal input step output
-either_more seen journal input step output begins (inl says) = inl (says_more seen journal input step output begins says)
-either_more seen journal input step output begins (inr spent) = inr (spent_more seen journal input step output begins spent)
-
 pub answered_more : (seen journal : List Batch) (input : Input) (output : Output) → IsPrefix seen journal → IsAnswered seen input output → IsAnswered journal input output
 answered_more seen journal input output begins answered = record {
   step = answered.step;
   does = answered.does;
-  says = either_more seen journal input answered.step output begins answered.says;
+  says = says_more seen journal input answered.step output begins answered.says;
 }
 
 -- ---- what an answer tells
 
-pub spent_places_none : (output : Output) (worker : ℕ) → output ≡ spent_output worker → is_placed output.kind ≡ false
-spent_places_none output worker is = ap (λ (o : Output). is_placed o.kind) is
-
-query_places_none : (worker version : ℕ) (reply : Option (List ℕ)) → is_placed (query_output worker version reply).kind ≡ false
+pub query_places_none : (worker version : ℕ) (reply : Option (List ℕ)) → is_placed (query_output worker version reply).kind ≡ false
 query_places_none worker version None = refl
 query_places_none worker version (Some octets) = refl
+
+pub query_version : (worker version : ℕ) (reply : Option (List ℕ)) → (query_output worker version reply).version ≡ version
+query_version worker version None = refl
+query_version worker version (Some octets) = refl
 
 -- a placed batch makes a version, which isn't the first
 placed_says : (seen : List Batch) (input : Input) (step : Step) (output : Output) → TellsNoCall step → IsOutputOf seen input step output → is_placed output.kind ≡ true → 1 ≤ output.version
@@ -64,20 +58,11 @@ placed_says seen input (Query question) output tells (version, within, is) place
 placed_says seen input (Insert taken) output tells (before, at, is) placed = let version = ap (λ (o : Output). o.version) is in omega (arith, version)
 placed_says seen input (Tell kind body) output tells is placed = absurd (false≢true (sym tells.not_placed ∙ sym (ap (λ (o : Output). is_placed o.kind) is) ∙ placed))
 
-placed_either : (seen : List Batch) (input : Input) (step : Step) (output : Output) → TellsNoCall step → IsOutputOf seen input step output ⊎ IsSpent seen input step output → is_placed output.kind ≡ true → 1 ≤ output.version
-placed_either seen input step output tells (inl says) placed = placed_says seen input step output tells says placed
-placed_either seen input step output tells (inr spent) placed = absurd (false≢true (sym (spent_places_none output input.worker spent.says) ∙ placed))
-
 pub placed_above : (seen : List Batch) (input : Input) (output : Output) → IsAnswered seen input output → is_placed output.kind ≡ true → 1 ≤ output.version
-placed_above seen input output answered = placed_either seen input answered.step output (tells_no_call input answered.step answered.does) answered.says
+placed_above seen input output answered = placed_says seen input answered.step output (tells_no_call input answered.step answered.does) answered.says
 
--- an insert is spent only where the last version is among the batches, and then an output that places a batch isn't one
-for_either : (workers : ℕ) (journal : List Batch) (input : Input) (step : Step) (output : Output) → input.worker < workers → Does input step → (LAST ≤ length journal → is_placed output.kind ≡ true) → IsOutputOf journal input step output ⊎ IsSpent journal input step output → IsFor workers journal input output
-for_either workers journal input step output below does free (inl says) = record { below = below; step = step; does = does; says = says }
-for_either workers journal input step output below does free (inr spent) = absurd (false≢true (sym (spent_places_none output input.worker spent.says) ∙ free spent.met))
-
-pub answered_for : (workers : ℕ) (journal : List Batch) (input : Input) (output : Output) → input.worker < workers → (LAST ≤ length journal → is_placed output.kind ≡ true) → IsAnswered journal input output → IsFor workers journal input output
-answered_for workers journal input output below free answered = for_either workers journal input answered.step output below answered.does free answered.says
+pub answered_for : (workers : ℕ) (journal : List Batch) (input : Input) (output : Output) → input.worker < workers → IsAnswered journal input output → IsFor workers journal input output
+answered_for workers journal input output below answered = record { below = below; step = answered.step; does = answered.does; says = answered.says }
 
 -- ---- what a frame has placed
 

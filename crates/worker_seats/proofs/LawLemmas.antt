@@ -1,11 +1,10 @@
 -- The shifts of all workers make one history.
-use Rattle.std.proofs.Common.{◌≡◌, ℕ, zero, suc, ◌+◌, ◌-◌, ◌<◌, ◌≤◌, ◌^◌, inl, Bool, true, false, ◌&&◌, ◌==◌, cond, List, [], ◌∷◌, ◌++◌, length, map, get_or, refl, sym, ◌∙◌, ap, subst, arith, zero-add, length-append}
+use Rattle.std.proofs.Common.{◌≡◌, ℕ, zero, suc, ◌+◌, ◌-◌, ◌<◌, ◌≤◌, ◌^◌, Bool, true, false, ◌&&◌, ◌==◌, cond, List, [], ◌∷◌, ◌++◌, length, map, get_or, refl, sym, ◌∙◌, ap, subst, arith, zero-add}
 use Rattle.std.specs.List.{All, AllZip, AllPairs, flat_map, count_by}
 use Rattle.std.proofs.lemmas.Bool.Decides.{nat_tests}
 use Rattle.std.proofs.lemmas.List.Elements.{All-nil, All-cons, All-head, All-tail}
 use Rattle.std.proofs.lemmas.List.Sums.{sum_by-append, sum_by-cons}
 use Rattle.std.proofs.lemmas.List.{length-map, get_or-map}
-use Rattle.std.proofs.lemmas.Slice.Zip.{AllZip-long}
 use Rattle.facts.proofs.Lists.{some_of}
 use mathlib.Core.List.{IsPrefix}
 use Rattle.denial_records.specs.declared.batch.Batch.{Batch}
@@ -20,13 +19,14 @@ use Rattle.replay_meaning.specs.Fits.{Fits, IsFor, IsInOrder, is_placed, places}
 use Rattle.replay_meaning.specs.Replay.{SpellsFrames, IsReplay}
 use Rattle.replay_meaning.specs.Sound.{IsSoundReply}
 use Rattle.replay_meaning.proofs.SoundLemmas.{replies_are_sound}
-use Rattle.worker_seats.specs.Answer.{LAST, IsAnswered}
+use Rattle.worker_seats.specs.Answer.{AreFewEnough, IsAnswered}
 use Rattle.worker_seats.specs.OneFrame.{places_of}
 use Rattle.worker_seats.specs.Shift.{IsInTurn, IsShift}
 use Rattle.worker_seats.specs.Workers.{HasSameWorker, HaveWorked, inputs_of, outputs_of}
 use Rattle.worker_seats.specs.Laws.{AreShifts}
+use Rattle.cache_versions.proofs.Fronts.{prefix_length}
 use Rattle.worker_seats.proofs.AnswerLemmas.{answered_more, placed_above, answered_for}
-use Rattle.worker_seats.proofs.OwnLemmas.{zip_own, pairs_own, parts_sum, at_least, count_refused}
+use Rattle.worker_seats.proofs.OwnLemmas.{zip_own, pairs_own, parts_sum, parts_few, at_least}
 
 -- ---- places
 
@@ -55,17 +55,6 @@ times_told place (output ∷ outputs) above =
     ∙ ap (λ n. cond (places (place + 1) output) 1 0 + n) (times_told place outputs (All-tail IsAbove output outputs above))
     ∙ sym (sum_by-cons (λ o. cond (places (place + 1) o) 1 0) output outputs)
 
-length_one : (output : Output) (b : Bool) → is_placed output.kind ≡ b → length (places_of output) ≡ cond b 1 0
-length_one output true is = ap (λ (b : Bool). length (cond b ((output.version - 1) ∷ []) [])) is
-length_one output false is = ap (λ (b : Bool). length (cond b ((output.version - 1) ∷ []) [])) is
-
-length_told : (outputs : List Output) → length (flat_map places_of outputs) ≡ count_by (λ o. is_placed o.kind) outputs
-length_told [] = refl
-length_told (output ∷ outputs) =
-    length-append (places_of output) (flat_map places_of outputs)
-    ∙ (λ i. length_one output (is_placed output.kind) refl i + length_told outputs i)
-    ∙ sym (sum_by-cons (λ o. cond (is_placed o.kind) 1 0) output outputs)
-
 -- ---- two lists place by place
 
 pub zip_weaker : {X Y : Type 0} (R S : X → Y → Type 0) → ((x : X) (y : Y) → R x y → S x y) → (xs : List X) (ys : List Y) → AllZip R xs ys → AllZip S xs ys
@@ -74,15 +63,12 @@ zip_weaker R S f [] (y ∷ ys) all = absurd all
 zip_weaker R S f (x ∷ xs) [] all = absurd all
 zip_weaker R S f (x ∷ xs) (y ∷ ys) all = (f x y all.0, zip_weaker R S f xs ys all.1)
 
--- with what holds of the elements of each list
-zip_both : {X Y : Type 0} (P : X → Type 0) (Q : Y → Type 0) (R S : X → Y → Type 0) → ((x : X) (y : Y) → P x → Q y → R x y → S x y) → (xs : List X) (ys : List Y) → All P xs → All Q ys → AllZip R xs ys → AllZip S xs ys
-zip_both P Q R S f [] [] ps qs all = tt
-zip_both P Q R S f [] (y ∷ ys) ps qs all = absurd all
-zip_both P Q R S f (x ∷ xs) [] ps qs all = absurd all
-zip_both P Q R S f (x ∷ xs) (y ∷ ys) ps qs all = (
-  f x y (All-head P x xs ps) (All-head Q y ys qs) all.0,
-  zip_both P Q R S f xs ys (All-tail P x xs ps) (All-tail Q y ys qs) all.1,
-)
+-- with what holds of the elements of the first list
+zip_left : {X Y : Type 0} (P : X → Type 0) (R S : X → Y → Type 0) → ((x : X) (y : Y) → P x → R x y → S x y) → (xs : List X) (ys : List Y) → All P xs → AllZip R xs ys → AllZip S xs ys
+zip_left P R S f [] [] ps all = tt
+zip_left P R S f [] (y ∷ ys) ps all = absurd all
+zip_left P R S f (x ∷ xs) [] ps all = absurd all
+zip_left P R S f (x ∷ xs) (y ∷ ys) ps all = (f x y (All-head P x xs ps) all.0, zip_left P R S f xs ys (All-tail P x xs ps) all.1)
 
 -- what holds of the second list's elements
 zip_right : {X Y : Type 0} (P : X → Type 0) (Q : Y → Type 0) (R : X → Y → Type 0) → ((x : X) (y : Y) → P x → R x y → Q y) → (xs : List X) (ys : List Y) → All P xs → AllZip R xs ys → All Q ys
@@ -90,14 +76,6 @@ zip_right P Q R f [] [] ps all = All-nil Q
 zip_right P Q R f [] (y ∷ ys) ps all = absurd all
 zip_right P Q R f (x ∷ xs) [] ps all = absurd all
 zip_right P Q R f (x ∷ xs) (y ∷ ys) ps all = All-cons Q y ys (f x y (All-head P x xs ps) all.0) (zip_right P Q R f xs ys (All-tail P x xs ps) all.1)
-
--- a list all of which is counted
-counted_at : {X : Type 0} (p : X → Bool) (xs : List X) (k : ℕ) (d : X) → length xs ≤ count_by p xs → k < length xs → (b : Bool) → p (get_or xs k d) ≡ b → p (get_or xs k d) ≡ true
-counted_at p xs k d many lt true is = is
-counted_at p xs k d many lt false is = absurd (let fewer = count_refused p xs k d lt is in omega (arith, many, fewer))
-
-all_counted : {X : Type 0} (p : X → Bool) (xs : List X) → length xs ≤ count_by p xs → All (λ x. p x ≡ true) xs
-all_counted p xs many = λ k d lt. counted_at p xs k d many lt (p (get_or xs k d)) refl
 
 -- what stands in a list doesn't hang on what stands for a missing element
 pub get_or_same : {X : Type 0} (xs : List X) (k : ℕ) (d e : X) → k < length xs → get_or xs k d ≡ get_or xs k e
@@ -114,10 +92,22 @@ abbrev pub worker_out : Output → ℕ
 worker_out output = output.worker
 
 module _ (workers : ℕ) (journal : List Batch) (inputs : List Input) (outputs : List Output) (few : length inputs < 2 ^ 32) (shifts : AreShifts workers journal inputs outputs) where
+  -- no more batches were placed than there are frames
+  journal_few : AreFewEnough journal
+  journal_few =
+      let dealt = at_least (length journal) (flat_map (λ (p : List ℕ). p) shifts.placed) (λ place within. let once = (shifts.once place).0 within in omega (arith, once)) in
+      let parts = parts_few worker_in 0 shifts.placed inputs (λ worker d lt.
+      let one = shifts.few worker (omega (arith, lt, shifts.all)) in
+      omega (arith, one, ap length (get_or_same shifts.placed worker d [] lt), ap (λ w. length (inputs_of w inputs)) (zero-add worker))) in
+      omega (arith, dealt, parts, few)
+
+  shift_of : (worker : ℕ) → worker < workers → IsShift (shifts.seen worker) (get_or shifts.placed worker []) (inputs_of worker inputs) (outputs_of worker outputs)
+  shift_of worker below = shifts.shifts worker below (omega (arith, journal_few, prefix_length (shifts.seen worker) journal (shifts.begins worker below)))
+
   answered : AllZip (IsAnswered journal) inputs outputs
   answered =
       zip_own worker_in worker_out (IsAnswered journal) workers inputs outputs shifts.below shifts.same
-      (λ worker below. zip_weaker (IsAnswered (shifts.seen worker)) (IsAnswered journal) (λ input output. answered_more (shifts.seen worker) journal input output (shifts.begins worker below)) (inputs_of worker inputs) (outputs_of worker outputs) (shifts.shifts worker below).each)
+      (λ worker below. zip_weaker (IsAnswered (shifts.seen worker)) (IsAnswered journal) (λ input output. answered_more (shifts.seen worker) journal input output (shifts.begins worker below)) (inputs_of worker inputs) (outputs_of worker outputs) (shift_of worker below).each)
 
   below_out : All (λ output. output.worker < workers) outputs
   below_out = zip_right (λ input. input.worker < workers) (λ output. output.worker < workers) HasSameWorker (λ input output below same. subst (λ n. n < workers) (sym same) below) inputs outputs shifts.below shifts.same
@@ -128,7 +118,7 @@ module _ (workers : ℕ) (journal : List Batch) (inputs : List Input) (outputs :
   part_is : (worker : ℕ) (d : List ℕ) → worker < length shifts.placed → get_or shifts.placed worker d ≡ flat_map places_of (outputs_of (0 + worker) outputs)
   part_is worker d lt =
       get_or_same shifts.placed worker d [] lt
-      ∙ (shifts.shifts worker (omega (arith, lt, shifts.all))).places
+      ∙ (shift_of worker (omega (arith, lt, shifts.all))).places
       ∙ ap (λ w. flat_map places_of (outputs_of w outputs)) (sym (zero-add worker))
 
   -- each place below the journal's length is told once
@@ -144,21 +134,15 @@ module _ (workers : ℕ) (journal : List Batch) (inputs : List Input) (outputs :
       let same : (version - 1) + 1 ≡ version = omega (arith, least) in
       subst (λ n. count_by (places n) outputs ≡ 1) same (sym (times_told (version - 1) outputs above) ∙ told_once (version - 1) (omega (arith, least, most)))
 
-  -- where the journal is as long as can be, each frame places a batch
-  free : All (λ output. LAST ≤ length journal → is_placed output.kind ≡ true) outputs
-  free = λ k d lt full.
-      let many : length journal ≤ length (flat_map places_of outputs) = at_least (length journal) (flat_map places_of outputs) (λ place within. omega (arith, told_once place within)) in
-      all_counted (λ (o : Output). is_placed o.kind) outputs (omega (arith, many, full, few, length_told outputs, AllZip-long HasSameWorker inputs outputs shifts.same)) k d lt
-
   each : AllZip (IsFor workers journal) inputs outputs
-  each = zip_both (λ input. input.worker < workers) (λ output. LAST ≤ length journal → is_placed output.kind ≡ true) (IsAnswered journal) (IsFor workers journal) (answered_for workers journal) inputs outputs shifts.below free answered
+  each = zip_left (λ input. input.worker < workers) (IsAnswered journal) (IsFor workers journal) (answered_for workers journal) inputs outputs shifts.below answered
 
   order : AllPairs IsInOrder outputs
   order = λ i j d lt lt'.
-      let turn = pairs_own worker_out IsInTurn workers outputs below_out (λ worker below. (shifts.shifts worker below).order) i j d lt lt' in
+      let turn = pairs_own worker_out IsInTurn workers outputs below_out (λ worker below. (shift_of worker below).order) i j d lt lt' in
       record {
-        never_back = λ same first second. (turn same).never_back (inl first) (inl second);
-        rises = λ same first second. (turn same).rises (inl first) second;
+        never_back = λ same. (turn same).never_back;
+        rises = λ same. (turn same).rises;
       }
 
   pub all_fit : Fits inputs workers journal outputs × AllZip (IsSoundReply journal) inputs outputs
@@ -189,15 +173,24 @@ module _ {g : Ghosts Held Batch (Unit {0})} where
         let lt' : worker < length after = omega (arith, lt, all) in
         subst (λ l. IsPrefix l journal) (sym (get_or-map seen_by after worker d [] lt')) (seen worker d lt');
     once = subst (AreAllBelow (length journal)) (sym (flat_of_map after)) once;
-    shifts = λ worker lt.
+    few = λ worker lt.
+        let d = some_of before worker lt in
+        let one = worked.each worker d lt in
+        omega (arith, one.few, ap length (placed_at worker d lt));
+    shifts = λ worker lt few.
         let d = some_of before worker lt in
         let lt' : worker < length after = omega (arith, lt, all) in
         let one = worked.each worker d lt in
-        let placed : one.placed ≡ get_or (map places_by after) worker [] =
-        sym (get_or-map places_by after worker d [] lt' ∙ one.places ∙ ap (λ l. l ++ one.placed) (fresh worker d lt)) in
-        subst (λ l. IsShift l (get_or (map places_by after) worker []) (inputs_of worker inputs) (outputs_of worker worked.outputs)) (sym (get_or-map seen_by after worker d [] lt'))
-        (subst (λ l. IsShift (seen_by (get_or after worker d)) l (inputs_of worker inputs) (outputs_of worker worked.outputs)) placed one.shift);
+        let seen : seen_by (get_or after worker d) ≡ seen_at after worker = sym (get_or-map seen_by after worker d [] lt') in
+        subst (λ l. IsShift l (get_or (map places_by after) worker []) (inputs_of worker inputs) (outputs_of worker worked.outputs)) seen
+        (subst (λ l. IsShift (seen_by (get_or after worker d)) l (inputs_of worker inputs) (outputs_of worker worked.outputs)) (placed_at worker d lt) (one.shift (subst AreFewEnough (sym seen) few)));
   }
+    where
+      placed_at : (worker : ℕ) (d : Seat Held Batch (Unit {0}) g) (lt : worker < length before) → (worked.each worker d lt).placed ≡ get_or (map places_by after) worker []
+      placed_at worker d lt =
+          let lt' : worker < length after = omega (arith, lt, all) in
+          let one = worked.each worker d lt in
+          sym (get_or-map places_by after worker d [] lt' ∙ one.places ∙ ap (λ l. l ++ one.placed) (fresh worker d lt))
 
   -- the octets are a replay's
   pub replay_of : (before after : List (Seat Held Batch (Unit {0}) g)) (journal : List Batch) (octets output : List ℕ) (inputs : List Input)

@@ -7,7 +7,7 @@ use Rattle.std.proofs.lemmas.List.{append-nil}
 use Rattle.std.proofs.lemmas.List.Elements.{All-nil, All-cons, All-head, All-tail, All-filter, filter-append, filter_passes}
 use Rattle.std.proofs.lemmas.List.Filters.{sum_by-filter_both, length-filter_both}
 use Rattle.std.proofs.lemmas.List.Kept.{AllPairs-cons}
-use Rattle.std.proofs.lemmas.List.Sums.{sum_by-append, sum_by-cons, length-filter, count_by-le-length}
+use Rattle.std.proofs.lemmas.List.Sums.{sum_by-append, sum_by-cons, length-filter}
 use Rattle.facts.proofs.Pairs.{pairs_head, pairs_tail}
 
 -- ---- tests
@@ -58,6 +58,19 @@ module _ {X : Type 0} (key : X → ℕ) where
 
   split_length : (n : ℕ) (xs : List X) → length (own n xs) + length (others n xs) ≡ length xs
   split_length n xs = length-filter_both (λ x. key x == n) (λ x. not (key x == n)) (λ x. refl) xs
+
+  own_after : (from k : ℕ) (xs : List X) → own (from + suc k) xs ≡ own (from + 1 + k) (others from xs)
+  own_after from k xs =
+      let same : from + suc k ≡ from + 1 + k = omega arith in
+      ap (λ m. own m xs) same ∙ sym (others_own from (from + 1 + k) xs (λ e. omega (arith, e)))
+
+  -- where each part is no longer than the elements of its number, all together are no longer than the list
+  pub parts_few : {A : Type 0} (from : ℕ) (parts : List (List A)) (xs : List X) → ((k : ℕ) (d : List A) → k < length parts → length (get_or parts k d) ≤ length (own (from + k) xs)) → length (flat_map (λ (p : List A). p) parts) ≤ length xs
+  parts_few from [] xs each = omega arith
+  parts_few from (s ∷ parts) xs each =
+      let first : length s ≤ length (own from xs) = subst (λ k. length s ≤ length (own k xs)) (omega arith) (each 0 s (omega arith)) in
+      let rest = parts_few (from + 1) parts (others from xs) (λ k d lt. subst (λ l. length (get_or parts k d) ≤ length l) (own_after from k xs) (each (suc k) d (omega arith))) in
+      omega (arith, length-append s (flat_map (λ p. p) parts), first, rest, split_length from xs)
 
 -- ---- two lists whose elements have the same numbers, place by place
 
@@ -154,17 +167,12 @@ module _ {X A S : Type 0} (key : X → ℕ) (of' : X → List A) (part : S → L
       let apart : key (get_or (others key from xs) k d) ≡ from → ⊥ = λ e. false≢true (sym (ap not (equal_test (key (get_or (others key from xs) k d)) from e)) ∙ passed) in
       (omega (arith, inside.0, apart), omega (arith, inside.1))
 
-  own_after : (from k : ℕ) (xs : List X) → own key (from + suc k) xs ≡ own key (from + 1 + k) (others key from xs)
-  own_after from k xs =
-      let same : from + suc k ≡ from + 1 + k = omega arith in
-      ap (λ m. own key m xs) same ∙ sym (others_own key from (from + 1 + k) xs (λ e. omega (arith, e)))
-
   pub parts_sum : (from : ℕ) (parts : List S) (xs : List X) → AreWithin from (length parts) xs → ArePartsFrom from parts xs → sum_by h (flat_map part parts) ≡ sum_by h (flat_map of' xs)
   parts_sum from [] xs within each = ap (λ l. sum_by h (flat_map of' l)) (sym (none_within from xs within))
   parts_sum from (s ∷ parts) xs within each =
       let first : part s ≡ flat_map of' (own key from xs) = subst (λ k. part s ≡ flat_map of' (own key k xs)) (omega arith) (each 0 s (omega arith)) in
       let rest = parts_sum (from + 1) parts (others key from xs) (others_within from (length parts) xs within)
-      (λ k d lt. each (suc k) d (omega arith) ∙ ap (flat_map of') (own_after from k xs)) in
+      (λ k d lt. each (suc k) d (omega arith) ∙ ap (flat_map of') (own_after key from k xs)) in
       sum_by-append h (part s) (flat_map part parts)
       ∙ ap (λ l. sum_by h l + sum_by h (flat_map part parts)) first
       ∙ ap (λ n. sum_by h (flat_map of' (own key from xs)) + n) rest
@@ -183,17 +191,3 @@ at_least zero xs each = omega arith
 at_least (suc n) xs each =
     let fewer = at_least n (others (λ x. x) n xs) (λ m lt. omega (arith, times_others n m xs (λ e. omega (arith, e)), each m (omega arith))) in
     omega (arith, split_length (λ x. x) n xs, length-filter (λ x. x == n) xs, each n (omega arith))
-
--- an element that a test refuses is not counted
-cond_small : (b : Bool) → cond {A = ℕ} b 1 0 ≤ 1
-cond_small true = omega arith
-cond_small false = omega arith
-
-pub count_refused : {X : Type 0} (p : X → Bool) (xs : List X) (k : ℕ) (d : X) → k < length xs → p (get_or xs k d) ≡ false → count_by p xs < length xs
-count_refused p [] k d lt is = absurd (omega arith)
-count_refused p (x ∷ xs) zero d lt is =
-    let none : cond (p x) 1 0 ≡ 0 = ap (λ (b : Bool). cond {A = ℕ} b 1 0) is in
-    omega (arith, sum_by-cons (λ y. cond (p y) 1 0) x xs, none, count_by-le-length p xs)
-count_refused p (x ∷ xs) (suc k) d lt is =
-    let rest = count_refused p xs k d (omega arith) is in
-    omega (arith, sum_by-cons (λ y. cond (p y) 1 0) x xs, rest, cond_small (p x))

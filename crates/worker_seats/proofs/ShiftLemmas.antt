@@ -1,8 +1,8 @@
 -- One worker's shift, frame by frame.
-use Rattle.std.proofs.Common.{◌≡◌, ℕ, zero, suc, ◌+◌, ◌-◌, ◌^◌, ◌<◌, ◌≤◌, ◌⊎◌, inl, inr, Bool, true, false, cond, ◌==◌, List, [], ◌∷◌, ◌++◌, length, take, get_or, Option, None, Some, slice_get, refl, sym, ◌∙◌, ap, subst, arith, append_assoc, length-append}
+use Rattle.std.proofs.Common.{◌≡◌, ℕ, zero, suc, ◌+◌, ◌-◌, ◌^◌, ◌<◌, ◌≤◌, inl, inr, Bool, true, false, cond, ◌==◌, List, [], ◌∷◌, ◌++◌, length, take, get_or, Some, slice_get, refl, sym, ◌∙◌, ap, subst, arith, append_assoc, length-append}
 use Rattle.std.specs.List.{AllZip}
 use Rattle.std.proofs.lemmas.Bool.{false≢true, ne_eqb}
-use Rattle.std.proofs.lemmas.List.{append-nil}
+use Rattle.std.proofs.lemmas.List.{append-nil, append_cancel_left}
 use Rattle.std.proofs.lemmas.List.Elements.{All-nil, All-push, filter-append}
 use Rattle.std.proofs.lemmas.List.Quantifiers.{all_pairs_push}
 use Rattle.std.proofs.lemmas.Slice.Zip.{AllZip-long}
@@ -17,22 +17,21 @@ use Rattle.reply_core.specs.Answered.{reply_in}
 use Rattle.replay_meaning.specs.Frame.{Input, IsInput, input_spelling}
 use Rattle.replay_meaning.specs.OutFrame.{Output, IsOutput, output_spelling}
 use Rattle.replay_meaning.specs.Step.{Step, Query, Insert, Tell}
-use Rattle.replay_meaning.specs.Fits.{IsOutputOf, is_call, is_placed, query_output}
+use Rattle.replay_meaning.specs.Fits.{IsOutputOf, is_call}
 use Rattle.replay_meaning.specs.Sound.{IsSoundReply}
 use Rattle.replay_meaning.specs.declared.out_frame.OutKind.{OutKind}
-use Rattle.replay_meaning.specs.declared.out_frame.OutKind.TheVariants.{Reply, Forward, Stored, Refused, Dropped, Error}
 use Rattle.replay_meaning.proofs.FrameLemmas.{spelling-push}
 use Rattle.replay_meaning.proofs.StepLemmas.{TellsNoCall, tells_no_call}
-use Rattle.replay_meaning.proofs.OneOutputLemmas.{query_worker, placed_calls}
-use Rattle.worker_seats.specs.Answer.{IsSpent, IsAnswered}
+use Rattle.replay_meaning.proofs.OneOutputLemmas.{placed_calls}
+use Rattle.worker_seats.specs.Answer.{AreFewEnough, IsAnswered}
 use Rattle.worker_seats.specs.Cuts.{AreCuts}
 use Rattle.worker_seats.specs.Frames.{AreSpelled}
-use Rattle.worker_seats.specs.OneFrame.{IsCall, IsDone, DoesOneFrame, places_of}
-use Rattle.worker_seats.specs.Shift.{TellsCall, IsInTurn, IsShift}
+use Rattle.worker_seats.specs.OneFrame.{IsCall, IsDone, DoesOneFrame, HasPlacedAtMost, places_of}
+use Rattle.worker_seats.specs.Shift.{IsInTurn, IsShift}
 use Rattle.worker_seats.specs.Work.{HasPassed, IsWork}
-use Rattle.worker_seats.specs.Workers.{HasWorked, inputs_of}
+use Rattle.worker_seats.specs.Workers.{HasSameWorker, HasWorked, inputs_of}
 use Rattle.worker_seats.specs.declared.cut.Cut.{Cut}
-use Rattle.worker_seats.proofs.AnswerLemmas.{answered_more}
+use Rattle.worker_seats.proofs.AnswerLemmas.{answered_more, query_version}
 use Rattle.worker_seats.proofs.FramesLemmas.{Walks, next_left, split_next, walk_all}
 use Rattle.worker_seats.proofs.LawLemmas.{zip_weaker}
 use Rattle.worker_seats.proofs.NotedLemmas.{AreNoted, noted_all, noted_here, noted_input, noted_none, noted_output}
@@ -73,28 +72,11 @@ other_push worker inputs input other =
 
 -- ---- what an answer tells
 
-query_version : (worker version : ℕ) (reply : Option (List ℕ)) → (query_output worker version reply).version ≡ version
-query_version worker version None = refl
-query_version worker version (Some octets) = refl
-
-worker_is : (seen : List Batch) (input : Input) (step : Step) (output : Output) → IsOutputOf seen input step output → output.worker ≡ input.worker
-worker_is seen input (Query question) output (version, within, is) = ap (λ (o : Output). o.worker) is ∙ query_worker input.worker version (reply_in (held_of (take version seen)) question input.now)
-worker_is seen input (Insert taken) output (before, at, is) = ap (λ (o : Output). o.worker) is
-worker_is seen input (Tell kind body) output is = ap (λ (o : Output). o.worker) is
-
-worker_either : (seen : List Batch) (input : Input) (step : Step) (output : Output) → IsOutputOf seen input step output ⊎ IsSpent seen input step output → output.worker ≡ input.worker
-worker_either seen input step output (inl says) = worker_is seen input step output says
-worker_either seen input step output (inr spent) = ap (λ (o : Output). o.worker) spent.says
-
-pub answered_worker : (seen : List Batch) (input : Input) (output : Output) → IsAnswered seen input output → output.worker ≡ input.worker
-answered_worker seen input output answered = worker_either seen input answered.step output answered.says
-
 -- a frame that makes no call tells of none
-tells_none : (worker : ℕ) (kind : OutKind) (output : Output) (body : List ℕ) → is_call kind ≡ false → output.kind ≡ kind → output.version ≡ 0 → TellsCall output → ⊥
-tells_none worker kind output body none kind_is version (inl call) = false≢true (sym none ∙ sym (ap is_call kind_is) ∙ call)
-tells_none worker kind output body none kind_is version (inr last) = omega (arith, version, last)
+tells_none : (kind : OutKind) (output : Output) → is_call kind ≡ false → output.kind ≡ kind → is_call output.kind ≡ true → ⊥
+tells_none kind output none kind_is call = false≢true (sym none ∙ sym (ap is_call kind_is) ∙ call)
 
-upto_says : (seen : List Batch) (input : Input) (step : Step) (output : Output) → TellsNoCall step → IsOutputOf seen input step output → TellsCall output → output.version ≤ length seen
+upto_says : (seen : List Batch) (input : Input) (step : Step) (output : Output) → TellsNoCall step → IsOutputOf seen input step output → is_call output.kind ≡ true → output.version ≤ length seen
 upto_says seen input (Query question) output tells (version, within, is) call =
     let same = ap (λ (o : Output). o.version) is ∙ query_version input.worker version (reply_in (held_of (take version seen)) question input.now) in
     omega (arith, same, within)
@@ -102,38 +84,28 @@ upto_says seen input (Insert taken) output tells (before, at, is) call =
     let same = ap (λ (o : Output). o.version) is in
     let below = get_below seen before taken.batch at in
     omega (arith, same, below)
-upto_says seen input (Tell kind body) output tells is call =
-    absurd (tells_none input.worker kind output body tells.not_called (ap (λ (o : Output). o.kind) is) (ap (λ (o : Output). o.version) is) call)
-
-upto_either : (seen : List Batch) (input : Input) (step : Step) (output : Output) → TellsNoCall step → IsOutputOf seen input step output ⊎ IsSpent seen input step output → TellsCall output → output.version ≤ length seen
-upto_either seen input step output tells (inl says) call = upto_says seen input step output tells says call
-upto_either seen input step output tells (inr spent) call = let same = ap (λ (o : Output). o.version) spent.says in omega (arith, same, spent.met)
+upto_says seen input (Tell kind body) output tells is call = absurd (tells_none kind output tells.not_called (ap (λ (o : Output). o.kind) is) call)
 
 -- a call's version is among those seen
-upto : (seen : List Batch) (input : Input) (output : Output) → IsAnswered seen input output → TellsCall output → output.version ≤ length seen
-upto seen input output answered = upto_either seen input answered.step output (tells_no_call input answered.step answered.does) answered.says
+upto : (seen : List Batch) (input : Input) (output : Output) → IsAnswered seen input output → is_call output.kind ≡ true → output.version ≤ length seen
+upto seen input output answered = upto_says seen input answered.step output (tells_no_call input answered.step answered.does) answered.says
 
-call_step : (seen : List Batch) (input : Input) (step : Step) (output : Output) → TellsNoCall step → IsOutputOf seen input step output ⊎ IsSpent seen input step output → TellsCall output → IsCall step
-call_step seen input (Query question) output tells says call = tt
-call_step seen input (Insert taken) output tells says call = tt
-call_step seen input (Tell kind body) output tells (inl is) call =
-    tells_none input.worker kind output body tells.not_called (ap (λ (o : Output). o.kind) is) (ap (λ (o : Output). o.version) is) call
-call_step seen input (Tell kind body) output tells (inr spent) call = told_no_insert kind body spent.taken spent.inserts
-  where
-    told_no_insert : (kind : OutKind) (body : List ℕ) (taken : _) → Tell kind body ≡ Insert taken → ⊥
-    told_no_insert kind body taken same = cc
+call_step : (seen : List Batch) (input : Input) (step : Step) (output : Output) → TellsNoCall step → IsOutputOf seen input step output → is_call output.kind ≡ true → IsCall step
+call_step seen input (Query question) output tells is call = tt
+call_step seen input (Insert taken) output tells is call = tt
+call_step seen input (Tell kind body) output tells is call = tells_none kind output tells.not_called (ap (λ (o : Output). o.kind) is) call
 
 -- ---- a shift
 
 module _ {g : Ghosts Held Batch (Unit {0})} where
   in_turn : (before after : Seat Held Batch (Unit {0}) g) (input : Input) (earlier output : Output) → IsPrefix (seen_by before) (seen_by after) → IsDone before after input output
-      → (TellsCall earlier → earlier.version ≤ length (seen_by before)) → IsInTurn earlier output
+      → (is_call earlier.kind ≡ true → earlier.version ≤ length (seen_by before)) → IsInTurn earlier output
   in_turn before after input earlier output begins done within =
-      let is_version : TellsCall output → output.version ≡ length (seen_by after) =
+      let is_version : is_call output.kind ≡ true → output.version ≡ length (seen_by after) =
       λ call. done.version (call_step (seen_by after) input done.answered.step output (tells_no_call input done.answered.step done.answered.does) done.answered.says call) in
       record {
         never_back = λ first second. omega (arith, within first, prefix_length (seen_by before) (seen_by after) begins, is_version second);
-        rises = λ first placed. omega (arith, within first, done.rises placed, is_version (inl (placed_calls output.kind placed)));
+        rises = λ first placed. omega (arith, within first, done.rises placed, is_version (placed_calls output.kind placed));
       }
 
   shift_more : (before after : Seat Held Batch (Unit {0}) g) (placed : List ℕ) (inputs : List Input) (outputs : List Output) (input : Input) (output : Output)
@@ -146,7 +118,7 @@ module _ {g : Ghosts Held Batch (Unit {0})} where
         each = each;
         order = all_pairs_push IsInTurn outputs output shift.order
             (λ k d lt. in_turn before after input (get_or outputs k d) output begins done
-            (zip_at (IsAnswered (seen_by before)) (λ o. TellsCall o → o.version ≤ length (seen_by before)) (λ i o. upto (seen_by before) i o) inputs outputs shift.each k d lt));
+            (zip_at (IsAnswered (seen_by before)) (λ o. is_call o.kind ≡ true → o.version ≤ length (seen_by before)) (λ i o. upto (seen_by before) i o) inputs outputs shift.each k d lt));
         places = ap (λ l. l ++ places_of output) shift.places ∙ sym (spelling-push places_of outputs output);
         sound = zip_weaker (IsAnswered (seen_by after)) (IsSoundReply (seen_by after)) (answered_sound (seen_by after)) (inputs ++ input ∷ []) (outputs ++ output ∷ []) each;
       }
@@ -159,9 +131,11 @@ module _ {g : Ghosts Held Batch (Unit {0})} where
     own = All-nil (λ output. output.worker ≡ worker);
     worked = record {
       begins = prefix_self (seen_by seat);
+      same = tt;
       placed = [];
       places = sym (append-nil (places_by seat));
-      shift = record { each = tt; order = λ i j d lt lt'. absurd (omega arith); places = refl; sound = tt };
+      few = omega arith;
+      shift = λ few. record { each = tt; order = λ i j d lt lt'. absurd (omega arith); places = refl; sound = tt };
     };
   }
 
@@ -174,20 +148,48 @@ module _ {g : Ghosts Held Batch (Unit {0})} where
     worked = subst (λ l. HasWorked before after l work.outputs) (sym (other_push worker inputs input other)) work.worked;
   }
 
-  work_own : (worker : ℕ) (before now after : Seat Held Batch (Unit {0}) g) (inputs : List Input) (input : Input) (octets octets' : List ℕ) → input.worker ≡ worker → IsPrefix (seen_by now) (seen_by after) → DoesOneFrame now after input octets octets' → IsWork worker before now inputs octets → IsWork worker before after (inputs ++ input ∷ []) octets'
-  work_own worker before now after inputs input octets octets' same begins does work =
+  -- where the batch stands that the frame has placed, if it has placed one
+  record Places (before after : Seat Held Batch (Unit {0}) g) : Type 0 where
+    pub own : List ℕ
+    pub places : places_by after ≡ places_by before ++ own
+    pub one : length own ≤ 1
+
+  places_at_most : (before after : Seat Held Batch (Unit {0}) g) (input : Input) → HasPlacedAtMost before after input → Places before after
+  places_at_most before after input (inl same) = record { own = []; places = same ∙ sym (append-nil (places_by before)); one = omega arith }
+  places_at_most before after input (inr placed) = record { own = length placed.former ∷ []; places = placed.places; one = omega arith }
+
+  same_places : (before after : Seat Held Batch (Unit {0}) g) (input : Input) (output : Output) (places : Places before after) → IsDone before after input output → places_of output ≡ places.own
+  same_places before after input output places done = append_cancel_left (places_by before) (places_of output) places.own (sym done.places ∙ places.places)
+
+  module _ (before now after : Seat Held Batch (Unit {0}) g) (inputs : List Input) (outputs : List Output) (input : Input) (octets octets' : List ℕ)
+      (begins : IsPrefix (seen_by now) (seen_by after)) (does : DoesOneFrame now after input octets octets') (places : Places now after) (worked : HasWorked before now inputs outputs) where
+    shift_on : AreFewEnough (seen_by after) → IsShift (seen_by after) (worked.placed ++ places.own) (inputs ++ input ∷ []) (outputs ++ does.output ∷ [])
+    shift_on few =
+        let done = does.done few in
+        let before_few : AreFewEnough (seen_by now) = omega (arith, few, prefix_length (seen_by now) (seen_by after) begins) in
+        subst (λ l. IsShift (seen_by after) (worked.placed ++ l) (inputs ++ input ∷ []) (outputs ++ does.output ∷ [])) (same_places now after input does.output places done)
+        (shift_more now after worked.placed inputs outputs input does.output begins done (worked.shift before_few))
+
+    worked_more : HasWorked before after (inputs ++ input ∷ []) (outputs ++ does.output ∷ [])
+    worked_more = record {
+      begins = prefix_trans (seen_by before) (seen_by now) (seen_by after) worked.begins begins;
+      same = zip_push HasSameWorker inputs outputs input does.output worked.same does.worker;
+      placed = worked.placed ++ places.own;
+      places = places.places ∙ ap (λ l. l ++ places.own) worked.places ∙ append_assoc (places_by before) worked.placed places.own;
+      few = omega (arith, worked.few, places.one, length-append worked.placed places.own, length-append inputs (input ∷ []));
+      shift = shift_on;
+    }
+
+  work_own : (worker : ℕ) (before now after : Seat Held Batch (Unit {0}) g) (inputs : List Input) (input : Input) (octets octets' : List ℕ) → input.worker ≡ worker → IsPrefix (seen_by now) (seen_by after) → DoesOneFrame now after input octets octets' → HasPlacedAtMost now after input → IsWork worker before now inputs octets → IsWork worker before after (inputs ++ input ∷ []) octets'
+  work_own worker before now after inputs input octets octets' same begins does placed work =
       let output = does.output in
       record {
         outputs = work.outputs ++ output ∷ [];
         written = does.writes.written ∙ ap (λ l. l ++ output_spelling output) work.written ∙ sym (spelling-push output_spelling work.outputs output);
         valid = All-push IsOutput work.outputs output work.valid does.writes.valid;
-        own = All-push (λ o. o.worker ≡ worker) work.outputs output work.own (answered_worker (seen_by after) input output does.done.answered ∙ same);
-        worked = subst (λ l. HasWorked before after l (work.outputs ++ output ∷ [])) (sym (own_push worker inputs input same)) (record {
-          begins = prefix_trans (seen_by before) (seen_by now) (seen_by after) work.worked.begins begins;
-          placed = work.worked.placed ++ places_of output;
-          places = does.done.places ∙ ap (λ l. l ++ places_of output) work.worked.places ∙ append_assoc (places_by before) work.worked.placed (places_of output);
-          shift = shift_more now after work.worked.placed (inputs_of worker inputs) work.outputs input output begins does.done work.worked.shift;
-        });
+        own = All-push (λ o. o.worker ≡ worker) work.outputs output work.own (does.worker ∙ same);
+        worked = subst (λ l. HasWorked before after l (work.outputs ++ output ∷ [])) (sym (own_push worker inputs input same))
+            (worked_more before now after (inputs_of worker inputs) work.outputs input octets octets' begins does (places_at_most now after input placed) work.worked);
       }
 
   -- some of the frames are done, the worker's own by so many calls, and the rest spells the others
@@ -218,7 +220,7 @@ module _ {g : Ghosts Held Batch (Unit {0})} where
       noted_next : AreNoted worker (way.walk.done ++ input ∷ []) way.work.outputs cuts' passed'
       noted_next = noted_input worker way.walk.done way.work.outputs cuts passed way.noted input here cuts' passed'
           (noted_here worker way.walk.done way.walk.left inputs way.work.outputs whole rest octets here way.walk.split spelled.0 way.walk.spelled.0 way.work.written
-          (sym (AllZip-long (IsAnswered (seen_by now)) (inputs_of worker way.walk.done) way.work.outputs way.work.worked.shift.each)) from place) passes
+          (sym (AllZip-long HasSameWorker (inputs_of worker way.walk.done) way.work.outputs way.work.worked.same)) from place) passes
 
       pub frame_other : (input.worker ≡ worker → ⊥) → IsUnderWay worker before now inputs after calls octets cuts' passed'
       unfolding work_other
@@ -229,12 +231,12 @@ module _ {g : Ghosts Held Batch (Unit {0})} where
         noted = noted_next;
       }
 
-      pub frame_own : (seat : Seat Held Batch (Unit {0}) g) (octets' : List ℕ) → input.worker ≡ worker → IsPrefix (seen_by now) (seen_by seat) → DoesOneFrame now seat input octets octets' → IsUnderWay worker before seat inputs after (calls + 1) octets' cuts' passed'
+      pub frame_own : (seat : Seat Held Batch (Unit {0}) g) (octets' : List ℕ) → input.worker ≡ worker → IsPrefix (seen_by now) (seen_by seat) → DoesOneFrame now seat input octets octets' → HasPlacedAtMost now seat input → IsUnderWay worker before seat inputs after (calls + 1) octets' cuts' passed'
       unfolding work_own
-      frame_own seat octets' same begins does = record {
+      frame_own seat octets' same begins does placed = record {
         walk = record { done = way.walk.done ++ input ∷ []; left = next.0; split = split_next inputs rest way.walk input next.0 next.1; spelled = next.2 };
         few = omega (arith, way.few, length-append way.walk.done (input ∷ []));
-        work = work_own worker before now seat way.walk.done input octets octets' same begins does way.work;
+        work = work_own worker before now seat way.walk.done input octets octets' same begins does placed way.work;
         noted = noted_output worker (way.walk.done ++ input ∷ []) way.work.outputs cuts' passed' noted_next does.output;
       }
 

@@ -1,6 +1,6 @@
 -- What one frame does over a seat.
-use Rattle.std.proofs.Common.{◌≡◌, ℕ, ◌+◌, ◌-◌, ◌⊎◌, inl, inr, Bool, false, cond, List, [], ◌∷◌, ◌++◌, length, take, Option, None, Some, slice_get, refl, sym, ◌∙◌, ap, subst, arith, length-append}
-use Rattle.std.specs.Prelude.{Result, Ok, Err, OnOk, OnErr}
+use Rattle.std.proofs.Common.{◌≡◌, ℕ, ◌+◌, ◌-◌, ◌^◌, ◌≤◌, ◌⊎◌, inl, inr, Bool, false, cond, List, [], ◌∷◌, ◌++◌, length, take, Option, slice_get, refl, sym, ◌∙◌, ap, subst, arith, length-append}
+use Rattle.std.specs.Prelude.{Result, Ok, Err, OnOk}
 use Rattle.std.proofs.lemmas.Bool.{false≢true}
 use Rattle.std.proofs.lemmas.List.{append-nil, take_all}
 use Rattle.facts.proofs.Lists.{at_end}
@@ -23,16 +23,18 @@ use Rattle.reply_core.specs.Answered.{reply_in}
 use Rattle.replay_meaning.specs.Frame.{Input}
 use Rattle.replay_meaning.specs.OutFrame.{Output}
 use Rattle.replay_meaning.specs.Outcome.{stored_octets}
-use Rattle.replay_meaning.specs.Step.{Step, Query, Insert, Tell, query_step, answer_step, DoesBy, Does}
-use Rattle.replay_meaning.specs.Fits.{IsOutputOf, is_placed, query_output, told_output}
+use Rattle.replay_meaning.specs.Step.{Query, Insert, Tell, query_step, answer_step, DoesBy, Does}
+use Rattle.replay_meaning.specs.Fits.{is_placed, query_output, told_output}
 use Rattle.replay_meaning.specs.Sound.{IsSoundReply}
 use Rattle.replay_meaning.specs.declared.frame.FrameKind.TheVariants as kinds
 use Rattle.replay_meaning.specs.declared.out_frame.OutKind.{OutKind}
-use Rattle.replay_meaning.specs.declared.out_frame.OutKind.TheVariants.{Reply, Stored, Refused}
+use Rattle.replay_meaning.specs.declared.out_frame.OutKind.TheVariants.{Stored}
 use Rattle.replay_meaning.proofs.SoundLemmas.{replies_are_sound}
 use Rattle.replay_meaning.proofs.StepLemmas.{tells_no_call}
-use Rattle.worker_seats.specs.Answer.{LAST, IsSpent, IsAnswered}
-use Rattle.worker_seats.specs.OneFrame.{DoesOneFrame, Writes, places_of}
+use Rattle.replay_meaning.proofs.OneOutputLemmas.{query_worker}
+use Rattle.worker_seats.specs.Answer.{IsAnswered}
+use Rattle.worker_seats.specs.OneFrame.{DoesOneFrame, IsDone, Writes, WritesCall, places_of}
+use Rattle.worker_seats.proofs.AnswerLemmas.{answered_for, query_places_none, query_version}
 
 pub on_ok : {T E P Q : Type 0} (r : Result T E) → (P → Q) → OnOk r P → OnOk r Q
 on_ok (Ok x) f p = f p
@@ -42,22 +44,11 @@ pub on_both : {T E P Q R : Type 0} (r : Result T E) → (P → Q → R) → OnOk
 on_both (Ok x) f p q = f p q
 on_both (Err e) f p q = tt
 
-pub on_err : {T E P : Type 0} (r : Result T E) → P → OnErr r P
-on_err (Ok x) p = tt
-on_err (Err e) p = p
-
 -- ---- replies
 
-sound_either : (seen : List Batch) (input : Input) (step : Step) (output : Output) → Does input step → IsOutputOf seen input step output ⊎ IsSpent seen input step output → IsSoundReply seen input output
-sound_either seen input step output does (inl says) =
-    (replies_are_sound (input.worker + 1) seen (input ∷ []) (output ∷ []) (record { below = omega arith; step = step; does = does; says = says }, tt)).0
-sound_either seen input step output does (inr spent) = λ reply. absurd (refused_is_no_reply (sym (ap (λ (o : Output). o.kind) spent.says) ∙ reply))
-  where
-    refused_is_no_reply : Refused ≡ Reply → ⊥
-    refused_is_no_reply same = cc
-
 pub answered_sound : (seen : List Batch) (input : Input) (output : Output) → IsAnswered seen input output → IsSoundReply seen input output
-answered_sound seen input output answered = sound_either seen input answered.step output answered.does answered.says
+answered_sound seen input output answered =
+    (replies_are_sound (input.worker + 1) seen (input ∷ []) (output ∷ []) (answered_for (input.worker + 1) seen input output (omega arith) answered, tt)).0
 
 -- ---- places
 
@@ -69,18 +60,15 @@ same_places places output none = sym (append-nil places) ∙ ap (λ l. places ++
 
 -- ---- steps
 
-query_places_none : (worker version : ℕ) (reply : Option (List ℕ)) → is_placed (query_output worker version reply).kind ≡ false
-query_places_none worker version None = refl
-query_places_none worker version (Some octets) = refl
-
 module _ {g : Ghosts Held Batch (Unit {0})} where
   pub told_frame : (seat : Seat Held Batch (Unit {0}) g) (input : Input) (kind : OutKind) (body octets octets' : List ℕ) → Does input (Tell kind body) → Writes (told_output input.worker kind body) octets octets' → DoesOneFrame seat seat input octets octets'
   told_frame seat input kind body octets octets' does writes =
       let none = tells_no_call input (Tell kind body) does in
-      let answered : IsAnswered (seen_by seat) input (told_output input.worker kind body) = record { step = Tell kind body; does = does; says = inl refl } in
+      let answered : IsAnswered (seen_by seat) input (told_output input.worker kind body) = record { step = Tell kind body; does = does; says = refl } in
       record {
         output = told_output input.worker kind body;
-        done = record {
+        worker = refl;
+        done = λ few. record {
           answered = answered;
           version = λ call. absurd call;
           rises = λ placed. absurd (false≢true (sym none.not_placed ∙ placed));
@@ -91,9 +79,19 @@ module _ {g : Ghosts Held Batch (Unit {0})} where
         writes = writes;
       }
 
+  call_frame : (before after : Seat Held Batch (Unit {0}) g) (input : Input) (output : Output) (octets octets' : List ℕ)
+      → output.worker ≡ input.worker → output.version ≡ length (seen_by after) → IsDone before after input output
+      → WritesCall output octets octets' → DoesOneFrame before after input octets octets'
+  call_frame before after input output octets octets' worker version done writes = record {
+    output = writes.told;
+    worker = writes.worker ∙ worker;
+    done = λ few. subst (IsDone before after input) (sym (writes.same (omega (arith, few, version)))) done;
+    writes = writes.writes;
+  }
+
   pub asked_frame : (before after : Seat Held Batch (Unit {0}) g) (input : Input) (question : Question) (version : ℕ) (found : Option (List ℕ)) (octets octets' : List ℕ)
       → Does input (Query question) → version ≡ length (seen_by after) → reply_in (held_of (seen_by after)) question input.now ≡ found → places_by after ≡ places_by before
-      → Writes (query_output input.worker version found) octets octets' → DoesOneFrame before after input octets octets'
+      → WritesCall (query_output input.worker version found) octets octets' → DoesOneFrame before after input octets octets'
   asked_frame before after input question version found octets octets' does version_is found_is same writes =
       let output : Output = query_output input.worker version found in
       let none = query_places_none input.worker version found in
@@ -101,76 +99,53 @@ module _ {g : Ghosts Held Batch (Unit {0})} where
       let answered : IsAnswered (seen_by after) input output = record {
         step = Query question;
         does = does;
-        says = inl (version, omega (arith, version_is), ap (query_output input.worker version) (sym found_is ∙ ap (λ (l : List Batch). reply_in (held_of l) question input.now) (sym all)));
+        says = (version, omega (arith, version_is), ap (query_output input.worker version) (sym found_is ∙ ap (λ (l : List Batch). reply_in (held_of l) question input.now) (sym all)));
       } in
-      record {
-        output = output;
-        done = record {
-          answered = answered;
-          version = λ call. version_of_query input.worker version found ∙ version_is;
-          rises = λ placed. absurd (false≢true (sym none ∙ placed));
-          places = same ∙ same_places (places_by before) output none;
-          idle = λ no_call. absurd (no_call tt);
-          sound = answered_sound (seen_by after) input output answered;
-        };
-        writes = writes;
-      }
-    where
-      version_of_query : (worker version : ℕ) (reply : Option (List ℕ)) → (query_output worker version reply).version ≡ version
-      version_of_query worker version None = refl
-      version_of_query worker version (Some octets) = refl
+      let told : output.version ≡ length (seen_by after) = query_version input.worker version found ∙ version_is in
+      call_frame before after input output octets octets' (query_worker input.worker version found) told (record {
+        answered = answered;
+        version = λ call. told;
+        rises = λ placed. absurd (false≢true (sym none ∙ placed));
+        places = same ∙ same_places (places_by before) output none;
+        idle = λ no_call. absurd (no_call tt);
+        sound = answered_sound (seen_by after) input output answered;
+      }) writes
 
   pub placed_frame : (before after : Seat Held Batch (Unit {0}) g) (input : Input) (taken : Taken) (p : Placed Held Batch (Unit {0}) g) (body octets octets' : List ℕ)
       → Does input (Insert taken) → Inserted before after taken.batch p → body ≡ stored_octets taken
-      → Writes (record { kind = Stored; worker = input.worker; version = p.version; body = body }) octets octets' → DoesOneFrame before after input octets octets'
+      → WritesCall (record { kind = Stored; worker = input.worker; version = p.version; body = body }) octets octets' → DoesOneFrame before after input octets octets'
   placed_frame before after input taken p body octets octets' does inserted body_is writes =
       let output : Output = record { kind = Stored; worker = input.worker; version = p.version; body = body } in
       let grown : length (seen_by after) ≡ length inserted.former + 1 = ap length inserted.seen ∙ length-append inserted.former (taken.batch ∷ []) in
       let answered : IsAnswered (seen_by after) input output = record {
         step = Insert taken;
         does = does;
-        says = inl (
+        says = (
           length inserted.former,
           ap (λ l. slice_get l (length inserted.former)) inserted.seen ∙ at_end inserted.former taken.batch,
           λ i. record { kind = Stored; worker = input.worker; version = inserted.version i; body = body_is i },
         );
       } in
       let place : p.version - 1 ≡ length inserted.former = omega (arith, inserted.version) in
-      record {
-        output = output;
-        done = record {
-          answered = answered;
-          version = λ call. inserted.version ∙ sym grown;
-          rises = λ placed. omega (arith, prefix_length (seen_by before) inserted.former inserted.begins, grown);
-          places = inserted.places ∙ ap (λ n. places_by before ++ n ∷ []) (sym place);
-          idle = λ no_call. absurd (no_call tt);
-          sound = answered_sound (seen_by after) input output answered;
-        };
-        writes = writes;
-      }
+      let told : p.version ≡ length (seen_by after) = inserted.version ∙ sym grown in
+      call_frame before after input output octets octets' refl told (record {
+        answered = answered;
+        version = λ call. told;
+        rises = λ placed. omega (arith, prefix_length (seen_by before) inserted.former inserted.begins, grown);
+        places = inserted.places ∙ ap (λ n. places_by before ++ n ∷ []) (sym place);
+        idle = λ no_call. absurd (no_call tt);
+        sound = answered_sound (seen_by after) input output answered;
+      }) writes
 
-  pub spent_frame : (before after : Seat Held Batch (Unit {0}) g) (input : Input) (taken : Taken) (version : ℕ) (octets octets' : List ℕ)
-      → Does input (Insert taken) → version ≡ length (seen_by after) → version ≡ LAST → places_by after ≡ places_by before
-      → Writes (record { kind = Refused; worker = input.worker; version = version; body = 8 ∷ [] }) octets octets' → DoesOneFrame before after input octets octets'
-  spent_frame before after input taken version octets octets' does version_is last same writes =
-      let output : Output = record { kind = Refused; worker = input.worker; version = version; body = 8 ∷ [] } in
-      let answered : IsAnswered (seen_by after) input output = record {
-        step = Insert taken;
-        does = does;
-        says = inr (record { taken = taken; inserts = refl; met = omega (arith, version_is, last); says = ap (λ (n : ℕ). record { kind = Refused; worker = input.worker; version = n; body = 8 ∷ [] }) last });
-      } in
-      record {
-        output = output;
-        done = record {
-          answered = answered;
-          version = λ call. version_is;
-          rises = λ placed. absurd (false≢true placed);
-          places = same ∙ same_places (places_by before) output refl;
-          idle = λ no_call. absurd (no_call tt);
-          sound = answered_sound (seen_by after) input output answered;
-        };
-        writes = writes;
-      }
+  -- more batches were seen than a frame can tell
+  pub spent_frame : (before after : Seat Held Batch (Unit {0}) g) (input : Input) (output : Output) (octets octets' : List ℕ)
+      → output.worker ≡ input.worker → 2 ^ 32 ≤ length (seen_by after) → Writes output octets octets' → DoesOneFrame before after input octets octets'
+  spent_frame before after input output octets octets' worker many writes = record {
+    output = output;
+    worker = worker;
+    done = λ few. absurd (omega (arith, few, many));
+    writes = writes;
+  }
 
 -- ---- what a frame does
 

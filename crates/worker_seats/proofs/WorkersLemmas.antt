@@ -11,14 +11,13 @@ use Rattle.cache_meaning.specs.Held.{Held}
 use Rattle.cache_versions.specs.declared.state.State.{Ghosts}
 use Rattle.cache_versions.specs.declared.seat.Seat.{Seat}
 use Rattle.cache_versions.specs.Rows.{AreNumbered}
-use Rattle.cache_versions.specs.Seats.{number_by, seen_by}
+use Rattle.cache_versions.specs.Seats.{number_by}
 use Rattle.replay_meaning.specs.Frame.{Input}
 use Rattle.replay_meaning.specs.OutFrame.{Output, IsOutput}
 use Rattle.replay_meaning.proofs.FrameLemmas.{outputs_have_one}
-use Rattle.worker_seats.specs.Answer.{IsAnswered}
 use Rattle.worker_seats.specs.Merge.{AreOutputsOf, AreMerged}
 use Rattle.worker_seats.specs.Work.{IsWork}
-use Rattle.worker_seats.specs.Workers.{HasWorked, HaveWorked, inputs_of, outputs_of}
+use Rattle.worker_seats.specs.Workers.{HasSameWorker, HasWorked, HaveWorked, inputs_of, outputs_of}
 
 -- ---- lists
 
@@ -67,7 +66,7 @@ module _ {g : Ghosts Held Batch (Unit {0})} {X : Type 0} (seat_of : X → Seat H
     written = work.written;
     valid = work.valid;
     own = work.own;
-    many = AllZip-long (IsAnswered (seen_by (seat_of part))) (inputs_of worker inputs) work.outputs work.worked.shift.each;
+    many = AllZip-long HasSameWorker (inputs_of worker inputs) work.outputs work.worked.same;
   }
 
   pub worked_all : (before : List (Seat Held Batch (Unit {0}) g)) (parts : List X) (inputs : List Input) (octets : List ℕ) → length parts ≡ length before → EachWorked before parts inputs → AreMerged (map octets_of parts) inputs octets → HaveWorked before (map seat_of parts) inputs octets

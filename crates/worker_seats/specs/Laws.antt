@@ -1,5 +1,5 @@
 -- What the workers of a cache did fits, once the cache is closed.
-use Rattle.std.specs.Prelude.{◌≡◌, ℕ, ◌<◌, ◌^◌, List, [], length, slice_index_or}
+use Rattle.std.specs.Prelude.{◌≡◌, ℕ, ◌<◌, ◌≤◌, ◌^◌, List, [], length, slice_index_or}
 use Rattle.std.specs.List.{All, AllZip, flat_map}
 use mathlib.Core.List.{IsPrefix}
 use Rattle.denial_records.specs.declared.batch.Batch.{Batch}
@@ -8,6 +8,7 @@ use Rattle.replay_meaning.specs.Frame.{Input}
 use Rattle.replay_meaning.specs.OutFrame.{Output}
 use Rattle.replay_meaning.specs.Fits.{Fits}
 use Rattle.replay_meaning.specs.Sound.{IsSoundReply}
+use Rattle.worker_seats.specs.Answer.{AreFewEnough}
 use Rattle.worker_seats.specs.Shift.{IsShift}
 use Rattle.worker_seats.specs.Workers.{HasSameWorker, inputs_of, outputs_of}
 
@@ -21,8 +22,10 @@ pub record AreShifts (workers : ℕ) (journal : List Batch) (inputs : List Input
   pub all : length placed ≡ workers
   pub begins : (worker : ℕ) → worker < workers → IsPrefix (seen worker) journal
   pub once : AreAllBelow (length journal) (flat_map (λ places. places) placed)
+  -- each frame has placed one batch at most
+  pub few : (worker : ℕ) → worker < workers → length (slice_index_or placed worker []) ≤ length (inputs_of worker inputs)
   pub shifts :
-      (worker : ℕ) → worker < workers
+      (worker : ℕ) → worker < workers → AreFewEnough (seen worker)
       → IsShift (seen worker) (slice_index_or placed worker []) (inputs_of worker inputs) (outputs_of worker outputs)
 
 -- the outputs fit the inputs where the batches of the journal are placed, and each reply is sound

@@ -1,5 +1,5 @@
 -- What one frame does over its worker's seat, and writes at the end of the output.
-use Rattle.std.specs.Prelude.{◌≡◌, ℕ, ◌-◌, ◌<◌, ◌⊎◌, true, cond, List, [], ◌∷◌, ◌++◌, length}
+use Rattle.std.specs.Prelude.{◌≡◌, ℕ, ◌-◌, ◌<◌, ◌^◌, ◌⊎◌, true, cond, List, [], ◌∷◌, ◌++◌, length}
 use mathlib.Core.List.{IsPrefix}
 use Rattle.denial_records.specs.declared.batch.Batch.{Batch}
 use Rattle.intake.specs.Batch.{IsTaken}
@@ -16,7 +16,7 @@ use Rattle.replay_meaning.specs.Sound.{IsSoundReply}
 use Rattle.replay_meaning.specs.declared.frame.Frame.{Frame}
 use Rattle.replay_meaning.specs.declared.frame.FrameKind.TheVariants.{Upstream}
 use Rattle.replay_meaning.specs.declared.out_frame.OutKind.{OutKind}
-use Rattle.worker_seats.specs.Answer.{IsAnswered}
+use Rattle.worker_seats.specs.Answer.{AreFewEnough, IsAnswered}
 
 -- ---- octets
 
@@ -28,6 +28,13 @@ output_for frame kind version body = record { kind = kind; worker = frame.worker
 pub record Writes (output : Output) (before after : List ℕ) : Type 0 where
   pub valid : IsOutput output
   pub written : after ≡ before ++ output_spelling output
+
+-- the octets have got a frame of the worker at their end, which is this one if there is room for its version
+pub record WritesCall (output : Output) (before after : List ℕ) : Type 0 where
+  pub told : Output
+  pub worker : told.worker ≡ output.worker
+  pub same : output.version < 2 ^ 32 → told ≡ output
+  pub writes : Writes told before after
 
 -- ---- the seat
 
@@ -54,10 +61,12 @@ module _ {g : Ghosts Held Batch (Unit {0})} where
     pub idle : (IsCall answered.step → ⊥) → after ≡ before
     pub sound : IsSoundReply (seen_by after) input output
 
-  -- such a frame is done, and the octets have got its output at their end
+  -- Such a frame is done, and the octets have got its output at their end. If more batches were seen than an output can tell, it
+  -- may be any of the worker: a run of fewer frames never comes there.
   pub record DoesOneFrame (before after : Seat Held Batch (Unit {0}) g) (input : Input) (octets octets' : List ℕ) : Type 0 where
     pub output : Output
-    pub done : IsDone before after input output
+    pub worker : output.worker ≡ input.worker
+    pub done : AreFewEnough (seen_by after) → IsDone before after input output
     pub writes : Writes output octets octets'
 
   -- The frame is an upstream answer, and what intake takes of it is the last batch seen, behind a journal that begins with what

@@ -1,22 +1,18 @@
 -- What one worker did with its own frames, in their order.
-use Rattle.std.specs.Prelude.{◌≡◌, ℕ, ◌<◌, ◌≤◌, ◌⊎◌, true, List, AllPairs}
+use Rattle.std.specs.Prelude.{◌≡◌, ℕ, ◌<◌, ◌≤◌, true, List, AllPairs}
 use Rattle.std.specs.List.{AllZip, flat_map}
 use Rattle.denial_records.specs.declared.batch.Batch.{Batch}
 use Rattle.replay_meaning.specs.Frame.{Input}
 use Rattle.replay_meaning.specs.OutFrame.{Output}
 use Rattle.replay_meaning.specs.Fits.{is_call, is_placed}
 use Rattle.replay_meaning.specs.Sound.{IsSoundReply}
-use Rattle.worker_seats.specs.Answer.{LAST, IsAnswered}
+use Rattle.worker_seats.specs.Answer.{IsAnswered}
 use Rattle.worker_seats.specs.OneFrame.{places_of}
-
--- the output tells of a call: of a version that was read or made, or of the last one, which an insert met
-abbrev pub TellsCall : Output → Type 0
-TellsCall output = (is_call output.kind ≡ true) ⊎ (output.version ≡ LAST)
 
 -- of two calls of a worker the later has no lower version, and a higher one where it places a batch
 pub record IsInTurn (earlier later : Output) : Type 0 where
-  pub never_back : TellsCall earlier → TellsCall later → earlier.version ≤ later.version
-  pub rises : TellsCall earlier → is_placed later.kind ≡ true → earlier.version < later.version
+  pub never_back : is_call earlier.kind ≡ true → is_call later.kind ≡ true → earlier.version ≤ later.version
+  pub rises : is_call earlier.kind ≡ true → is_placed later.kind ≡ true → earlier.version < later.version
 
 -- where the worker's seat has seen these batches in the end, and has placed batches at these places of them
 pub record IsShift (seen : List Batch) (placed : List ℕ) (inputs : List Input) (outputs : List Output) : Type 0 where

@@ -1,5 +1,5 @@
 -- What all workers did, each over its own seat.
-use Rattle.std.specs.Prelude.{◌≡◌, ℕ, ◌<◌, ◌==◌, List, ◌++◌, length, filter, slice_index_or}
+use Rattle.std.specs.Prelude.{◌≡◌, ℕ, ◌<◌, ◌≤◌, ◌==◌, List, ◌++◌, length, filter, slice_index_or}
 use Rattle.std.specs.List.{All, AllZip}
 use mathlib.Core.List.{IsPrefix}
 use Rattle.denial_records.specs.declared.batch.Batch.{Batch}
@@ -9,6 +9,7 @@ use Rattle.cache_versions.specs.declared.seat.Seat.{Seat}
 use Rattle.cache_versions.specs.Seats.{places_by, seen_by}
 use Rattle.replay_meaning.specs.Frame.{Input}
 use Rattle.replay_meaning.specs.OutFrame.{Output, IsOutput, outputs_spelling}
+use Rattle.worker_seats.specs.Answer.{AreFewEnough}
 use Rattle.worker_seats.specs.Shift.{IsShift}
 
 -- the frames of one worker, in their order
@@ -25,9 +26,12 @@ module _ {g : Ghosts Held Batch (Unit {0})} where
   -- a worker did its frames, and this is what its seat was before and is after
   pub record HasWorked (before after : Seat Held Batch (Unit {0}) g) (inputs : List Input) (outputs : List Output) : Type 0 where
     pub begins : IsPrefix (seen_by before) (seen_by after)
+    pub same : AllZip HasSameWorker inputs outputs
     pub placed : List ℕ
     pub places : places_by after ≡ places_by before ++ placed
-    pub shift : IsShift (seen_by after) placed inputs outputs
+    -- each frame has placed one batch at most
+    pub few : length placed ≤ length inputs
+    pub shift : AreFewEnough (seen_by after) → IsShift (seen_by after) placed inputs outputs
 
   -- every worker did its frames, over the seat at its number, and the octets are the outputs in the order of the inputs
   pub record HaveWorked (before after : List (Seat Held Batch (Unit {0}) g)) (inputs : List Input) (octets : List ℕ) : Type 0 where

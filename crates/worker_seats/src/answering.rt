@@ -11,7 +11,7 @@ ghost use Rattle.replay_meaning.specs.Outcome.{stored_octets, refusal_code};
 ghost use Rattle.replay_meaning.specs.declared.frame.FrameKind.{FrameKind};
 ghost use Rattle.replay_meaning.specs.declared.out_frame.OutKind.{OutKind};
 ghost use Rattle.dnswire.specs.declared.query_read.QueryRead.{QueryRead};
-ghost use Rattle.worker_seats.specs.OneFrame.{DoesOneFrame, HasPlacedAtMost, Writes, output_for};
+ghost use Rattle.worker_seats.specs.OneFrame.{DoesOneFrame, HasPlacedAtMost, Writes, WritesCall, output_for};
 
 use dname::OutOfMemory;
 use dnswire::{Head, QueryRead, Question, read_query};
@@ -23,7 +23,7 @@ use resolver::{CacheFault, CacheSeat, Outcome, SharedCache};
 use std::alloc::{AllocError, Global};
 use std::sync::Wait;
 
-/// The code of an insert that met the last version.
+/// The code of a call whose version has no number that an output frame can tell.
 const NUMBERS_SPENT: u8 = 8;
 
 /// Does what the frame asks of the cache, and writes the frame of the output at the end of `out`. The buffer serves replies.
@@ -44,8 +44,7 @@ pub fn one_frame<R: Wait>(
     ensures done { OnOk result (DoesOneFrame
         seat.old seat.new (input_of frame.entry.now) out.old.items out.new.items) }
     ensures kept { OnErr result (out.new.items ≡ out.old.items) }
-    ensures placed { OnErr result (HasPlacedAtMost
-        seat.old seat.new (input_of frame.entry.now)) }
+    ensures placed { HasPlacedAtMost seat.old seat.new (input_of frame.entry.now) }
 {
     match frame.kind {
         FrameKind::Query => query_frame(cache, seat, frame, reply, out),
@@ -101,9 +100,9 @@ fn ask(
 {
     match cache.query(seat, question, frame.now, reply) {
         Outcome::Answered { version } => {
-            write_output(frame, OutKind::Reply, version, reply.as_slice(), out)
+            write_call(frame, OutKind::Reply, version, reply.as_slice(), out)
         }
-        Outcome::Forward { version } => write_output(frame, OutKind::Forward, version, &[], out),
+        Outcome::Forward { version } => write_call(frame, OutKind::Forward, version, &[], out),
     }
 }
 
@@ -123,8 +122,7 @@ fn upstream_frame<R: Wait>(
     ensures done { OnOk result (DoesOneFrame
         seat.old seat.new (input_of frame.entry.now) out.old.items out.new.items) }
     ensures kept { OnErr result (out.new.items ≡ out.old.items) }
-    ensures placed { OnErr result (HasPlacedAtMost
-        seat.old seat.new (input_of frame.entry.now)) }
+    ensures placed { HasPlacedAtMost seat.old seat.new (input_of frame.entry.now) }
 {
     match batch_of(alloc, frame.message, frame.now) {
         Ok(taken) => insert(rt, alloc, cache, seat, frame, taken, out),
@@ -151,17 +149,45 @@ fn insert<R: Wait>(
     ensures done { OnOk result (DoesOneFrame
         seat.old seat.new (input_of frame.entry.now) out.old.items out.new.items) }
     ensures kept { OnErr result (out.new.items ≡ out.old.items) }
-    ensures placed { OnErr result (HasPlacedAtMost
-        seat.old seat.new (input_of frame.entry.now)) }
+    ensures placed { HasPlacedAtMost seat.old seat.new (input_of frame.entry.now) }
 {
     let body = stored_body(&taken);
-    match cache.insert(rt, alloc, seat, taken.batch) {
-        Ok(placed) => write_output(frame, OutKind::Stored, placed.version, &body, out),
-        Err(CacheFault::NumbersSpent { version }) => {
-            write_output(frame, OutKind::Refused, version, &[NUMBERS_SPENT], out)
-        }
+    match cache.insert(rt, alloc, seat, &taken.batch) {
+        Ok(placed) => write_call(frame, OutKind::Stored, placed.version, &body, out),
+        Err(CacheFault::NumbersSpent { .. }) => write_spent_output(frame, out),
         Err(CacheFault::OutOfMemory) => Err(AllocError),
     }
+}
+
+// Writes the output frame of a call at the end of `out`. Where it has no room for the version, it says so: that takes more
+// batches than a run has frames.
+fn write_call(
+    frame: &Frame<'_>,
+    kind: OutKind,
+    version: u64,
+    body: &[u8],
+    out: &mut Vec<u8>,
+) -> Result<(), OutOfMemory>
+    requires { length body.now < 2 ^ 16 }
+    ensures written { OnOk result
+        (WritesCall (output_for frame.entry.now kind version body.now)
+        out.old.items out.new.items) }
+    ensures kept { OnErr result (out.new.items ≡ out.old.items) }
+{
+    match u32::try_from(version) {
+        Ok(version) => write_output(frame, kind, version, body, out),
+        Err(_) => write_spent_output(frame, out),
+    }
+}
+
+// Writes the frame of a call whose version has no number that a frame can tell.
+fn write_spent_output(frame: &Frame<'_>, out: &mut Vec<u8>) -> Result<(), OutOfMemory>
+    ensures written { OnOk result
+        (Writes (output_for frame.entry.now OutKind.Refused 4_294_967_295 (8 ∷ []))
+        out.old.items out.new.items) }
+    ensures kept { OnErr result (out.new.items ≡ out.old.items) }
+{
+    write_output(frame, OutKind::Refused, u32::MAX, &[NUMBERS_SPENT], out)
 }
 
 // Writes the output frame for this one at the end of `out`.

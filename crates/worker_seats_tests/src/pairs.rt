@@ -179,7 +179,7 @@ fn pairs_written<R: Threads + Wait + Sync>(rt: &R, alloc: Global) -> Result<Writ
 #[test]
 fn each_pair_is_stored_and_answered(rt: HostRuntime) -> Result<(), Fail> {
     let (octets, placed) = pairs_written(&rt, rt.alloc())?;
-    assert!(rt; placed == PLACED, "{placed}");
+    assert!(rt; placed == PLACED as u64, "{placed}");
     assert!(rt; all_answered(rt.alloc(), &octets)?);
     Ok(())
 }

@@ -29,7 +29,7 @@ fn spelled(alloc: Global, frames: &[Frame<'_>]) -> Result<Vec<u8>, OutOfMemory> 
 }
 
 /// What workers write, and how many batches they place.
-pub type Written = (Vec<u8>, usize);
+pub type Written = (Vec<u8>, u64);
 
 /// What the workers write of the frames, and how many batches they place.
 pub fn written<R: Threads + Wait + Sync, G: Gate>(
@@ -64,7 +64,7 @@ pub fn written<R: Threads + Wait + Sync, G: Gate>(
             {
                 return Err("a failed write")?;
             }
-            Ok((octets, closed.journal().len()))
+            Ok((octets, closed.number()))
         }
         Err(fault) => {
             cache.give_up(rt);
@@ -74,7 +74,7 @@ pub fn written<R: Threads + Wait + Sync, G: Gate>(
 }
 
 /// What was written, unless it is these octets and so many batches are placed.
-pub fn otherwise(found: Written, octets: &[u8], placed: usize) -> Option<Written> {
+pub fn otherwise(found: Written, octets: &[u8], placed: u64) -> Option<Written> {
     if found.0.as_slice() == octets && found.1 == placed {
         None
     } else {

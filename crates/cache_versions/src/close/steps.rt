@@ -1,17 +1,16 @@
 //! How a shared object is closed.
-ghost use Rattle.std.specs.Prelude.{◌≡◌, ◌==◌, Some, All, IsSome, fold, length, map};
+ghost use Rattle.std.specs.Prelude.{◌≡◌, All, fold, length};
 ghost use Rattle.std.specs.List.{flat_map};
-ghost use Rattle.std.specs.Map.{lookup};
 ghost use mathlib.Core.List.{IsPrefix};
 ghost use Rattle.tied_lock.specs.Locked.{key_of};
-ghost use Rattle.cache_versions.specs.Closes.{journal_at, opening_at, seat_of, seats_at};
+ghost use Rattle.cache_versions.specs.Closes.{journal_at, opening_at};
 ghost use Rattle.cache_versions.specs.Hands.{AreAllBelow, both_in_hand, in_hand};
 ghost use Rattle.cache_versions.specs.Kin.{Begins, Kin, journal_of};
 ghost use Rattle.cache_versions.specs.Dealers.{IsHandOf, IsSameHand, hands_of};
-ghost use Rattle.cache_versions.specs.Seats.{kept_by, number_by, places_by, seen_by};
+ghost use Rattle.cache_versions.specs.Seats.{kept_by, places_by, seen_by};
 ghost use Rattle.cache_versions.specs.Shares.{IsOf, first_of, seats_of, start_of};
 
-use super::{Closed, SeatPlaces};
+use super::Closed;
 use crate::dealer::Dealer;
 use crate::desk::Desk;
 use crate::hand::Hand;
@@ -20,12 +19,11 @@ use crate::seat::{Held, Seat};
 use crate::shared::{Same, Shared};
 use crate::state::State;
 use crate::version::{Recorded, RecordedOf, reaches};
-use page_list::PageList;
 use std::sync::Wait;
 use tied_lock::TiedLock;
 
 // Waits for ever where the first version is the longer one, which no run shows.
-fn ask_begins<S, B: Drop, R: Wait>(rt: &R, first: &Recorded<S, B>, second: &Recorded<S, B>)
+fn ask_begins<S, B, R: Wait>(rt: &R, first: &Recorded<S, B>, second: &Recorded<S, B>)
     requires { Kin first.now second.now }
     ensures { Begins first.now second.now }
 {
@@ -36,13 +34,13 @@ fn ask_begins<S, B: Drop, R: Wait>(rt: &R, first: &Recorded<S, B>, second: &Reco
 
 // Waits for ever where as many places were not dealt out as the version has batches, which no run
 // shows.
-fn ask_dealt<S, B: Drop, R: Wait>(rt: &R, dealer: Dealer, all: Hand, last: &Recorded<S, B>)
+fn ask_dealt<S, B, R: Wait>(rt: &R, dealer: Dealer, all: Hand, last: &Recorded<S, B>)
     requires dealer { IsHandOf dealer all }
     requires all { all.me.0.hands ≡ hands_of dealer }
     ensures { AreAllBelow (length (journal_of last.now)) all.me.0.places }
 {
     let dealt = dealer.close(all);
-    if dealt != last.version.number as u64 {
+    if dealt != last.version.number {
         never(rt);
     }
 }
@@ -54,25 +52,22 @@ fn end_seat<S: State, R: Wait>(
     dealer: &Dealer,
     all: &mut Hand,
     seat: Seat<S>,
-) -> SeatPlaces
+)
     requires kin { Kin (kept_by seat) last.now.recorded }
     requires all { IsHandOf dealer.now all.old }
     requires hand { IsHandOf dealer.now seat.hand }
     ensures begins { Begins (kept_by seat) last.now.recorded }
     ensures dealer { IsSameHand all.old all.new }
     ensures all { all.new.me.0 ≡ both_in_hand all.old.me.0 (in_hand 1 (places_by seat)) }
-    ensures seat { (result.number, result.places.items) ≡ seat_of seat }
 {
     let Seat {
-        number,
-        places,
+        number: _,
         held,
         reader: _,
         hand,
     } = seat;
     ask_begins(rt, &held.recorded, &last.recorded);
     dealer.join(all, hand);
-    SeatPlaces { number, places }
 }
 
 // The version that was published last.
@@ -101,23 +96,16 @@ impl<S: State> Shared<S> {
         requires all { length seats.items ≡ seats_of self }
         ensures start { opening_at result ≡ start_of self }
         ensures seen { All (λ s. IsPrefix (seen_by s) (journal_at result)) seats.items }
-        ensures seats { seats_at result ≡ map seat_of seats.items }
         ensures places { AreAllBelow (length (journal_at result)) (flat_map places_by seats.items) }
     {
-        let Shared {
-            lock,
-            dealer,
-            ended,
-        } = self;
+        let Shared { lock, dealer } = self;
         let held = last(rt, lock);
         let mut all = dealer.empty_hand();
-        let mut ended = ended;
         for seat in seats {
-            let end = end_seat(rt, &held, &dealer, &mut all, seat);
-            ended.push_reserved(end);
+            end_seat(rt, &held, &dealer, &mut all, seat);
         }
         ask_dealt(rt, dealer, all, &held.recorded);
-        Closed { held, ended }
+        Closed { held }
     }
 }
 
@@ -129,23 +117,10 @@ impl<S: State> Closed<S> {
         &*self.held.recorded.version.state
     }
 
-    /// All batches that were placed, the first one first.
-    pub fn journal(&self) -> &PageList<S::Batch>
-        ensures { result.now ≡ journal_at self.now }
+    /// How many batches were placed.
+    pub fn number(&self) -> u64
+        ensures { result ≡ length (journal_at self.now) }
     {
-        &self.held.recorded.version.journal
-    }
-
-    /// Where the batches of the seat with this number stand in the journal.
-    pub fn places(&self, seat: u8) -> &[u32]
-        requires { IsSome (lookup (λ n. n == seat) (seats_at self.now)) }
-        ensures { lookup (λ n. n == seat) (seats_at self.now) ≡ Some result.now }
-    {
-        for end in &self.ended {
-            if end.number == seat {
-                return end.places.as_slice();
-            }
-        }
-        unreachable!()
+        self.held.recorded.version.number
     }
 }

@@ -1,6 +1,6 @@
 //! How places are dealt out.
-ghost use Rattle.std.specs.Prelude.{◌≡◌, ◌-◌, ◌<◌, [], IfOk, IsFalse, IsTrue};
-ghost use Rattle.cache_versions.specs.Hands.{AreAllBelow, both_in_hand, in_hand, with_place};
+ghost use Rattle.std.specs.Prelude.{◌≡◌, ◌-◌, ◌<◌, ◌^◌, [], IfOk, IsFalse, IsTrue};
+ghost use Rattle.cache_versions.specs.Hands.{AreAllBelow, both_in_hand, with_place};
 ghost use Rattle.cache_versions.specs.Dealers.{HasPlaces, IsHandOf, IsSameHand, hands_of};
 
 use super::Dealer;
@@ -31,14 +31,14 @@ impl Dealer {
     }
 
     /// Gives the place to the hand, if it is the next one.
-    pub fn deal(&self, hand: &mut Hand, place: u32) -> bool
+    pub fn deal(&self, hand: &mut Hand, place: u64) -> bool
+        requires few { place < 2 ^ 62 }
         requires dealer { IsHandOf self.now hand.old }
         requires some { 0 < hand.old.me.0.hands }
         ensures dealer { IsSameHand hand.old hand.new }
         ensures dealt { IsTrue result → hand.new.me ≡ with_place hand.old.me place }
         ensures not { IsFalse result → hand.new.me ≡ hand.old.me }
     {
-        let place = place as u64;
         self.table
             .shared
             .compare_exchange::<Deal>(hand, 0, place, place + 1)

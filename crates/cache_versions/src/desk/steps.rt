@@ -1,8 +1,8 @@
 //! How the writer publishes.
-ghost use Rattle.std.specs.Prelude.{◌≡◌, ◌++◌, [], ◌∷◌, drop, IfSome, IfNone, IsTrue, IsFalse};
+ghost use Rattle.std.specs.Prelude.{◌≡◌, ◌<◌, ◌^◌, ◌++◌, [], ◌∷◌, drop, IfSome, IfNone, IsTrue, IsFalse};
 ghost use Rattle.std.specs.Arc.{arc_value};
 ghost use Rattle.cache_versions.specs.Book.{head_of};
-ghost use Rattle.cache_versions.specs.Kin.{IsMade, IsSame, Kin, Sound, journal_of, version_of};
+ghost use Rattle.cache_versions.specs.Kin.{IsSame, Kin, Sound, journal_of, number_of};
 ghost use Rattle.cache_versions.specs.Desks.{published, IsNext};
 
 use super::{Desk, Pen};
@@ -16,13 +16,14 @@ use std::alloc::Global;
 use std::sync::{Arc, Wait};
 
 // Adds the batch to the book. There is none where the book is ahead of the version.
-fn next_front<S, B: Drop>(head: &Head<B>, now: &Recorded<S, B>, batch: &B) -> Option<Front<B>>
-    requires { head.now ≡ head_of now.now.front.book }
+fn next_front<S, B>(head: &Head<B>, now: &Recorded<S, B>, batch: &B) -> Option<Front<B>>
+    requires head { head.now ≡ head_of now.now.front.book }
+    requires few { number_of now.now < 2 ^ 62 }
     ensures book { IfSome result (λ f. f.book ≡ now.now.front.book) }
     ensures log { IfSome result (λ f. f.log ≡ journal_of now.now ++ batch.now ∷ []) }
 {
     let mut front = now.front.again();
-    if record_entry(head, &mut front, now.version.number as u64, batch) {
+    if record_entry(head, &mut front, now.version.number, batch) {
         Some(front)
     } else {
         None
@@ -60,9 +61,11 @@ impl<S: State> Desk<S> {
         next: Arc<VersionOf<S>, Global>,
         batch: &S::Batch,
     ) -> (Desk<S>, Option<(Held<S>, Held<S>)>)
-        requires next { IsNext (published self) batch.now (arc_value next) }
-        requires made { IsMade S.after S.BATCHES (arc_value next) }
-        ensures version { IfSome result.1 (λ t. version_of t.0.recorded ≡ arc_value next) }
+        requires next { IsNext S.after (published self) batch.now (arc_value next) }
+        requires sound { Sound S.after S.BATCHES (published self) }
+        requires room { number_of (published self) < S.BATCHES }
+        ensures seen { IfSome result.1 (λ t.
+            journal_of t.0.recorded ≡ journal_of (published self) ++ batch.now ∷ []) }
         ensures shown { IfSome result.1 (λ t. IsSame t.0.recorded (published result.0)) }
         ensures noted { IfSome result.1 (λ t. IsSame t.0.recorded t.1.recorded) }
         ensures kin { Kin (published self) (published result.0) }

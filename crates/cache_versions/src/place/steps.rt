@@ -1,9 +1,9 @@
 //! How a batch is placed, with the desk in hand.
-ghost use Rattle.std.specs.Prelude.{◌≡◌, ◌+◌, ◌≤◌, None, IfErr, IfOk, OnErr, OnOk};
+ghost use Rattle.std.specs.Prelude.{◌≡◌, ◌+◌, None, IfErr, IfOk, OnErr, OnOk};
 ghost use Rattle.std.specs.Arc.{arc_value};
 ghost use Rattle.cache_versions.specs.Desks.{published, IsGrown, IsNext};
 ghost use Rattle.cache_versions.specs.Faults.{RefusedBy};
-ghost use Rattle.cache_versions.specs.Kin.{IsMade, IsSame, Kin, Sound, number_of, state_of};
+ghost use Rattle.cache_versions.specs.Kin.{IsSame, Kin, Sound, number_of, state_of};
 ghost use Rattle.cache_versions.specs.Places.{IsAnswer};
 ghost use Rattle.cache_versions.specs.Dealers.{IsHandOf};
 ghost use Rattle.cache_versions.specs.Seats.{kept_by};
@@ -38,26 +38,19 @@ pub fn owned<T: Drop>(alloc: Global, value: T) -> Result<Arc<T, Global>, AllocEr
 }
 
 // The version with one more batch and this state.
-fn grown<S: Drop, B: Drop>(
+fn grown<S: Drop>(
     alloc: Global,
-    now: &Version<S, B>,
-    number: u32,
-    batch: &Arc<B, Global>,
+    now: &Version<S>,
+    number: u64,
     state: S,
-) -> Result<Arc<Version<S, B>, Global>, AllocError>
-    requires { number ≡ now.now.number + 1 }
-    ensures { IfOk result (λ v. IsGrown now.now (arc_value batch.now) state (arc_value v)) }
+) -> Result<Arc<Version<S>, Global>, AllocError>
+    ensures { IfOk result (λ v. IsGrown now.now state number (arc_value v)) }
 {
-    let end = now.journal.len();
-    let journal = now
-        .journal
-        .with_one(alloc, end, end, Arc::try_clone(batch)?)?;
     let state = owned(alloc, state)?;
     let opening = Arc::try_clone(&now.opening)?;
     let next = Version {
         state,
         opening,
-        journal,
         number,
     };
     owned(alloc, next)
@@ -67,21 +60,17 @@ fn grown<S: Drop, B: Drop>(
 fn with_next<S: State>(
     alloc: Global,
     now: &Held<S>,
-    number: u32,
-    batch: &Arc<S::Batch, Global>,
+    number: u64,
+    batch: &S::Batch,
 ) -> Result<Arc<VersionOf<S>, Global>, StepFault<S::Fault>>
-    requires number { (number ≡ number_of now.now.recorded + 1) × (number ≤ S.BATCHES) }
-    ensures next { IfOk result (λ v. IsNext now.now.recorded (arc_value batch.now) (arc_value v)) }
-    ensures made { IfOk result (λ v. IsMade S.after S.BATCHES (arc_value v)) }
-    ensures number { IfOk result (λ v. (arc_value v).number ≡ number) }
-    ensures taken { OnOk result
-        (S.refusal (state_of now.now.recorded) (arc_value batch.now) ≡ None) }
-    ensures refused { IfErr result
-        (RefusedBy S.refusal (state_of now.now.recorded) (arc_value batch.now)) }
+    requires number { number ≡ number_of now.now.recorded + 1 }
+    ensures next { IfOk result (λ v. IsNext S.after now.now.recorded batch.now (arc_value v)) }
+    ensures taken { OnOk result (S.refusal (state_of now.now.recorded) batch.now ≡ None) }
+    ensures refused { IfErr result (RefusedBy S.refusal (state_of now.now.recorded) batch.now) }
 {
     let version = &*now.recorded.version;
-    let state = version.state.with_batch(alloc, &**batch)?;
-    match grown(alloc, version, number, batch, state) {
+    let state = version.state.with_batch(alloc, batch)?;
+    match grown(alloc, version, number, state) {
         Ok(next) => Ok(next),
         Err(_) => Err(StepFault::OutOfMemory),
     }
@@ -95,7 +84,7 @@ pub fn place<S: State, R: Wait>(
     now: Held<S>,
     dealer: &Dealer,
     seat: &mut Seat<S>,
-    batch: &Arc<S::Batch, Global>,
+    batch: &S::Batch,
 ) -> (Desk<S>, Result<Placed<S>, InsertFault<S::Fault>>)
     requires now { IsSame (published desk) now.recorded }
     requires kin { Kin (kept_by seat.old) (published desk) }
@@ -107,7 +96,7 @@ pub fn place<S: State, R: Wait>(
     ensures seat { Kin (kept_by seat.old) (kept_by seat.new) }
     ensures number { seat.new.number ≡ seat.old.number }
     ensures hand { IsHandOf dealer.now seat.new.hand }
-    ensures answer { IsAnswer (published desk) seat.old seat.new (arc_value batch.now) result.1 }
+    ensures answer { IsAnswer (published desk) seat.old seat.new batch.now result.1 }
 {
     let version = now.recorded.version.number;
     if version >= S::BATCHES {
@@ -122,10 +111,7 @@ pub fn place<S: State, R: Wait>(
         }
         Err(StepFault::OutOfMemory) => return (desk, Err(InsertFault::OutOfMemory)),
     };
-    if seat.make_room().is_err() {
-        return (desk, Err(InsertFault::OutOfMemory));
-    }
-    let (desk, owners) = desk.publish(rt, next, &**batch);
+    let (desk, owners) = desk.publish(rt, next, batch);
     let Some((kept, noted)) = owners else {
         return (desk, Err(InsertFault::OutOfMemory));
     };

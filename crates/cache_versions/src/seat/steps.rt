@@ -1,6 +1,5 @@
 //! What a seat does by itself.
-ghost use Rattle.std.specs.Prelude.{◌≡◌, ◌<◌, ◌++◌, ◌∷◌, [], vec_capacity, vec_len};
-ghost use Rattle.std.specs.Prelude.{IfOk, IfSome, OnOk};
+ghost use Rattle.std.specs.Prelude.{◌≡◌, ◌<◌, ◌++◌, ◌∷◌, [], IfOk, IfSome};
 ghost use mathlib.Core.List.{IsPrefix};
 ghost use Rattle.left_right.specs.Sides.{view};
 ghost use Rattle.cache_versions.specs.Dealers.{IsHandOf};
@@ -87,21 +86,11 @@ impl<S: State> Seat<S> {
         self.held = next;
     }
 
-    /// Makes room for one more place.
-    pub fn make_room(&mut self) -> Result<(), AllocError>
-        ensures room { OnOk result (vec_len self.new.places < vec_capacity self.new.places) }
-        ensures same { IsSameSeat self.old self.new }
-        ensures held { self.new.held ≡ self.old.held }
-        ensures hand { self.new.hand ≡ self.old.hand }
-    {
-        self.places.reserve(1)
-    }
-
     /// Goes on to the version that has its own batch, and is dealt the batch's place. It waits for
     /// ever where that place is not the next one, which no run shows.
-    pub fn settle<R: Wait>(&mut self, rt: &R, dealer: &Dealer, next: Held<S>, place: u32)
+    pub fn settle<R: Wait>(&mut self, rt: &R, dealer: &Dealer, next: Held<S>, place: u64)
+        requires few { place < S.BATCHES }
         requires kin { Kin (kept_by self.old) next.recorded }
-        requires room { vec_len self.old.places < vec_capacity self.old.places }
         requires hand { IsHandOf dealer.now self.old.hand }
         ensures held { self.new.held ≡ next }
         ensures places { places_by self.new ≡ places_by self.old ++ place ∷ [] }
@@ -113,6 +102,5 @@ impl<S: State> Seat<S> {
             never(rt);
             unreachable!()
         }
-        self.places.push_reserved(place);
     }
 }

@@ -1,7 +1,7 @@
 //! What callers do with the shared object.
 ghost use Rattle.std.specs.Prelude.{◌≡◌, ◌≤◌, ◌⊎◌, All, length, fold, IfSome, IfNone, IfOk};
+ghost use Rattle.std.specs.Prelude.{MatchBool};
 ghost use mathlib.Core.List.{IsPrefix};
-ghost use Rattle.std.specs.Arc.{arc_value};
 ghost use Rattle.cache_versions.specs.Inserts.{Answered};
 ghost use Rattle.cache_versions.specs.Lends.{lender_of, seat_in};
 ghost use Rattle.cache_versions.specs.Rows.{AreNumbered};
@@ -17,12 +17,12 @@ use crate::seat::Seat;
 use crate::state::State;
 use crate::version::reaches;
 use std::alloc::{AllocError, Global};
-use std::sync::{Arc, Wait};
+use std::sync::Wait;
 use tied_lock::TiedLock;
 
 impl<'a, S: State> VersionRef<'a, S> {
     /// How many batches made the version.
-    pub fn number(&self) -> u32
+    pub fn number(&self) -> u64
         ensures { result ≡ length (seen_by (seat_in self.now)) }
     {
         self.seat.held.recorded.version.number
@@ -53,8 +53,6 @@ impl<S: State> Shared<S> {
         ensures fresh { IfOk result (λ t. All (IsFresh t.0) t.1.items) }
     {
         let (head, held) = first_version(alloc, start)?;
-        let mut ended = Vec::new(alloc);
-        ended.reserve(seats as usize)?;
         let (dealer, all) = Dealer::new(alloc, seats)?;
         let mut writer = open_writer(rt, alloc, &held, seats)?;
         let made = match make_seats(rt, alloc, &mut writer, &held, &dealer, all, seats) {
@@ -65,14 +63,7 @@ impl<S: State> Shared<S> {
             }
         };
         match TiedLock::new(alloc, Desk { writer, head }, &held.recorded) {
-            Ok(lock) => Ok((
-                Shared {
-                    lock,
-                    dealer,
-                    ended,
-                },
-                made,
-            )),
+            Ok(lock) => Ok((Shared { lock, dealer }, made)),
             Err(desk) => {
                 desk.end(rt);
                 Err(AllocError)
@@ -93,6 +84,17 @@ impl<S: State> Shared<S> {
         VersionRef { seat }
     }
 
+    /// Goes on to the published version, where it can be had, and lends nothing. A seat keeps the version that it read last in
+    /// memory: one that is idle lets it go so.
+    pub fn move_on(&self, seat: &mut Seat<S>)
+        requires { IsOf self.now seat.old }
+        ensures object { IsOf self.now seat.new }
+        ensures same { IsSameSeat seat.old seat.new }
+        ensures begins { IsPrefix (seen_by seat.old) (seen_by seat.new) }
+    {
+        seat.move_on();
+    }
+
     // Takes the lock and places the batch. `None` where the seat is ahead of the published version,
     // which no run shows.
     fn attempt<R: Wait>(
@@ -100,13 +102,13 @@ impl<S: State> Shared<S> {
         rt: &R,
         alloc: Global,
         seat: &mut Seat<S>,
-        batch: &Arc<S::Batch, Global>,
+        batch: &S::Batch,
     ) -> Option<Result<Placed<S>, InsertFault<S::Fault>>>
         requires { IsOf self.now seat.old }
         ensures object { IsOf self.now seat.new }
         ensures number { number_by seat.new ≡ number_by seat.old }
         ensures begins { IsPrefix (seen_by seat.old) (seen_by seat.new) }
-        ensures answer { IfSome result (Answered seat.old seat.new (arc_value batch.now)) }
+        ensures answer { IfSome result (Answered seat.old seat.new batch.now) }
         ensures note { IfSome result (λ r. IfOk r (λ p. IsNoteOf self.now p.note)) }
         ensures none { IfNone result (seat.new ≡ seat.old) }
     {
@@ -135,21 +137,17 @@ impl<S: State> Shared<S> {
         rt: &R,
         alloc: Global,
         seat: &mut Seat<S>,
-        batch: S::Batch,
+        batch: &S::Batch,
     ) -> Result<Placed<S>, InsertFault<S::Fault>>
         requires { IsOf self.now seat.old }
         ensures object { IsOf self.now seat.new }
         ensures number { number_by seat.new ≡ number_by seat.old }
         ensures begins { IsPrefix (seen_by seat.old) (seen_by seat.new) }
-        ensures answer { Answered seat.old seat.new batch result }
+        ensures answer { Answered seat.old seat.new batch.now result }
         ensures note { IfOk result (λ p. IsNoteOf self.now p.note) }
     {
-        let batch = match Arc::new(alloc, batch) {
-            Ok(batch) => batch,
-            Err(_) => return Err(InsertFault::OutOfMemory),
-        };
         for _ in rt.forever() {
-            if let Some(answer) = self.attempt(rt, alloc, seat, &batch) {
+            if let Some(answer) = self.attempt(rt, alloc, seat, batch) {
                 return answer;
             }
         }
@@ -173,13 +171,19 @@ impl<S: State> Shared<S> {
         }
     }
 
+    /// Whether the first of two seats has seen all that the second has. Else the second has seen all that the first has: there is
+    /// one history, also while other seats go on.
+    pub fn is_ahead(&self, one: &Seat<S>, other: &Seat<S>) -> bool
+        requires { IsOf self.now one.now × IsOf self.now other.now }
+        ensures { MatchBool result (IsPrefix (seen_by other.now) (seen_by one.now))
+            (IsPrefix (seen_by one.now) (seen_by other.now)) }
+    {
+        reaches(&other.held.recorded, &one.held.recorded)
+    }
+
     /// Ends the object, whatever became of its seats. It says nothing of the versions.
     pub fn give_up<R: Wait>(self, rt: &R) {
-        let Shared {
-            lock,
-            dealer: _,
-            ended: _,
-        } = self;
+        let Shared { lock, dealer: _ } = self;
         match lock.into_value() {
             Ok(desk) => desk.end(rt),
             Err(Some(desk)) => desk.end(rt),

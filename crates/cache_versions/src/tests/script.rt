@@ -4,13 +4,10 @@ ghost use Rattle.cache_versions.specs.Rows.{AreNumbered};
 ghost use Rattle.cache_versions.specs.Seats.{number_by};
 ghost use Rattle.cache_versions.specs.Shares.{IsNoteOf, IsOf};
 
-use super::digest::Digest;
+use super::digest::Few;
 use crate::{InsertFault, Note, Placed, Seat, Shared};
 use std::alloc::{AllocError, Global};
 use std::sync::Wait;
-
-/// Three batches are all.
-pub type Few = Digest<3>;
 
 #[derive(Clone, Copy)]
 pub enum Step {
@@ -18,16 +15,21 @@ pub enum Step {
     Read(usize),
     /// The seat learns the newest note that is left.
     Learn(usize),
+    /// The seat goes on, and asks nothing.
+    Go(usize),
+    /// Whether the first seat has seen all that the second has.
+    Compare(usize, usize),
 }
 
 /// What a call answered: the number of the version that the seat has come to, or why there is none.
 #[derive(Debug, PartialEq, Eq, Clone, Copy)]
 pub enum Answer {
-    At(u32),
+    At(u64),
     /// A read's version, and its state.
-    Saw(u32, u64),
-    Spent(u32),
-    Refused(u32, u64),
+    Saw(u64, u64),
+    Spent(u64),
+    Refused(u64, u64),
+    Ahead(bool),
     NoMemory,
     NoNote,
 }
@@ -45,7 +47,7 @@ fn insert<R: Wait>(
     ensures seat { IsOf shared.now seat.new × (number_by seat.new ≡ number_by seat.old) }
     ensures notes { All (IsNoteOf shared.now) notes.new.items }
 {
-    match shared.insert(rt, alloc, seat, batch) {
+    match shared.insert(rt, alloc, seat, &batch) {
         Ok(Placed { version, note }) => match notes.push(note) {
             Ok(()) => Answer::At(version),
             Err(_) => Answer::NoMemory,
@@ -77,6 +79,38 @@ fn learn(shared: &Shared<Few>, seat: &mut Seat<Few>, notes: &mut Vec<Note<Few>>)
     Answer::At(seat.held.recorded.version.number)
 }
 
+fn go(shared: &Shared<Few>, seat: &mut Seat<Few>) -> Answer
+    requires { IsOf shared.now seat.old }
+    ensures { IsOf shared.now seat.new × (number_by seat.new ≡ number_by seat.old) }
+{
+    shared.move_on(seat);
+    Answer::At(seat.held.recorded.version.number)
+}
+
+fn take<R: Wait>(
+    rt: &R,
+    alloc: Global,
+    shared: &Shared<Few>,
+    seats: &mut Vec<Seat<Few>>,
+    notes: &mut Vec<Note<Few>>,
+    step: Step,
+) -> Answer
+    requires seats { All (IsOf shared.now) seats.old.items × AreNumbered seats.old.items }
+    requires three { length seats.old.items ≡ 3 }
+    requires notes { All (IsNoteOf shared.now) notes.old.items }
+    ensures seats { All (IsOf shared.now) seats.new.items × AreNumbered seats.new.items }
+    ensures three { length seats.new.items ≡ 3 }
+    ensures notes { All (IsNoteOf shared.now) notes.new.items }
+{
+    match step {
+        Step::Insert(i, batch) => insert(rt, alloc, shared, &mut seats[i % 3], notes, batch),
+        Step::Read(i) => read(shared, &mut seats[i % 3]),
+        Step::Learn(i) => learn(shared, &mut seats[i % 3], notes),
+        Step::Go(i) => go(shared, &mut seats[i % 3]),
+        Step::Compare(i, k) => Answer::Ahead(shared.is_ahead(&seats[i % 3], &seats[k % 3])),
+    }
+}
+
 fn run<R: Wait>(
     rt: &R,
     alloc: Global,
@@ -92,37 +126,22 @@ fn run<R: Wait>(
 {
     let mut notes = Vec::new(alloc);
     for (step, _) in steps {
-        let answer = match *step {
-            Step::Insert(i, batch) => insert(
-                rt,
-                alloc,
-                shared,
-                &mut seats[i % 3],
-                &mut notes,
-                batch,
-            ),
-            Step::Read(i) => read(shared, &mut seats[i % 3]),
-            Step::Learn(i) => learn(shared, &mut seats[i % 3], &mut notes),
-        };
+        let answer = take(rt, alloc, shared, seats, &mut notes, *step);
         answers.push(answer)?;
     }
     Ok(())
 }
 
-/// Makes three seats, takes the steps, and gives each seat's places.
+/// Makes three seats, takes the steps, and gives the number of the last version and its state.
 pub fn play<R: Wait>(
     rt: &R,
     alloc: Global,
     steps: &[(Step, Answer)],
     answers: &mut Vec<Answer>,
-) -> Result<Vec<Vec<u32>>, AllocError> {
+) -> Result<(u64, u64), AllocError> {
     let (shared, mut seats) = Shared::with_seats(rt, alloc, Few { value: 0 }, 3)?;
     let done = run(rt, alloc, &shared, &mut seats, steps, answers);
     let closed = shared.close(rt, seats);
     done?;
-    let mut places = Vec::new(alloc);
-    for number in 0..3 {
-        places.push(closed.places(number).to_vec(alloc)?)?;
-    }
-    Ok(places)
+    Ok((closed.number(), closed.state().value))
 }

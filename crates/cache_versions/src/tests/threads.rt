@@ -1,20 +1,24 @@
 //! Two threads that insert and read, and what one thread would have seen.
 ghost use Rattle.cache_versions.specs.Shares.{IsOf};
 
-use super::digest::Digest;
-use crate::{Closed, Seat, Shared, State};
-use page_list::PageList;
+use super::digest::{Many, next};
+use crate::{Closed, Placed, Seat, Shared};
 use std::alloc::{AllocError, Global};
 use std::sync::Wait;
 use std::thread::{Threads, join};
 
-pub type Many = Digest<{ u32::MAX }>;
-
 // What a thread saw of a version.
 #[derive(Clone, Copy)]
 struct Sight {
-    number: u32,
+    number: u64,
     value: u64,
+}
+
+// The versions that a thread's batches made, and what it saw.
+#[derive(Drop)]
+struct Done {
+    made: Vec<u64>,
+    sights: Vec<Sight>,
 }
 
 // Inserts a batch and reads, in turn, for as long as there is memory.
@@ -25,22 +29,23 @@ fn work<R: Wait>(
     seat: Seat<Many>,
     batch: u64,
     turns: u32,
-) -> (Seat<Many>, Vec<Sight>)
+) -> (Seat<Many>, Done)
     requires { IsOf shared.now seat }
     ensures { IsOf shared.now result.0 }
 {
     let mut seat = seat;
+    let mut made = Vec::new(alloc);
     let mut sights = Vec::new(alloc);
     for _ in 0..turns {
-        if shared.insert(rt, alloc, &mut seat, batch).is_err() {
-            return (seat, sights);
-        }
+        let Ok(Placed { version, note: _ }) = shared.insert(rt, alloc, &mut seat, &batch) else {
+            return (seat, Done { made, sights });
+        };
         let sight = look(shared, &mut seat);
-        if sights.push(sight).is_err() {
-            return (seat, sights);
+        if made.push(version).is_err() || sights.push(sight).is_err() {
+            return (seat, Done { made, sights });
         }
     }
-    (seat, sights)
+    (seat, Done { made, sights })
 }
 
 fn look(shared: &Shared<Many>, seat: &mut Seat<Many>) -> Sight
@@ -61,7 +66,7 @@ fn both<R: Threads + Wait + Sync>(
     zero: Seat<Many>,
     one: Seat<Many>,
     turns: u32,
-) -> ((Seat<Many>, Vec<Sight>), (Seat<Many>, Vec<Sight>))
+) -> ((Seat<Many>, Done), (Seat<Many>, Done))
     requires { IsOf shared.now zero × IsOf shared.now one }
     ensures { IsOf shared.now result.0.0 × IsOf shared.now result.1.0 }
 {
@@ -72,18 +77,30 @@ fn both<R: Threads + Wait + Sync>(
     )
 }
 
-// The states of one thread that takes the journal's batches in turn.
-fn replayed(alloc: Global, closed: &Closed<Many>) -> Result<Vec<u64>, AllocError> {
-    let journal = closed.journal();
+// The states of one thread that takes the batches by the versions that they made: 1 for each of the first list, and 2 for each of
+// the second. They end before a version that none made.
+fn replayed(
+    alloc: Global,
+    closed: &Closed<Many>,
+    first: &[u64],
+    second: &[u64],
+) -> Result<Vec<u64>, AllocError> {
     let mut values = Vec::new(alloc);
-    let mut state = Many { value: 0 };
+    let mut value = 0;
+    let mut i = 0;
+    let mut k = 0;
     values.push(0)?;
-    for i in 0..journal.len() {
-        match state.with_batch(alloc, &**journal.get(i)) {
-            Ok(next) => state = next,
-            Err(_) => return Err(AllocError),
+    for version in 1..=closed.number() {
+        if i < first.len() && first[i] == version {
+            value = next(value, 1);
+            i += 1;
+        } else if k < second.len() && second[k] == version {
+            value = next(value, 2);
+            k += 1;
+        } else {
+            return Ok(values);
         }
-        values.push(state.value)?;
+        values.push(value)?;
     }
     Ok(values)
 }
@@ -100,24 +117,13 @@ fn agree(sights: &[Sight], values: &[u64]) -> bool {
     true
 }
 
-// Whether each of the places has the batch.
-fn have(journal: &PageList<u64>, places: &[u32], batch: u64) -> bool {
-    for place in places {
-        let at = *place as usize;
-        if at >= journal.len() || **journal.get(at) != batch {
-            return false;
-        }
-    }
-    true
-}
-
-/// How many batches are in the journal, and whether all that the threads saw, and their places, are
-/// what one thread would have seen.
+/// How many batches were placed, of how many versions the threads' batches tell the state, and whether all that the threads saw,
+/// and the last state, are what one thread would have seen.
 pub fn race<R: Threads + Wait + Sync>(
     rt: &R,
     alloc: Global,
     turns: u32,
-) -> Result<(usize, bool), AllocError> {
+) -> Result<(u64, usize, bool), AllocError> {
     let (shared, mut seats) = Shared::with_seats(rt, alloc, Many { value: 0 }, 2)?;
     let (Some(one), Some(zero)) = (seats.pop(), seats.pop()) else {
         shared.give_up(rt);
@@ -133,12 +139,14 @@ pub fn race<R: Threads + Wait + Sync>(
         return Err(AllocError);
     }
     let closed = shared.close(rt, seats);
-    let values = replayed(alloc, &closed)?;
-    let mut agreed = agree(first.as_slice(), values.as_slice())
-        && agree(second.as_slice(), values.as_slice());
-    for end in &closed.ended {
-        let batch = end.number as u64 + 1;
-        agreed = agreed && have(closed.journal(), end.places.as_slice(), batch);
-    }
-    Ok((closed.journal().len(), agreed))
+    let values = replayed(
+        alloc,
+        &closed,
+        first.made.as_slice(),
+        second.made.as_slice(),
+    )?;
+    let agreed = agree(first.sights.as_slice(), values.as_slice())
+        && agree(second.sights.as_slice(), values.as_slice())
+        && values.last() == Some(&closed.state().value);
+    Ok((closed.number(), values.len(), agreed))
 }

@@ -6,7 +6,7 @@ use super::Recorded;
 use std::alloc::AllocError;
 use std::sync::Arc;
 
-impl<S, B: Drop> Recorded<S, B> {
+impl<S, B> Recorded<S, B> {
     /// One more owner. There is none where `Arc` gives none.
     pub fn again(&self) -> Result<Recorded<S, B>, AllocError>
         ensures { IfOk result (λ r. IsSame self.now r) }
@@ -20,7 +20,7 @@ impl<S, B: Drop> Recorded<S, B> {
 
 /// Whether the second of two versions of one book begins with the first. Else the first begins
 /// with the second.
-pub fn reaches<S, B: Drop>(first: &Recorded<S, B>, second: &Recorded<S, B>) -> bool
+pub fn reaches<S, B>(first: &Recorded<S, B>, second: &Recorded<S, B>) -> bool
     requires { Kin first.now second.now }
     ensures { MatchBool result (Begins first.now second.now) (Begins second.now first.now) }
 {

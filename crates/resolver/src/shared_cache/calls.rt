@@ -1,9 +1,9 @@
 //! What callers do with the cache.
-ghost use Rattle.std.specs.Prelude.{◌≡◌, ◌≤◌, ◌⊎◌, All, length, IfOk, MatchResult, map};
+ghost use Rattle.std.specs.Prelude.{◌≡◌, ◌≤◌, ◌⊎◌, All, length, IfOk, MatchBool, MatchResult};
 ghost use Rattle.std.specs.List.{flat_map};
 ghost use mathlib.Core.List.{IsPrefix};
 ghost use Rattle.cache_meaning.specs.Held.{nothing_held};
-ghost use Rattle.cache_versions.specs.Closes.{journal_at, opening_at, seat_of, seats_at};
+ghost use Rattle.cache_versions.specs.Closes.{journal_at, opening_at};
 ghost use Rattle.cache_versions.specs.Hands.{AreAllBelow};
 ghost use Rattle.cache_versions.specs.Inserts.{Inserted};
 ghost use Rattle.cache_versions.specs.Lends.{lender_of, seat_in};
@@ -53,6 +53,27 @@ impl SharedCache {
         self.shared.read(seat)
     }
 
+    /// Goes on to the published version, where it can be had, and asks nothing. A seat keeps the version that it read last in memory,
+    /// which may be a whole cache: one that is idle lets it go so.
+    pub fn move_on(&self, seat: &mut CacheSeat)
+        requires { IsSeatOf self.now seat.old }
+        ensures object { IsSeatOf self.now seat.new }
+        ensures same { IsSameSeat seat.old seat.new }
+        ensures begins { IsPrefix (seen_by seat.old) (seen_by seat.new) }
+    {
+        self.shared.move_on(seat);
+    }
+
+    /// Whether the first of two seats has seen all that the second has. Else the second has seen all that the first has: there is
+    /// one history, also while other seats go on.
+    pub fn is_ahead(&self, one: &CacheSeat, other: &CacheSeat) -> bool
+        requires { IsSeatOf self.now one.now × IsSeatOf self.now other.now }
+        ensures { MatchBool result (IsPrefix (seen_by other.now) (seen_by one.now))
+            (IsPrefix (seen_by one.now) (seen_by other.now)) }
+    {
+        self.shared.is_ahead(one, other)
+    }
+
     /// Asks the question at a moment, in seconds, of the one version that it reads. It takes no memory and waits for nobody.
     pub fn query(
         &self,
@@ -78,14 +99,14 @@ impl SharedCache {
         rt: &R,
         alloc: Global,
         seat: &mut CacheSeat,
-        batch: Batch,
+        batch: &Batch,
     ) -> Result<Placed<Store>, CacheFault>
         requires { IsSeatOf self.now seat.old }
         ensures object { IsSeatOf self.now seat.new }
         ensures number { number_by seat.new ≡ number_by seat.old }
         ensures begins { IsPrefix (seen_by seat.old) (seen_by seat.new) }
-        ensures answer { MatchResult result (Inserted seat.old seat.new batch)
-            (NotPlaced seat.old seat.new batch) }
+        ensures answer { MatchResult result (Inserted seat.old seat.new batch.entry.now)
+            (NotPlaced seat.old seat.new batch.entry.now) }
         ensures note { IfOk result (λ p. IsNoteOf self.now p.note) }
     {
         match self.shared.insert(rt, alloc, seat, batch) {
@@ -121,7 +142,6 @@ impl SharedCache {
         requires all { length seats.items ≡ seats_of self }
         ensures start { opening_at result ≡ nothing_held }
         ensures seen { All (λ s. IsPrefix (seen_by s) (journal_at result)) seats.items }
-        ensures seats { seats_at result ≡ map seat_of seats.items }
         ensures places { AreAllBelow (length (journal_at result)) (flat_map places_by seats.items) }
     {
         let SharedCache { shared } = self;

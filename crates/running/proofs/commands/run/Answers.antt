@@ -1,9 +1,9 @@
-use Rattle.std.proofs.Common.{◌∙◌, sym, subst}
+use Rattle.std.proofs.Common.{◌≡◌, ◌⊎◌, ◌∙◌, sym, subst}
 use Rattle.command_line.specs.Words.{texts}
 use Rattle.command_line.specs.declared.command.Command.TheVariants.{Replay, Selfrun, Serve}
 use Rattle.command_line.proofs.CommandLemmas.{replay_in_range, same_selfrun, same_workers, selfrun_in_range}
 use Rattle.server.specs.Back.{CameBack, AllServedWhole}
-use Rattle.running.specs.Serve.{ServedInPart}
+use Rattle.running.specs.Serve.{EndedInWant, ServedInPart}
 use Rattle.running.proofs.ServeLemmas.{found_means, none_found, few_datagrams, same_service, workers_in_range}
 use Rattle.running.proofs.commands.run.Goals as goal
 
@@ -56,6 +56,10 @@ pub returns-in-Ok-Some-Replay-clause-good : goal.returns-in-Ok-Some-Replay-claus
 returns-in-Ok-Some-Replay-clause-good g c = λ workers means.
     rw (same_workers c.in-Ok-Some-Replay.field-0-0 c.in-Ok-Some-Replay.workers workers c.in-Ok-Some-Replay.field-0-0-is (sym c.in-Ok-Some-Replay.field-0-is ∙ c.in-Ok-Some-Replay.ensures.every (Replay workers) means)) at c.run_replay.ensures.good
 
+pub returns-in-Ok-Some-Replay-clause-replayed : goal.returns-in-Ok-Some-Replay-clause-replayed
+returns-in-Ok-Some-Replay-clause-replayed g c = λ workers means.
+    rw (same_workers c.in-Ok-Some-Replay.field-0-0 c.in-Ok-Some-Replay.workers workers c.in-Ok-Some-Replay.field-0-0-is (sym c.in-Ok-Some-Replay.field-0-is ∙ c.in-Ok-Some-Replay.ensures.every (Replay workers) means)) at c.run_replay.ensures.replayed
+
 pub returns-in-Ok-Some-Replay-clause-cut : goal.returns-in-Ok-Some-Replay-clause-cut
 returns-in-Ok-Some-Replay-clause-cut g c = λ workers means.
     rw (same_workers c.in-Ok-Some-Replay.field-0-0 c.in-Ok-Some-Replay.workers workers c.in-Ok-Some-Replay.field-0-0-is (sym c.in-Ok-Some-Replay.field-0-is ∙ c.in-Ok-Some-Replay.ensures.every (Replay workers) means)) at c.run_replay.ensures.cut
@@ -100,6 +104,12 @@ returns-in-Ok-Some-Serve-clause-served_in_part g c = λ l u w d means ends.
     subst (λ service. CameBack (g.H.Harbor.came_back c.args.harbor.now) (g.H.Harbor.came_back c.run_serve.new.harbor) (ServedInPart service (g.C.Clock.moment c.args.clock.now)))
     (same_service c.in-Ok-Some-Serve.field-0-0 c.in-Ok-Some-Serve.listen c.in-Ok-Some-Serve.upstream c.in-Ok-Some-Serve.workers c.in-Ok-Some-Serve.datagrams l u w d c.in-Ok-Some-Serve.field-0-0-is (sym c.in-Ok-Some-Serve.field-0-is ∙ c.in-Ok-Some-Serve.ensures.every (Serve l u w d) means))
     (c.run_serve.ensures.in_part ends)
+
+pub returns-in-Ok-Some-Serve-clause-served_in_want : goal.returns-in-Ok-Some-Serve-clause-served_in_want
+returns-in-Ok-Some-Serve-clause-served_in_want g c = λ l u w d means ends.
+    subst (λ service. (c.run_serve.new.harbor ≡ c.args.harbor.now) ⊎ CameBack (g.H.Harbor.came_back c.args.harbor.now) (g.H.Harbor.came_back c.run_serve.new.harbor) (EndedInWant service (g.C.Clock.moment c.args.clock.now)))
+    (same_service c.in-Ok-Some-Serve.field-0-0 c.in-Ok-Some-Serve.listen c.in-Ok-Some-Serve.upstream c.in-Ok-Some-Serve.workers c.in-Ok-Some-Serve.datagrams l u w d c.in-Ok-Some-Serve.field-0-0-is (sym c.in-Ok-Some-Serve.field-0-is ∙ c.in-Ok-Some-Serve.ensures.every (Serve l u w d) means))
+    (c.run_serve.ensures.in_want ends)
 
 pub returns-in-Ok-Some-Serve-clause-unmoored : goal.returns-in-Ok-Some-Serve-clause-unmoored
 returns-in-Ok-Some-Serve-clause-unmoored g c = λ none. absurd (none c.in-Ok-Some-Serve.listen c.in-Ok-Some-Serve.upstream c.in-Ok-Some-Serve.workers c.in-Ok-Some-Serve.datagrams

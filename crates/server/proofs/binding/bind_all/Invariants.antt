@@ -1,4 +1,5 @@
 use Rattle.std.proofs.Common.{◌≡◌, length}
+use Rattle.std.specs.Prelude.{vec_capacity}
 use Rattle.server.specs.Sight.{AreNew}
 use Rattle.server.proofs.binding.bind_all.Given as goal
 
@@ -8,4 +9,5 @@ invariant-loop-place g l = record {
   new : AreNew l.service.listen l.service.upstream l.links.items;
   came : g.H.Harbor.came_back l.harbor ≡ g.H.Harbor.came_back l.initial.harbor;
   faults : g.H.Harbor.faults l.harbor ≡ g.H.Harbor.faults l.initial.harbor;
+  room : vec_capacity l.links ≡ vec_capacity l.initial.links;
 }

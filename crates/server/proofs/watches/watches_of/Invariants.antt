@@ -1,4 +1,5 @@
 use Rattle.std.proofs.Common.{◌≡◌, ◌++◌, length, map}
+use Rattle.std.specs.Prelude.{vec_capacity}
 use Rattle.std.specs.Vec.Iter.{into_iter_items, into_iter_len}
 use Rattle.server.proofs.watches.watches_of.Given as goal
 
@@ -9,4 +10,5 @@ invariant-loop-seat g l = record {
   seats : map (λ watch. watch.seat) l.watches.items ≡ l.yielded;
   links : map (λ watch. watch.link) l.watches.items ++ into_iter_items l.links ≡ into_iter_items l.initial.links;
   same : length (into_iter_items l.links) ≡ length (into_iter_items l.seat-iterator);
+  room : vec_capacity l.watches ≡ vec_capacity l.initial.watches;
 }

@@ -1,8 +1,8 @@
-use Rattle.std.proofs.Common.{◌≡◌, ◌-◌, ◌≤◌, [], length}
+use Rattle.std.proofs.Common.{◌≡◌, ◌-◌, ◌≤◌, length}
 use Rattle.cache_versions.specs.Seats.{number_by}
 use Rattle.resolver.specs.Caches.{IsSeatOf}
 use Rattle.serving.specs.declared.desk.TheConstants.{AT_ONCE}
-use Rattle.serving.specs.Round.{IsAtWork}
+use Rattle.serving.specs.AtWork.{IsAtWork}
 use Rattle.serving.proofs.worker.serve_worker.Given as goal
 
 abbrev pub invariant-loop-left : goal.invariant-loop-left
@@ -15,8 +15,7 @@ invariant-loop-left g l = record {
   upstream : g.L.Link.upstream l.link ≡ g.L.Link.upstream l.fn.link;
   faults : g.L.Link.faults l.link ≡ g.L.Link.faults l.fn.link;
   few : l.left ≤ l.datagrams;
-  at : IsAtWork (l.datagrams - l.left) (g.C.Clock.moment l.clock) l.fn.seat l.seat l.desk.core
-      (g.L.Link.received l.fn.link) (g.L.Link.received l.link) (g.L.Link.sent l.fn.link) (g.L.Link.sent l.link) [] [];
+  at : IsAtWork (l.datagrams - l.left) (g.C.Clock.moment l.clock) l.fn.seat l.seat l.desk.core (g.L.Link.events l.fn.link) (g.L.Link.events l.link);
 }
 
 abbrev pub decreases-loop-left : goal.decreases-loop-left

@@ -2,7 +2,7 @@ use Rattle.std.proofs.Common.{inl, refl}
 use Rattle.std.specs.Prelude.{Err}
 use Rattle.replay_meaning.specs.Frame.{input_of}
 use Rattle.cache_versions.proofs.Fronts.{prefix_self}
-use Rattle.worker_seats.proofs.TurnLemmas.{on_both, on_err, told_frame, answer_does, fault_is}
+use Rattle.worker_seats.proofs.TurnLemmas.{on_both, told_frame, answer_does, fault_is}
 use Rattle.worker_seats.proofs.answering.upstream_frame.Goals as goal
 
 pub returns-in-Err-clause-begins : goal.returns-in-Err-clause-begins
@@ -15,4 +15,4 @@ returns-in-Err-clause-done g c =
     c.write_refused_output.ensures.written c.write_refused_output.ensures.fault
 
 pub returns-in-Err-clause-placed : goal.returns-in-Err-clause-placed
-returns-in-Err-clause-placed g c = on_err _ (inl refl)
+returns-in-Err-clause-placed g c = inl refl

@@ -26,7 +26,7 @@ loop-own-preserved-in_ok-one_frame g c =
       number = c.in_ok-one_frame.ensures.number ∙ at.invariant.number;
       way = frame_own c.args.job.worker c.args.job.seat at.seat c.args.frames.now _ _ _ at.call at.octets.items at.cuts.items at.passed at.invariant.way fits is
           whole (record { from = length whole - length at.rest.now; place = c.len.result }) c.count_frame.new.cuts.items c.in_ok-passed.passed c.octets-whole.ensures refl (search rules) c.in_ok-passed.ensures
-          c.one_frame.new.seat c.one_frame.new.out.items own c.in_ok-one_frame.ensures.begins c.in_ok-one_frame.ensures.done;
+          c.one_frame.new.seat c.one_frame.new.out.items own c.in_ok-one_frame.ensures.begins c.in_ok-one_frame.ensures.done c.in_ok-one_frame.ensures.placed;
     }
 
 pub loop-own-preserved : goal.loop-own-preserved

@@ -1,6 +1,5 @@
 use Rattle.std.proofs.Common.{rules, List, ap, subst}
 use mathlib.Core.List.{IsPrefix}
-use Rattle.std.specs.Arc.{arc_value}
 use Rattle.cache_versions.specs.Desks.{published}
 use Rattle.cache_versions.specs.Kin.{journal_of}
 use Rattle.cache_versions.specs.Seats.{seen_by}
@@ -13,5 +12,5 @@ returns-clause-begins g c =
     let met = published c.take-lease.result.1 in
     let pre : IsPrefix (seen_by seat) (journal_of met) =
     let now : IsPrefix (seen_by seat) (journal_of c.in-Ok.now.recorded) = search rules in
-    subst (λ (l : List g.row.S-Batch.Denot). IsPrefix (seen_by seat) l) (ap (λ k. k.0.journal) c.in-Ok.ensures) now in
-    place_prefix met seat c.place-desk.new.seat (arc_value c.args.batch.now) c.place-desk.result.1 pre c.place-desk.ensures.answer
+    subst (λ (l : List g.row.S-Batch.Denot). IsPrefix (seen_by seat) l) (ap (λ k. k.1.log) c.in-Ok.ensures) now in
+    place_prefix met seat c.place-desk.new.seat c.args.batch.now c.place-desk.result.1 pre c.place-desk.ensures.answer

@@ -1,4 +1,4 @@
-use Rattle.std.proofs.Common.{◌≡◌, ◌+◌, ◌++◌, ◌∷◌, [], List, All, length, map, append_assoc, ap, ◌∙◌, subst, arith}
+use Rattle.std.proofs.Common.{◌≡◌, ◌+◌, ◌++◌, ◌∷◌, [], List, All, length, append_assoc, ap, ◌∙◌, subst, arith}
 use Rattle.std.proofs.lemmas.List.{flat_map_more, length_push}
 use Rattle.std.proofs.lemmas.List.Elements.{All-push}
 use Rattle.std.specs.List.{flat_map}
@@ -8,7 +8,7 @@ use Rattle.cache_versions.specs.declared.seat.Seat.{Seat}
 use Rattle.cache_versions.specs.Hands.{AreAllBelow, both_in_hand, in_hand}
 use Rattle.cache_versions.specs.Kin.{journal_of}
 use Rattle.cache_versions.specs.Seats.{places_by, seen_by}
-use Rattle.cache_versions.proofs.Rows.{map_push, yielded_all}
+use Rattle.cache_versions.proofs.Rows.{yielded_all}
 use Rattle.cache_versions.proofs.shared.Shared.close.Goals as goal
 
 pub loop-seat-preserved : goal.loop-seat-preserved
@@ -19,15 +19,12 @@ loop-seat-preserved g c =
     let P : Seat g.row.S.Denot g.row.S-Batch.Denot g.row.S-Fault.Denot g.S.State → Type 0 = λ s. IsPrefix (seen_by s) (journal_of c.last-held.result.recorded) in (
       append_assoc at.yielded (seat ∷ []) _ ∙ rw (← steps) at.invariant.0,
       (let was = at.invariant.1 in let gone = c.in-Some.ensures.steps.1 in let short = ap length steps in omega arith),
-      All-push P at.yielded seat at.invariant.2 c.end_seat-end.ensures.begins,
-      ap (map (λ e. (e.number, e.places.items))) c.push_reserved.ensures.items ∙ map_push _ _ at.ended.items c.end_seat-end.result at.yielded seat at.invariant.3 c.end_seat-end.ensures.seat,
-      c.end_seat-end.ensures.all
-          ∙ ap (λ h. both_in_hand h (in_hand 1 (places_by seat))) at.invariant.4
+      All-push P at.yielded seat at.invariant.2 c.end_seat.ensures.begins,
+      c.end_seat.ensures.all
+          ∙ ap (λ h. both_in_hand h (in_hand 1 (places_by seat))) at.invariant.3
           ∙ ap (λ ps. in_hand (length at.yielded + 1) ps) (flat_map_more places_by [] at.yielded seat)
           ∙ ap (λ n. in_hand n (flat_map places_by (at.yielded ++ seat ∷ []))) (omega (arith, length_push at.yielded seat)),
-      c.end_seat-end.ensures.dealer ∙ at.invariant.5,
-      (let now = c.push_reserved.ensures.len in let was = at.invariant.6 in omega (arith, length_push at.yielded seat)),
-      c.push_reserved.ensures.capacity ∙ at.invariant.7,
+      c.end_seat.ensures.dealer ∙ at.invariant.4,
     )
 
 pub returns-clause-seen : goal.returns-clause-seen
@@ -40,4 +37,4 @@ pub returns-clause-places : goal.returns-clause-places
 returns-clause-places g c =
     let at = c.loop-seat in
     let all = yielded_all _ _ _ _ at.invariant.0 at.invariant.1 c.in-None.ensures.steps.0 ∙ c.into_iter-seat-iterator.ensures.into_iter_gives.0 in
-    subst (λ ps. AreAllBelow (length (journal_of c.last-held.result.recorded)) ps) (ap (λ d. d.places) at.invariant.4 ∙ ap (flat_map places_by) all) c.ask_dealt.ensures
+    subst (λ ps. AreAllBelow (length (journal_of c.last-held.result.recorded)) ps) (ap (λ d. d.places) at.invariant.3 ∙ ap (flat_map places_by) all) c.ask_dealt.ensures

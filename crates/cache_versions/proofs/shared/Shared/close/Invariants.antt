@@ -1,8 +1,7 @@
-use Rattle.std.proofs.Common.{◌≡◌, ◌++◌, All, length, map, vec_len, vec_capacity}
+use Rattle.std.proofs.Common.{◌≡◌, ◌++◌, All, length}
 use Rattle.std.specs.List.{flat_map}
 use Rattle.std.specs.Vec.Iter.{into_iter_items, into_iter_len}
 use mathlib.Core.List.{IsPrefix}
-use Rattle.cache_versions.specs.Closes.{seat_of}
 use Rattle.cache_versions.specs.Hands.{in_hand}
 use Rattle.cache_versions.specs.Kin.{journal_of}
 use Rattle.cache_versions.specs.Dealers.{IsHandOf}
@@ -14,7 +13,5 @@ invariant-loop-seat g l =
     (l.yielded ++ into_iter_items l.seat-iterator ≡ into_iter_items l.initial.seat-iterator)
     × (into_iter_len l.seat-iterator ≡ length (into_iter_items l.seat-iterator))
     × All (λ s. IsPrefix (seen_by s) (journal_of l.held.recorded)) l.yielded
-    × (map (λ e. (e.number, e.places.items)) l.ended.items ≡ map seat_of l.yielded)
     × (l.all.me.0 ≡ in_hand (length l.yielded) (flat_map places_by l.yielded))
     × IsHandOf l.dealer l.all
-    × (vec_len l.ended ≡ length l.yielded) × (vec_capacity l.ended ≡ vec_capacity l.initial.ended)

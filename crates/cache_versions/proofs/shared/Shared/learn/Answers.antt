@@ -6,4 +6,4 @@ use Rattle.cache_versions.proofs.shared.Shared.learn.Goals as goal
 
 pub returns-then-reaches-clause-learnt : goal.returns-then-reaches-clause-learnt
 returns-then-reaches-clause-learnt g c =
-    subst (λ (l : List g.row.S-Batch.Denot). IsPrefix (noted_by c.args.note) l) (sym (ap (λ h. h.recorded.version.value.journal) c.go_on.ensures.held)) (prefix_self (noted_by c.args.note))
+    subst (λ (l : List g.row.S-Batch.Denot). IsPrefix (noted_by c.args.note) l) (sym (ap (λ h. h.recorded.front.log) c.go_on.ensures.held)) (prefix_self (noted_by c.args.note))

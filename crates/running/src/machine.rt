@@ -1,0 +1,105 @@
+ghost use Rattle.std.specs.Prelude.{◌≡◌, ◌⊎◌, ℕ, ◌<◌, List, [], length, IfSome, Some};
+ghost use Rattle.outside_core.specs.Fault.{Rose};
+ghost use Rattle.command_line.specs.Words.{IsCommand, AreWordsOf};
+ghost use Rattle.running.specs.Run.{HasGiven, HasReplayed, IsReadOn, IsReplayed, IsCutShort, IsTaken, IsNoFrames, IsOfReplay, IsOfSelfrun, IsRefused, IsStatusOf};
+ghost use Rattle.running.specs.declared.reading.TheConstants.{MAX_INPUT};
+ghost use Rattle.running.specs.Summary.{IsSummed, IsSummedInPart};
+ghost use Rattle.command_line.specs.declared.command.Command.TheVariants.{Replay, Selfrun, Serve};
+ghost use Rattle.running.specs.Serve.{IsOfServe};
+
+use crate::commands::run;
+use crate::status::Status;
+use outside_core::{OpenGate, Sink, Source, SystemClock, UdpHarbor};
+use std::alloc::Global;
+use std::net::Net;
+use std::sync::Wait;
+use std::thread::Threads;
+use std::time;
+
+/// Runs the words as the program does: it serves over the network's loopback ports at the moments of the machine's clock, and
+/// holds back no worker of a replay. Its clauses are those of `run` that don't speak of the harbor and its links.
+pub fn run_here<
+    R: Threads + Wait + Sync,
+    N: Net + Drop,
+    T: time::Clock + Sync + Drop,
+    S: Source,
+    K: Sink,
+>(rt: &R, alloc: Global, words: &[String], source: &mut S, sink: &mut K, net: N, clock: T) -> Status
+    ensures usage { result ≡ Status.Usage → IsCommand words.now → ⊥ }
+    ensures no_command { (IsCommand words.now → ⊥)
+        → (result ≡ Status.Usage) ⊎ (result ≡ Status.OutOfMemory) }
+    ensures untouched { result ≡ Status.Usage
+        → (source.new ≡ source.old) × (sink.new ≡ sink.old) }
+    ensures good { (workers : ℕ) → AreWordsOf words.now (Replay workers)
+        → result ≡ Status.Good
+        → IfSome (S.left source.old) (λ input.
+        IsReplayed workers input (K.written sink.old) (K.written sink.new)) }
+    ensures replayed { (workers : ℕ) → AreWordsOf words.now (Replay workers)
+        → result ≡ Status.Good
+        → HasReplayed workers (S.left source.old) (S.left source.new)
+        (K.written sink.old) (K.written sink.new) }
+    ensures end { (workers : ℕ) → AreWordsOf words.now (Replay workers)
+        → result ≡ Status.Good
+        → IfSome (S.left source.old) (λ _. S.left source.new ≡ Some []) }
+    ensures no_fault { result ≡ Status.Good
+        → (S.faults source.new ≡ S.faults source.old)
+        × (K.faults sink.new ≡ K.faults sink.old) }
+    ensures read_fault { result ≡ Status.ReadFault
+        → Rose (S.faults source.old) (S.faults source.new) }
+    ensures write_fault { result ≡ Status.WriteFault
+        → Rose (K.faults sink.old) (K.faults sink.new) }
+    ensures cut { (workers : ℕ) → AreWordsOf words.now (Replay workers)
+        → result ≡ Status.WriteFault → IfSome (S.left source.old) (λ input.
+        IsCutShort workers input (K.written sink.old) (K.written sink.new)) }
+    ensures unwritten { (result ≡ Status.ReadFault) ⊎ (result ≡ Status.OutOfMemory)
+        ⊎ IsRefused result → sink.new ≡ sink.old }
+    ensures read { (workers : ℕ) → AreWordsOf words.now (Replay workers)
+        → IsOfReplay result ⊎ IsRefused result
+        → IsReadOn (S.left source.old) (S.left source.new) }
+    ensures read_part { (workers : ℕ) → AreWordsOf words.now (Replay workers)
+        → (result ≡ Status.ReadFault) ⊎ (result ≡ Status.OutOfMemory)
+        → HasGiven (S.left source.old) (S.left source.new) }
+    ensures too_long { result ≡ Status.InputTooLong
+        → IfSome (S.left source.old) (λ input. MAX_INPUT < length input) }
+    ensures bad_frame { (workers : ℕ) → AreWordsOf words.now (Replay workers)
+        → result ≡ Status.BadFrame → IfSome (S.left source.old) (IsNoFrames workers) }
+    ensures taken { (workers : ℕ) → AreWordsOf words.now (Replay workers)
+        → IsOfReplay result → IfSome (S.left source.old) (IsTaken workers) }
+    ensures complete { (workers : ℕ) → AreWordsOf words.now (Replay workers)
+        → (input : List ℕ) → S.left source.old ≡ Some input
+        → (Rose (S.faults source.old) (S.faults source.new) → ⊥)
+        → (Rose (K.faults sink.old) (K.faults sink.new) → ⊥)
+        → IsStatusOf workers input result ⊎ (result ≡ Status.OutOfMemory) }
+    ensures summed { (seed names queries : ℕ)
+        → AreWordsOf words.now (Selfrun seed names queries) → result ≡ Status.Good
+        → IsSummed seed names queries (K.written sink.old) (K.written sink.new) }
+    ensures summed_in_part { (seed names queries : ℕ)
+        → AreWordsOf words.now (Selfrun seed names queries) → result ≡ Status.WriteFault
+        → IsSummedInPart seed names queries (K.written sink.old) (K.written sink.new) }
+    ensures unread { (seed names queries : ℕ)
+        → AreWordsOf words.now (Selfrun seed names queries) → source.new ≡ source.old }
+    ensures summary_ends { (seed names queries : ℕ)
+        → AreWordsOf words.now (Selfrun seed names queries) → IsOfSelfrun result }
+    ensures summary_complete { (seed names queries : ℕ)
+        → AreWordsOf words.now (Selfrun seed names queries)
+        → (Rose (K.faults sink.old) (K.faults sink.new) → ⊥)
+        → (result ≡ Status.Good) ⊎ (result ≡ Status.OutOfMemory) }
+    ensures serve_ends { (listen upstream workers datagrams : ℕ)
+        → AreWordsOf words.now (Serve listen upstream workers datagrams) → IsOfServe result }
+    ensures aside { (listen upstream workers datagrams : ℕ)
+        → AreWordsOf words.now (Serve listen upstream workers datagrams)
+        → (source.new ≡ source.old) × (sink.new ≡ sink.old) }
+{
+    let mut harbor = UdpHarbor::over(net);
+    let clock = SystemClock::over(clock);
+    run(
+        rt,
+        alloc,
+        words,
+        source,
+        sink,
+        &OpenGate,
+        &mut harbor,
+        &clock,
+    )
+}
