@@ -3,6 +3,7 @@ import contextlib, struct
 from .random_zones import (
     AAAA, LABELS, MOMENT, MX, RESPONSE, TXT, A, Traffic, message, nsec3_data, random_octets, type_bit_maps,
 )  # fmt: skip
+from .random_walks import Paths
 from .reference_messages import Malformed, hash_of, label_count, lowered, read_name, text_of_hash, wire_form
 from .reference_model import CNAME, IN, MOST_HELD, NSEC, NSEC3, OPT, QUERY, RRSIG, SOA, UPSTREAM
 
@@ -39,6 +40,11 @@ def many_groups(traffic):
         traffic.pass_time([0, 0, 5, 60])
         frames += [(QUERY, traffic.now, traffic.query()) for _ in range(60)]
     return frames
+
+def walks(rng):
+    """Names that lead to one another, and many queries for them; of two scenarios one has true zones."""
+    paths = Paths(rng, rng.random() < 0.5)
+    return paths.frames(), paths.zones if paths.are_true else []
 
 def hostile(rng):
     """Octets that no server or client sends: changed at random, pointers to pointers, names about their limits."""
@@ -280,4 +286,5 @@ def workers(rng):
     traffic = Traffic(rng, rng.choice([0, 0, 0.1, 0.2]))
     return (traffic.mixed(120) if rng.random() < 0.6 else traffic.loaded(100)), []
 
-KINDS = {make.__name__: make for make in (zones, answers, hostile, full, workers)}
+KINDS = {make.__name__: make for make in (zones, answers, walks, hostile, full, workers)}
+OF_REPLAY = "full", "workers"  # of no other command

@@ -6,18 +6,18 @@ answers. The signatures are made up: that they verify is the word of the upstrea
 """
 import struct
 from .reference_messages import (
-    LAYOUTS, ONE_NAME, REST, TEXT, Malformed, canonical, hash_of, is_below, label_count, lowered, read_name,
-    text_of_hash, wire_form,
+    LAYOUTS, ONE_NAME, REST, TEXT, Malformed, hash_of, is_below, label_count, lowered, read_name, text_of_hash,
+    wire_form,
 )  # fmt: skip
 from .reference_model import (
-    AROUND, CNAME, DNAME, DS, IN, NO_DATA, NO_NAME, NS, NSEC, NSEC3, OPT, QUERY, RRSIG, SOA, UPSTREAM,
+    AROUND, CNAME, DNAME, DS, IN, NS, NSEC, NSEC3, OPT, QUERY, RRSIG, SOA, UPSTREAM,
 )  # fmt: skip
+from .reference_zones import Zone
 
 MOMENT = 1_000_000_000
 LABELS = (b"a", b"b", b"c", b"w", b"*", b"x", b"(x", b"\0", b"\xff", b"zz", b"Z", b"ab", b"a-", b"+")
 A, MX, TXT, AAAA, SRV, NSEC3PARAM = 1, 15, 16, 28, 33, 51
 PLAIN_TYPES = (A, TXT, MX, AAAA, SRV, 257, 65280, 12, 99)
-ASKED_TYPES = (A, A, A, TXT, TXT, MX, AAAA, DS, DS, CNAME, DNAME, NS, SOA, 257, 65280, 99, 12)
 ODD_TYPES = (0, OPT, RRSIG, NSEC, NSEC3, 127, 128, 129, 255, 256, NSEC3PARAM, 48, 65535)
 SALTS = (b"", b"\xaa", b"\xaa\xbb\xcc\xdd", bytes(20))
 RESPONSE = 0x81A0  # QR, RD, RA, AD
@@ -43,10 +43,11 @@ def nsec3_data(salt, iterations, flags, following, types, algorithm=1):
     head = struct.pack(">BBHB", algorithm, flags, iterations, len(salt))
     return head + salt + bytes([len(following)]) + following + type_bit_maps(types)
 
-class Zone:
-    """An apex and its records: data by owner name and type (RFC 1034, section 4.2)."""
+class SignedZone(Zone):
+    """A random zone, and its chains of denial records."""
     def __init__(self, rng, apex, cuts=()):
-        self.rng, self.apex, self.records = rng, apex, {}
+        super().__init__(apex)
+        self.rng = rng
         self.minimum = rng.choice([300, 300, 60, 3600, 0, 7, 86400, 0xFFFFFFFF])
         self.server = rng.choice([(), (b"ns",) + apex, (b"NS", b"Other")])
         self.add(apex, SOA)
@@ -87,24 +88,6 @@ class Zone:
         if rtype == DS: return bytes([0, 1, 13, 2]) + random_octets(rng, 32)
         return random_octets(rng, rng.choice([0, 1, 4, 20, 20, 100, 500]))
 
-    def types(self, owner): return {rtype for (other, rtype) in self.records if other == owner}
-    def is_cut(self, owner): return owner != self.apex and (owner, NS) in self.records
-
-    def is_live(self, owner):
-        """No cut or DNAME is above it: below those the zone says nothing (RFC 1034, section 4.3.2; RFC 6672, 2.4)."""
-        above = [owner[count:] for count in range(1, len(owner) - len(self.apex) + 1)]
-        return not any(self.is_cut(name) or (name, DNAME) in self.records for name in above)
-
-    def live_owners(self):
-        return sorted({owner for (owner, _) in self.records if self.is_live(owner)}, key=canonical)
-
-    def with_ancestors(self, owners):
-        return {owner[count:] for owner in owners for count in range(len(owner) - len(self.apex) + 1)}
-
-    def existing(self):
-        """Names at or above a live owner: empty non-terminals exist too (RFC 4592, section 2.2.2)."""
-        return sorted(self.with_ancestors(self.live_owners()), key=canonical)
-
     def own_sets(self):
         """The owner names and types of which the zone has authority, and so signs."""
         for owner, rtype in sorted(self.records):
@@ -134,27 +117,6 @@ class Zone:
             types |= {RRSIG} if types and (not self.is_cut(name) or DS in types) else set()
             chain.append((digest, following, types | ({NSEC3PARAM} if name == self.apex else set())))
         return chain
-
-    def lookup(self, name, rtype):
-        """What the zone answers: data, or `NO_DATA`, `NO_NAME`, or None for what no cache may answer.
-
-        RFC 1034, section 4.3.2, with cuts and DNAMEs from the apex down, and RFC 4592, section 3.3, for wildcards.
-        """
-        for count in range(len(name) - len(self.apex), -1, -1):
-            above = name[count:]
-            if self.is_cut(above) and not (count == 0 and rtype == DS) or (above, DNAME) in self.records and count:
-                return None
-        existing = set(self.existing())
-        if name in existing: return self.at(name, rtype)
-        encloser = next(name[count:] for count in range(1, len(name) + 1) if name[count:] in existing)
-        source = (b"*",) + encloser
-        if source not in existing: return NO_NAME
-        answer = self.at(source, rtype)
-        return None if (source, NS) in self.records or answer == NO_DATA and (source, DNAME) in self.records else answer
-
-    def at(self, name, rtype):
-        if (name, rtype) in self.records: return sorted(self.records[name, rtype])
-        return None if (name, CNAME) in self.records else NO_DATA
 
 class Message:
     """A message while it is written, with pointers where `compressed` (RFC 1035, section 4.1.4)."""
@@ -223,17 +185,27 @@ def mutated(rng, octets):
 
 class Traffic:
     """Some zones below one another, each with one to four chains, and answers and queries that speak of them."""
+    TTLS, ORIGINALS = [3600] * 6 + [300, 60, 5, 100000], [3600] * 6 + [7200, 30]
+    AHEAD = [100000] * 6 + [50, 3600, 0x7FFFFFFF]  # the seconds that signatures have left
+    ASKED_TYPES = (A, A, A, TXT, TXT, MX, AAAA, DS, DS, CNAME, DNAME, NS, SOA, 257, 65280, 99, 12)
+
     def __init__(self, rng, faults=0.0):
         self.rng, self.faults = rng, faults
         self.now = MOMENT + rng.choice([0, 0, 0, rng.randrange(1000)])
         if rng.random() < 0.08:  # about the ends of what a moment can tell
             self.now = rng.choice([0xFFFFFFFF - rng.randrange(3000), rng.randrange(2000)])
+        apexes = self.some_apexes()
+        self.zones = [SignedZone(rng, apex, apexes[number + 1 :]) for number, apex in enumerate(apexes)]
+        self.chains = {zone.apex: self.some_chains() for zone in self.zones}
+        self.find_names()
+
+    def some_apexes(self):
+        """What may be cuts of another stands behind it."""
+        rng = self.rng
         apexes = [rng.choice([(b"example",), (b"example",), (b"b", b"example"), (), (b"*", b"ex")])]
         if rng.random() < 0.5: apexes.append((rng.choice([b"a", b"b", b"c", b"w"]),) + apexes[0])
         if rng.random() < 0.15: apexes.append((b"c",) + apexes[-1])
-        self.zones = [Zone(rng, apex, apexes[number + 1 :]) for number, apex in enumerate(apexes)]
-        self.chains = {zone.apex: self.some_chains() for zone in self.zones}
-        self.find_names()
+        return apexes
 
     def some_chains(self):
         """None stands for NSEC, and salt, iterations and Opt-Out for NSEC3."""
@@ -259,8 +231,7 @@ class Traffic:
     def signed(self, zone, owner, rtype, items, labels=None):
         """The records of a set and its signatures."""
         rng, is_faulty = self.rng, self.faulty()
-        ttl, original = rng.choice([3600] * 6 + [300, 60, 5, 100000]), rng.choice([3600] * 6 + [7200, 30])
-        ahead = rng.choice([100000] * 6 + [50, 3600, 0x7FFFFFFF])
+        ttl, original, ahead = rng.choice(self.TTLS), rng.choice(self.ORIGINALS), rng.choice(self.AHEAD)
         labels = label_count(owner) if labels is None else labels
         rclass, signer, count, items = IN, zone, rng.choice([1] * 8 + [2]), list(items)
         if is_faulty:
@@ -390,7 +361,7 @@ class Traffic:
         name = rng.choice(self.names)
         name = (rng.choice(LABELS),) * rng.randint(1, 60) + name if rng.random() < 0.05 else name
         while not fits(name): name = name[1:]
-        rtype = rng.choice(ASKED_TYPES if rng.random() < 0.93 else ODD_TYPES)
+        rtype = rng.choice(self.ASKED_TYPES if rng.random() < 0.93 else ODD_TYPES)
         rclass = IN if rng.random() < 0.97 else rng.choice([0, 3, 255])
         flags = 0x100 * (rng.random() < 0.8) | 0x20 * (rng.random() < 0.4) | 0x10 * (rng.random() < 0.3)
         if rng.random() < 0.05: flags |= rng.choice([0x400, 0x200, 0x80, 0x40, 0x800, 0x2800, 0x8000, 0x7])
@@ -429,27 +400,32 @@ class Traffic:
 
     def loaded(self, count):
         """Most of each zone in a few answers, and then queries."""
-        rng, frames = self.rng, []
+        rng = self.rng
         for zone in self.zones:
             for _ in range(rng.randint(1, 5)):
                 zone.add_some(rng.choice([1, 1, 2, 3]), (b"a", b"b", b"w", b"*", b"*", b"x", b"(x"))
         self.find_names()
-        for zone in self.zones:
-            sets = [self.signed(zone.apex, zone.apex, SOA, zone.records[zone.apex, SOA])]
-            for parameters in self.chains[zone.apex][: rng.choice([1, 1, 2, 4])]:
-                sets += [link for link in self.denials(zone, parameters) if rng.random() < 0.85]
-            for owner, rtype in zone.own_sets():
-                if rtype != SOA and rng.random() < (0.8 if owner[:1] == (b"*",) else 0.25):
-                    sets.append(self.signed(zone.apex, owner, rtype, zone.records[owner, rtype]))
-            rng.shuffle(sets)
-            while sets:
-                some = rng.randint(1, 8)
-                records, sets = [record for one in sets[:some] for record in one], sets[some:]
-                flags = RESPONSE | rng.choice([0, 3])
-                octets = message(rng, rng.choice(self.names), A, flags, ([], records, []), rng.random() < 0.5)
-                frames.append((UPSTREAM, self.now, octets))
-                self.pass_time([0, 0, 0, 1])
+        frames = [frame for zone in self.zones for frame in self.load(zone, zone.own_sets(), 0.25)]
         for _ in range(count):
             self.pass_time([0] * 10 + [1, 7, 40, 300 if rng.random() < 0.1 else 0])
             frames.append((QUERY, self.now, self.query()))
+        return frames
+
+    def load(self, zone, keys, share):
+        """The answers that bring most of a zone's denial records and wildcards, and a share of its other sets."""
+        rng, frames = self.rng, []
+        sets = [self.signed(zone.apex, zone.apex, SOA, zone.records[zone.apex, SOA])]
+        for parameters in self.chains[zone.apex][: rng.choice([1, 1, 2, 4])]:
+            sets += [link for link in self.denials(zone, parameters) if rng.random() < 0.85]
+        for owner, rtype in keys:
+            if rtype != SOA and rng.random() < (0.8 if owner[:1] == (b"*",) else share):
+                sets.append(self.signed(zone.apex, owner, rtype, zone.records[owner, rtype]))
+        rng.shuffle(sets)
+        while sets:
+            some = rng.randint(1, 8)
+            records, sets = [record for one in sets[:some] for record in one], sets[some:]
+            flags = RESPONSE | rng.choice([0, 3])
+            octets = message(rng, rng.choice(self.names), A, flags, ([], records, []), rng.random() < 0.5)
+            frames.append((UPSTREAM, self.now, octets))
+            self.pass_time([0, 0, 0, 1])
         return frames

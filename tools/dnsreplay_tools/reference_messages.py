@@ -5,7 +5,7 @@ A name is the tuple of its labels, the leftmost first; where names are compared,
 import functools, hashlib, struct
 from collections import namedtuple
 
-NO_ERROR, FORMAT_ERROR, NAME_ERROR, NOT_IMPLEMENTED, BAD_VERSION = 0, 1, 3, 4, 16  # RCODEs
+NO_ERROR, FORMAT_ERROR, NAME_ERROR, NOT_IMPLEMENTED, TARGET_TOO_LONG, BAD_VERSION = 0, 1, 3, 4, 6, 16  # RCODEs
 OPT = 41
 LEAST_PAYLOAD = 512
 

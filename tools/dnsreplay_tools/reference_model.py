@@ -1,13 +1,13 @@
-"""What `dnsreplay replay --workers 1` answers to each frame, said once more, to be compared with the program.
+"""What one worker of dnsreplay holds and what that proves, said once more, to be compared with the program.
 
 It is written from the same rules that docs/rules states, and from none of the program's code; it shares no structure
-with it, makes each reply anew, and has no threads. The clock is the frame's moment alone, in seconds since 1970.
+with it, and has no threads. The clock is the frame's moment alone, in seconds since 1970.
 """
 import bisect, heapq, struct
 from collections import namedtuple
 from .reference_messages import (
-    BAD_VERSION, LEAST_PAYLOAD, NAME_ERROR, NO_ERROR, OPT, Malformed, canonical, common_ancestor, hash_of, hash_of_text,
-    is_below, is_under, label_count, lowered, read_message, read_name, read_query, read_types, u16, u32, wire_form,
+    NAME_ERROR, NO_ERROR, OPT, Malformed, canonical, common_ancestor, hash_of, hash_of_text, is_below, is_under,
+    label_count, lowered, read_message, read_name, read_types, u16, u32, wire_form,
 )  # fmt: skip
 
 HEAD = struct.Struct(">BBIH")  # of a frame: kind, worker, moment or version, length of what follows
@@ -22,7 +22,6 @@ NEVER_STORED = frozenset((3, 4, 7, 8, 9, 14, 17, 18, 21, 24, 26, 30, 35, 36))
 MOST_HELD = 131_072
 MOST_ITERATIONS = 50  # RFC 9276, section 3.2
 LIFE_OF_DENIALS, LIFE_OF_SETS = 10_800, 86_400  # RFC 8198, section 5.4, for the first
-PAYLOAD = 1_232
 AROUND = 1 << 32  # moments of signatures are told modulo this (RFC 4034, section 3.1.5)
 ANSWER, NO_DATA, NO_NAME = "answer", "no data", "name error"
 MATCHES, EMPTY, COVERS = "matches", "empty non-terminal", "covers"
@@ -239,16 +238,20 @@ class Proof(namedtuple("Proof", "kind answer soa denials")):
     """An answer, and the records that prove it: a set, or the zone's SOA, and the denial records in turn."""
     def used(self): return [record for record in (self.answer, self.soa, *self.denials) if record is not None]
 
+def zone_of(cache, name, rtype):
+    """The longest name at or above the name, above it for DS (RFC 4035, section 3.1.4.1), of which anything is held,
+    expired or not; or None."""
+    within = is_below if rtype == DS else is_under
+    return max((apex for apex in cache.zones if within(name, apex)), key=len, default=None)
+
 def prove(cache, name, rtype, now):
     """The proof that what is held has of a name and a type, or None.
 
-    The zone is the longest name at or above the name, above it for DS (RFC 4035, section 3.1.4.1), of which anything is
-    held, expired or not. A set at the name answers (RFC 1034, section 5.3.3); then the chains, the newest first.
+    A set at the name answers (RFC 1034, section 5.3.3); then the chains of its zone, the newest first.
     """
-    within = is_below if rtype == DS else is_under
-    apexes = [apex for apex in cache.zones if within(name, apex)]
-    if not apexes: return None
-    search = Search(cache.zones, max(apexes, key=len), name, rtype, now)
+    apex = zone_of(cache, name, rtype)
+    if apex is None: return None
+    search = Search(cache.zones, apex, name, rtype, now)
     answer = search.set_at(name, rtype)
     if answer is not None: return Proof(ANSWER, answer, None, [])
     for chain in search.zone.chains:
@@ -334,75 +337,3 @@ class Search:
             return None
         denials += [record] if all(record is not other for other in denials) else []
         return Proof(NO_NAME if how == COVERS else NO_DATA, None, self.soa, denials)
-
-def time_to_live(proof, now):
-    """The least of the seconds that the proof's records have left, and in a denial of the SOA's MINIMUM, the last four
-    octets of its data (RFC 2308, section 5; RFC 8198, section 5.4)."""
-    least = min(record.remaining(now) for record in proof.used())
-    if proof.soa is None: return least
-    data = proof.soa.items[0]
-    return min(least, u32(data, len(data) - 4) if len(data) >= 4 else 0)
-
-def written(owner, rtype, ttl, items):
-    """Records of class IN with these data."""
-    return [wire_form(owner) + struct.pack(">HHIH", rtype, IN, ttl, len(data) & 0xFFFF) + data for data in items]
-
-def write_reply(query, proof, now):
-    """A reply: the set that answers, under the query's name; the SOA; with DO the signatures and the denial records too
-    (RFC 4035, section 3.1). One that would be too long has the question and OPT alone, and TC (RFC 2181, section 9)."""
-    ttl, sign = time_to_live(proof, now), query.wants_signatures
-    answers, authority = [], []
-    if proof.answer is not None:
-        answers += written(query.name, proof.answer.rtype, ttl, proof.answer.items)
-        answers += written(query.name, RRSIG, ttl, proof.answer.signatures) if sign else []
-    for record in ([proof.soa] if proof.soa is not None else []) + (proof.denials if sign else []):
-        authority += written(record.owner, record.rtype, ttl, record.items)
-        authority += written(record.owner, RRSIG, ttl, record.signatures) if sign else []
-    rcode = NAME_ERROR if proof.kind == NO_NAME else NO_ERROR
-    flags = flags_of(query, rcode) | (0x20 if query.authentic_data or sign else 0)
-    options = option(query, 0)
-    limit = LEAST_PAYLOAD if query.payload is None else min(PAYLOAD, query.payload)
-    body = query.asked + b"".join(answers + authority) + options
-    counts = len(answers), len(authority)
-    if 12 + len(body) > limit: flags, body, counts = flags | 0x200, query.asked + options, (0, 0)
-    return struct.pack(">6H", query.identity, flags, 1, *counts, 1 if options else 0) + body
-
-def flags_of(query, rcode):
-    """QR and RA; RD and CD as in the query (RFC 1035, section 4.1.1; RFC 4035, section 3.2.2)."""
-    recursion = 0x100 if query.recursion_desired else 0
-    return 0x8080 | recursion | (0x10 if query.checking_disabled else 0) | rcode & 15
-
-def option(query, rcode):
-    """An OPT record where the query had one, with the upper bits of the RCODE and DO (RFC 6891, section 6.1.3)."""
-    if query.payload is None: return b""
-    return b"\0" + struct.pack(">HHIH", OPT, PAYLOAD, rcode >> 4 << 24 | (0x8000 if query.wants_signatures else 0), 0)
-
-def write_error(query, rcode):
-    """The reply that tells a fault: a header alone, or for another version of EDNS the question and OPT too."""
-    if rcode != BAD_VERSION:
-        return struct.pack(">6H", query.identity, flags_of(query, rcode) | query.opcode << 11, 0, 0, 0, 0)
-    return struct.pack(">6H", query.identity, flags_of(query, rcode), 1, 0, 0, 1) + query.asked + option(query, rcode)
-
-class Model:
-    """What one worker does, frame by frame."""
-    def __init__(self): self.cache, self.proof = Cache(), None
-
-    def frame(self, kind, now, message):
-        """The kind, the version and the body of the output frame; a reply's proof is left in `proof`."""
-        return self.query(message, now) if kind == QUERY else self.upstream(message, now)
-
-    def query(self, message, now):
-        """Forwarded are other classes than IN, types that ask of a server, denial records, and what isn't proved."""
-        rcode, query = read_query(message)
-        if rcode is None: return DROPPED, 0, b""
-        if rcode: return ERROR, 0, write_error(query, rcode)
-        asks_a_zone = query.rclass == IN and is_of_a_zone(query.rtype) and query.rtype not in (NSEC, NSEC3)
-        self.proof = prove(self.cache, query.name, query.rtype, now) if asks_a_zone else None
-        if self.proof is None: return FORWARD, self.cache.version, b""
-        return REPLY, self.cache.version, write_reply(query, self.proof, now)
-
-    def upstream(self, message, now):
-        code, batch, skipped = take_in(message, now)
-        if code: return REFUSED, 0, bytes([code])
-        self.cache.insert(batch, now)
-        return STORED, self.cache.version, struct.pack(">HH", len(batch) & 0xFFFF, skipped & 0xFFFF)

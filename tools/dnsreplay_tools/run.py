@@ -51,16 +51,21 @@ def checked(path, status, said=b""):
         told = said.decode(errors="replace").strip()[-500:]
         raise Fault(f"{path} ended with status {status}" + f": {told}" * bool(told))
 
-def replay(path, octets, workers=1, tool=(), seconds=None):
-    """Standard output and standard error of a replay."""
-    words = [*tool, path, "replay", "--workers", str(workers)]
+def ran(words, octets, seconds=None):
+    """Standard output and standard error of a program that is given the octets."""
     with given(octets) as file:
         try:
             done = subprocess.run(words, stdin=file, capture_output=True, check=False, timeout=seconds)
         except subprocess.TimeoutExpired as late:
-            raise Fault(f"{path} hasn't ended after {seconds} seconds") from late
-    checked(path, done.returncode, done.stderr)
+            raise Fault(f"{words[0]} hasn't ended after {seconds} seconds") from late
+    checked(words[0], done.returncode, done.stderr)
     return done.stdout, done.stderr
+
+def of_replay(workers=1): return ["replay", "--workers", str(workers)]
+
+def replay(path, octets, workers=1, tool=()):
+    """Standard output and standard error of a replay."""
+    return ran([*tool, path, *of_replay(workers)], octets)
 
 def counted(path, octets):
     """The instructions of a whole replay by one worker, and its output."""
@@ -72,10 +77,9 @@ def counted(path, octets):
 
 def timed(path, octets, workers=1, env=None):
     """Seconds of a replay: of processor time, the system's share included, and by the clock."""
-    words = [path, "replay", "--workers", str(workers)]
     with given(octets) as file:
         start = time.perf_counter()
-        child = subprocess.Popen(words, stdin=file, stdout=subprocess.DEVNULL, env=env)
+        child = subprocess.Popen([path, *of_replay(workers)], stdin=file, stdout=subprocess.DEVNULL, env=env)
         _, status, usage = os.wait4(child.pid, 0)
         took = time.perf_counter() - start
     child.returncode = os.waitstatus_to_exitcode(status)

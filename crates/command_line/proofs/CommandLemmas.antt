@@ -1,5 +1,5 @@
 -- Which command words are.
-use Rattle.std.proofs.Common.{◌≡◌, ◌≤◌, ◌==◌, ℕ, Bool, true, false, List, [], ◌∷◌, ◌++◌, length, Option, None, Some, Result, Ok, Err, codes, get_or, drop, sym, refl, ◌∙◌, ap, subst, arith}
+use Rattle.std.proofs.Common.{◌≡◌, ◌≤◌, ◌==◌, ◌+◌, ◌*◌, ℕ, Bool, true, false, List, [], ◌∷◌, ◌++◌, length, Option, None, Some, Result, Ok, Err, codes, get_or, drop, sym, refl, ◌∙◌, ap, subst, arith}
 use Rattle.std.specs.Prelude.{IfOk, IfSome, String, string_bytes}
 use Rattle.std.specs.declared.alloc.Global.{Global}
 use Rattle.std.specs.List.{All}
@@ -7,8 +7,9 @@ use Rattle.std.proofs.lemmas.Bool.{eqb-true, eqb-false}
 use Rattle.std.proofs.lemmas.Option.{same_Some}
 use Rattle.std.proofs.lemmas.List.Elements.{All-nil, All-cons, All-head, All-tail, All-same}
 use Rattle.command_line.specs.Words.{Word, Setting, Sets, two, one, Gives, nothing, first, Means, texts, workers_setting, seed_setting, names_setting, queries_setting, HasPorts, listen_setting, upstream_setting, datagrams_setting}
+use Rattle.command_line.specs.Options.{IsWalkNamed}
 use Rattle.command_line.specs.declared.command.Command.{Command}
-use Rattle.command_line.specs.declared.command.Command.TheVariants.{Replay, Selfrun, Serve}
+use Rattle.command_line.specs.declared.command.Command.TheVariants.{Replay, Selfrun, Serve, Chase, Redirect, Follow}
 
 -- ---- the first word
 
@@ -45,14 +46,12 @@ OfServe listen upstream workers datagrams options =
 abbrev Answer : Type 0 → Type 0
 Answer E = Result (Option Command) E
 
-other_name : (options options' : List Word) → codes "selfrun" ∷ options ≡ codes "replay" ∷ options' → ⊥
-other_name options options' e = let lengths : 7 ≡ 6 = ap (λ l. length (get_or l 0 [])) e in absurd (omega (arith, lengths))
+-- a name's length and first letter, by which all names differ
+abbrev mark : Word → ℕ
+mark name = 1000 * length name + get_or name 0 0
 
-serve_or_replay : (options options' : List Word) → codes "serve" ∷ options ≡ codes "replay" ∷ options' → ⊥
-serve_or_replay options options' e = let lengths : 5 ≡ 6 = ap (λ l. length (get_or l 0 [])) e in absurd (omega (arith, lengths))
-
-serve_or_selfrun : (options options' : List Word) → codes "serve" ∷ options ≡ codes "selfrun" ∷ options' → ⊥
-serve_or_selfrun options options' e = let lengths : 5 ≡ 7 = ap (λ l. length (get_or l 0 [])) e in absurd (omega (arith, lengths))
+differ : (front front' : Word) (options options' : List Word) → (mark front == mark front') ≡ false → front ∷ options ≡ front' ∷ options' → ⊥
+differ front front' options options' apart e = eqb-false (mark front) (mark front') apart (ap (λ l. mark (get_or l 0 [])) e)
 
 pub serve_read : {E : Type 0} (words options : List Word) (r : Answer E) → words ≡ codes "serve" ∷ options
     → IfOk r (λ found. IfSome found (λ command. (listen upstream workers datagrams : ℕ) × (command ≡ Serve listen upstream workers datagrams) × OfServe listen upstream workers datagrams options × HasPorts listen upstream workers))
@@ -64,10 +63,13 @@ serve_read words options (Ok (Some command)) is (listen, upstream, workers, data
 pub serve_every : {E : Type 0} (words options : List Word) (r : Answer E) → words ≡ codes "serve" ∷ options
     → ((listen upstream workers datagrams : ℕ) → OfServe listen upstream workers datagrams options → HasPorts listen upstream workers → IfOk r (λ found. found ≡ Some (Serve listen upstream workers datagrams)))
     → (command : Command) → Means words command → IfOk r (λ found. found ≡ Some command)
-serve_every words options r is every (Replay workers) (rest, is', gives) = absurd (serve_or_replay options rest (sym is ∙ is'))
-serve_every words options r is every (Selfrun seed names queries) (rest, is', gives) = absurd (serve_or_selfrun options rest (sym is ∙ is'))
+serve_every words options r is every (Replay workers) (rest, is', gives) = absurd (differ (codes "serve") (codes "replay") options rest refl (sym is ∙ is'))
+serve_every words options r is every (Selfrun seed names queries) (rest, is', gives) = absurd (differ (codes "serve") (codes "selfrun") options rest refl (sym is ∙ is'))
 serve_every words options r is every (Serve listen upstream workers datagrams) (rest, is', gives, ports) =
     every listen upstream workers datagrams (subst (OfServe listen upstream workers datagrams) (ap (drop 1) (sym is' ∙ is)) gives) ports
+serve_every words options r is every Chase is' = absurd (differ (codes "serve") (codes "chase") options [] refl (sym is ∙ is'))
+serve_every words options r is every Redirect is' = absurd (differ (codes "serve") (codes "redirect") options [] refl (sym is ∙ is'))
+serve_every words options r is every Follow is' = absurd (differ (codes "serve") (codes "follow") options [] refl (sym is ∙ is'))
 
 pub replay_read : {E : Type 0} (words options : List Word) (r : Answer E) → words ≡ codes "replay" ∷ options → IfOk r (λ found. IfSome found (λ command. (workers : ℕ) × (command ≡ Replay workers) × OfReplay workers options)) → IfOk r (λ found. IfSome found (Means words))
 replay_read words options (Err e) is read = tt
@@ -76,8 +78,11 @@ replay_read words options (Ok (Some command)) is (workers, same, gives) = subst 
 
 pub replay_every : {E : Type 0} (words options : List Word) (r : Answer E) → words ≡ codes "replay" ∷ options → ((workers : ℕ) → OfReplay workers options → IfOk r (λ found. found ≡ Some (Replay workers))) → (command : Command) → Means words command → IfOk r (λ found. found ≡ Some command)
 replay_every words options r is every (Replay workers) (rest, is', gives) = every workers (subst (OfReplay workers) (ap (drop 1) (sym is' ∙ is)) gives)
-replay_every words options r is every (Selfrun seed names queries) (rest, is', gives) = absurd (other_name rest options (sym is' ∙ is))
-replay_every words options r is every (Serve listen upstream workers datagrams) (rest, is', gives, ports) = absurd (serve_or_replay rest options (sym is' ∙ is))
+replay_every words options r is every (Selfrun seed names queries) (rest, is', gives) = absurd (differ (codes "replay") (codes "selfrun") options rest refl (sym is ∙ is'))
+replay_every words options r is every (Serve listen upstream workers datagrams) (rest, is', gives, ports) = absurd (differ (codes "replay") (codes "serve") options rest refl (sym is ∙ is'))
+replay_every words options r is every Chase is' = absurd (differ (codes "replay") (codes "chase") options [] refl (sym is ∙ is'))
+replay_every words options r is every Redirect is' = absurd (differ (codes "replay") (codes "redirect") options [] refl (sym is ∙ is'))
+replay_every words options r is every Follow is' = absurd (differ (codes "replay") (codes "follow") options [] refl (sym is ∙ is'))
 
 pub selfrun_read : {E : Type 0} (words options : List Word) (r : Answer E) → words ≡ codes "selfrun" ∷ options → IfOk r (λ found. IfSome found (λ command. (seed names queries : ℕ) × (command ≡ Selfrun seed names queries) × OfSelfrun seed names queries options)) → IfOk r (λ found. IfSome found (Means words))
 selfrun_read words options (Err e) is read = tt
@@ -85,19 +90,45 @@ selfrun_read words options (Ok None) is read = tt
 selfrun_read words options (Ok (Some command)) is (seed, names, queries, same, gives) = subst (Means words) (sym same) (options, is, gives)
 
 pub selfrun_every : {E : Type 0} (words options : List Word) (r : Answer E) → words ≡ codes "selfrun" ∷ options → ((seed names queries : ℕ) → OfSelfrun seed names queries options → IfOk r (λ found. found ≡ Some (Selfrun seed names queries))) → (command : Command) → Means words command → IfOk r (λ found. found ≡ Some command)
-selfrun_every words options r is every (Replay workers) (rest, is', gives) = absurd (other_name options rest (sym is ∙ is'))
+selfrun_every words options r is every (Replay workers) (rest, is', gives) = absurd (differ (codes "selfrun") (codes "replay") options rest refl (sym is ∙ is'))
 selfrun_every words options r is every (Selfrun seed names queries) (rest, is', gives) = every seed names queries (subst (OfSelfrun seed names queries) (ap (drop 1) (sym is' ∙ is)) gives)
-selfrun_every words options r is every (Serve listen upstream workers datagrams) (rest, is', gives, ports) = absurd (serve_or_selfrun rest options (sym is' ∙ is))
+selfrun_every words options r is every (Serve listen upstream workers datagrams) (rest, is', gives, ports) = absurd (differ (codes "selfrun") (codes "serve") options rest refl (sym is ∙ is'))
+selfrun_every words options r is every Chase is' = absurd (differ (codes "selfrun") (codes "chase") options [] refl (sym is ∙ is'))
+selfrun_every words options r is every Redirect is' = absurd (differ (codes "selfrun") (codes "redirect") options [] refl (sym is ∙ is'))
+selfrun_every words options r is every Follow is' = absurd (differ (codes "selfrun") (codes "follow") options [] refl (sym is ∙ is'))
 
-pub neither : (words options : List Word) (front : Word) → words ≡ front ∷ options → (front ≡ codes "replay" → ⊥) → (front ≡ codes "selfrun" → ⊥) → (front ≡ codes "serve" → ⊥) → (command : Command) → Means words command → ⊥
-neither words options front is replay selfrun serve (Replay workers) (rest, is', gives) = replay (ap (λ l. get_or l 0 []) (sym is ∙ is'))
-neither words options front is replay selfrun serve (Selfrun seed names queries) (rest, is', gives) = selfrun (ap (λ l. get_or l 0 []) (sym is ∙ is'))
-neither words options front is replay selfrun serve (Serve listen upstream workers datagrams) (rest, is', gives, ports) = serve (ap (λ l. get_or l 0 []) (sym is ∙ is'))
+pub walk_read : (words options : List Word) (front : Word) (r : Option Command) → words ≡ front ∷ options → IfSome r (λ command. (options ≡ []) × IsWalkNamed front command) → IfSome r (Means words)
+walk_read words options front None is read = tt
+walk_read words options front (Some (Replay workers)) is (none, named) = absurd named
+walk_read words options front (Some (Selfrun seed names queries)) is (none, named) = absurd named
+walk_read words options front (Some (Serve listen upstream workers datagrams)) is (none, named) = absurd named
+walk_read words options front (Some Chase) is (none, named) = is ∙ (λ i. named i ∷ none i)
+walk_read words options front (Some Redirect) is (none, named) = is ∙ (λ i. named i ∷ none i)
+walk_read words options front (Some Follow) is (none, named) = is ∙ (λ i. named i ∷ none i)
+
+-- the first word, and those behind it
+first_is : (words options rest : List Word) (front front' : Word) → words ≡ front ∷ options → words ≡ front' ∷ rest → front ≡ front'
+first_is words options rest front front' is is' = ap (λ l. get_or l 0 []) (sym is ∙ is')
+
+rest_is : (words options rest : List Word) (front front' : Word) → words ≡ front ∷ options → words ≡ front' ∷ rest → options ≡ rest
+rest_is words options rest front front' is is' = ap (drop 1) (sym is ∙ is')
+
+pub walk_every : (words options : List Word) (front : Word) (r : Option Command) → words ≡ front ∷ options → (front ≡ codes "replay" → ⊥) → (front ≡ codes "selfrun" → ⊥) → (front ≡ codes "serve" → ⊥)
+    → ((command : Command) → options ≡ [] → IsWalkNamed front command → r ≡ Some command) → (command : Command) → Means words command → r ≡ Some command
+walk_every words options front r is replay selfrun serve every (Replay workers) (rest, is', gives) = absurd (replay (first_is words options rest front (codes "replay") is is'))
+walk_every words options front r is replay selfrun serve every (Selfrun seed names queries) (rest, is', gives) = absurd (selfrun (first_is words options rest front (codes "selfrun") is is'))
+walk_every words options front r is replay selfrun serve every (Serve listen upstream workers datagrams) (rest, is', gives, ports) = absurd (serve (first_is words options rest front (codes "serve") is is'))
+walk_every words options front r is replay selfrun serve every Chase is' = every Chase (rest_is words options [] front (codes "chase") is is') (first_is words options [] front (codes "chase") is is')
+walk_every words options front r is replay selfrun serve every Redirect is' = every Redirect (rest_is words options [] front (codes "redirect") is is') (first_is words options [] front (codes "redirect") is is')
+walk_every words options front r is replay selfrun serve every Follow is' = every Follow (rest_is words options [] front (codes "follow") is is') (first_is words options [] front (codes "follow") is is')
 
 pub no_words : (words : List Word) → words ≡ [] → (command : Command) → Means words command → ⊥
 no_words words none (Replay workers) (rest, is, gives) = absurd (omega (arith, ap length (sym none ∙ is)))
 no_words words none (Selfrun seed names queries) (rest, is, gives) = absurd (omega (arith, ap length (sym none ∙ is)))
 no_words words none (Serve listen upstream workers datagrams) (rest, is, gives, ports) = absurd (omega (arith, ap length (sym none ∙ is)))
+no_words words none Chase is = absurd (omega (arith, ap length (sym none ∙ is)))
+no_words words none Redirect is = absurd (omega (arith, ap length (sym none ∙ is)))
+no_words words none Follow is = absurd (omega (arith, ap length (sym none ∙ is)))
 
 -- ---- the values lie in their ranges
 
@@ -160,21 +191,33 @@ seed_of : Command → ℕ
 seed_of (Replay workers) = 0
 seed_of (Selfrun seed names queries) = seed
 seed_of (Serve listen upstream workers datagrams) = 0
+seed_of Chase = 0
+seed_of Redirect = 0
+seed_of Follow = 0
 
 names_of : Command → ℕ
 names_of (Replay workers) = 0
 names_of (Selfrun seed names queries) = names
 names_of (Serve listen upstream workers datagrams) = 0
+names_of Chase = 0
+names_of Redirect = 0
+names_of Follow = 0
 
 queries_of : Command → ℕ
 queries_of (Replay workers) = 0
 queries_of (Selfrun seed names queries) = queries
 queries_of (Serve listen upstream workers datagrams) = 0
+queries_of Chase = 0
+queries_of Redirect = 0
+queries_of Follow = 0
 
 workers_of : Command → ℕ
 workers_of (Replay workers) = workers
 workers_of (Selfrun seed names queries) = 0
 workers_of (Serve listen upstream workers datagrams) = 0
+workers_of Chase = 0
+workers_of Redirect = 0
+workers_of Follow = 0
 
 pub same_workers : (command : Command) (workers asked : ℕ) → command ≡ Replay workers → Some command ≡ Some (Replay asked) → workers ≡ asked
 unfolding workers_of

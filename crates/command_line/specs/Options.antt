@@ -1,10 +1,13 @@
--- No public clause cites this module. The options of a command as `clap` knows them, and what it found for each.
-use Rattle.std.specs.Prelude.{ℕ, ◌==◌, ◌&&◌, Bool, true, not, List, [], ◌∷◌, map, drop, codes, Some, unwrap_or}
+-- No public clause cites this module. The options of a command as `clap` knows them, and what it found for each; and the names of
+-- the commands that have none.
+use Rattle.std.specs.Prelude.{◌≡◌, ℕ, ◌==◌, ◌&&◌, Bool, true, not, List, [], ◌∷◌, map, drop, codes, Some, unwrap_or}
 use Rattle.std.specs.List.{list_any}
 use Rattle.std.specs.Str.{bytes_eq}
 use Rattle.clap.specs.Words.{App, Rule, first_value, found_of, new_app, new_rule}
 use Rattle.clap.specs.declared.parser.matches.ArgMatches.{ArgMatches}
 use Rattle.command_line.specs.Words.{Word, Setting, IsValue}
+use Rattle.command_line.specs.declared.command.Command.{Command}
+use Rattle.command_line.specs.declared.command.Command.TheVariants.{Replay, Selfrun, Serve, Chase, Redirect, Follow}
 use Rattle.command_line.specs.declared.setting.Setting as program
 
 -- the option's name in a word: two hyphens stand before it
@@ -60,3 +63,12 @@ text_of matches setting = unwrap_or (first_value (found_of matches) (plain_name 
 abbrev pub AreRead : ArgMatches → List (Setting × ℕ) → Type 0
 AreRead matches [] = Unit {0}
 AreRead matches (given ∷ others) = IsValue given.0 (text_of matches given.0) given.1 × AreRead matches others
+
+-- the command, which has no options, has this name
+abbrev pub IsWalkNamed : Word → Command → Type 0
+IsWalkNamed name (Replay workers) = ⊥
+IsWalkNamed name (Selfrun seed names queries) = ⊥
+IsWalkNamed name (Serve listen upstream workers datagrams) = ⊥
+IsWalkNamed name Chase = name ≡ codes "chase"
+IsWalkNamed name Redirect = name ≡ codes "redirect"
+IsWalkNamed name Follow = name ≡ codes "follow"

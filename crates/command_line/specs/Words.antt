@@ -3,7 +3,7 @@ use Rattle.std.specs.Prelude.{◌≡◌, ◌⊎◌, ℕ, ◌+◌, ◌-◌, ◌<�
 use Rattle.std.specs.Str.Parse.{IsNumeral, digits_value}
 use Rattle.std.specs.declared.alloc.Global.{Global}
 use Rattle.command_line.specs.declared.command.Command.{Command}
-use Rattle.command_line.specs.declared.command.Command.TheVariants.{Replay, Selfrun, Serve}
+use Rattle.command_line.specs.declared.command.Command.TheVariants.{Replay, Selfrun, Serve, Chase, Redirect, Follow}
 
 -- a word, octet by octet
 abbrev pub Word : Type 0
@@ -64,7 +64,7 @@ pub record HasPorts (listen upstream workers : ℕ) : Type 0 where
   pub last : listen + workers - 1 ≤ 65535
   pub apart : (upstream < listen) ⊎ (listen + workers ≤ upstream)
 
--- the words after a command's name are its options
+-- the words after a command's name are its options; the last three have none
 abbrev pub Means : List Word → Command → Type 0
 Means words (Replay workers) =
     (options : List Word) × (words ≡ codes "replay" ∷ options) × Gives ((workers_setting, workers) ∷ []) options
@@ -76,6 +76,9 @@ Means words (Serve listen upstream workers datagrams) =
     × Gives ((listen_setting, listen) ∷ (upstream_setting, upstream) ∷ (workers_setting, workers)
     ∷ (datagrams_setting, datagrams) ∷ []) options
     × HasPorts listen upstream workers
+Means words Chase = words ≡ codes "chase" ∷ []
+Means words Redirect = words ≡ codes "redirect" ∷ []
+Means words Follow = words ≡ codes "follow" ∷ []
 
 abbrev pub texts : List (String Global) → List Word
 texts words = map string_bytes words

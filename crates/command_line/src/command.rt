@@ -1,6 +1,7 @@
 ghost use Rattle.std.specs.Prelude.{◌≡◌, ◌↔◌, ◌≤◌, ℕ, [], ◌∷◌, drop, length, IfOk, IfSome, IsTrue, Some};
 ghost use Rattle.std.specs.String.{string_bytes};
 ghost use Rattle.command_line.specs.Words.{AreWordsOf, Gives, texts, workers_setting, seed_setting, names_setting, queries_setting, listen_setting, upstream_setting, datagrams_setting, HasPorts};
+ghost use Rattle.command_line.specs.Options.{IsWalkNamed};
 ghost use Rattle.command_line.specs.declared.command.Command.TheVariants.{Replay, Selfrun, Serve};
 
 use crate::matching::{matches_of, value_in};
@@ -73,6 +74,12 @@ pub enum Command {
         workers: u8,
         datagrams: u32,
     },
+    /// Frames are replayed over one worker, and queries answered by way of aliases too.
+    Chase,
+    /// Frames are replayed over one worker, and queries answered by way of a redirection too.
+    Redirect,
+    /// Frames are replayed over one worker, and queries answered by way of both too.
+    Follow,
 }
 
 /// The command that the words after the program's name are, if they are one. Each of its options
@@ -97,7 +104,7 @@ pub fn command_of(alloc: Global, words: &[String]) -> Result<Option<Command>, Ou
     if is_word(first, "serve") {
         return serve_of(alloc, options);
     }
-    Ok(None)
+    Ok(walk_of(first, options))
 }
 
 fn replay_of(alloc: Global, options: &[String]) -> Result<Option<Command>, OutOfMemory>
@@ -205,6 +212,36 @@ fn serve_at(listen: u32, upstream: u32, workers: u32, datagrams: u32) -> Option<
         workers: workers as u8,
         datagrams,
     })
+}
+
+// The command that has no options, if the first word is its name, and the only word.
+fn walk_of(first: &String, options: &[String]) -> Option<Command>
+    ensures read { IfSome result (λ command. (texts options.now ≡ [])
+        × IsWalkNamed (string_bytes first.now) command) }
+    ensures every { (command : _) → texts options.now ≡ []
+        → IsWalkNamed (string_bytes first.now) command → result ≡ Some command }
+{
+    if options.is_empty() {
+        return walk_named(first);
+    }
+    None
+}
+
+fn walk_named(name: &String) -> Option<Command>
+    ensures read { IfSome result (IsWalkNamed (string_bytes name.now)) }
+    ensures every { (command : _) → IsWalkNamed (string_bytes name.now) command
+        → result ≡ Some command }
+{
+    if is_word(name, "chase") {
+        return Some(Command::Chase);
+    }
+    if is_word(name, "redirect") {
+        return Some(Command::Redirect);
+    }
+    if is_word(name, "follow") {
+        return Some(Command::Follow);
+    }
+    None
 }
 
 fn after_first(words: &[String]) -> &[String]

@@ -9,7 +9,7 @@ use Rattle.std.proofs.lemmas.List.Sums.{sum_by-cons}
 use Rattle.denial_records.specs.declared.batch.Batch.{Batch}
 use Rattle.replay_meaning.specs.Frame.{Input}
 use Rattle.replay_meaning.specs.OutFrame.{Output}
-use Rattle.replay_meaning.specs.Fits.{IsFor, IsInOrder, Fits, is_call, is_placed, places}
+use Rattle.replay_meaning.specs.Fits.{Rule, IsFor, IsInOrder, Fits, is_call, is_placed, places}
 
 -- ---- counts
 
@@ -39,8 +39,8 @@ pub record IsFrom (before : ℕ) (output : Output) : Type 0 where
   pub placed : is_placed output.kind ≡ true → before < output.version
 
 -- the outputs go on from the version, before which so many of the batches were placed
-pub record GoesOn (workers : ℕ) (placed : List Batch) (before : ℕ) (inputs : List Input) (outputs : List Output) : Type 0 where
-  pub each : AllZip (IsFor workers placed) inputs outputs
+pub record GoesOn (rule : Rule) (workers : ℕ) (placed : List Batch) (before : ℕ) (inputs : List Input) (outputs : List Output) : Type 0 where
+  pub each : AllZip (IsFor rule workers placed) inputs outputs
   pub versions : (version : ℕ) → before < version → version ≤ length placed → count_by (places version) outputs ≡ 1
   pub order : AllPairs IsInOrder outputs
   pub from : All (IsFrom before) outputs
@@ -95,21 +95,21 @@ turn_counts before after limit version output outputs (IsTurn.makes placed versi
         let apart : output.version ≢ version = λ equal. false≢true (sym other ∙ (Decides-eqb output.version version).1 equal) in
         count_no (places version) output outputs (test ∙ other) ∙ others version (omega (arith, apart, version_is, is, above)) within
 
-pub goes_none : (workers : ℕ) (placed : List Batch) → GoesOn workers placed (length placed) [] []
-goes_none workers placed = record {
+pub goes_none : (rule : Rule) (workers : ℕ) (placed : List Batch) → GoesOn rule workers placed (length placed) [] []
+goes_none rule workers placed = record {
   each = tt;
   versions = λ version above within. absurd (omega (arith, above, within));
   order = λ i j d before within. absurd (omega (arith, within));
   from = All-nil (IsFrom (length placed));
 }
 
-pub goes_more : (workers : ℕ) (placed : List Batch) (before after : ℕ) (input : Input) (output : Output) (inputs : List Input) (outputs : List Output) → IsFor workers placed input output → IsTurn before after output → GoesOn workers placed after inputs outputs → GoesOn workers placed before (input ∷ inputs) (output ∷ outputs)
-goes_more workers placed before after input output inputs outputs for' turn on = record {
+pub goes_more : (rule : Rule) (workers : ℕ) (placed : List Batch) (before after : ℕ) (input : Input) (output : Output) (inputs : List Input) (outputs : List Output) → IsFor rule workers placed input output → IsTurn before after output → GoesOn rule workers placed after inputs outputs → GoesOn rule workers placed before (input ∷ inputs) (output ∷ outputs)
+goes_more rule workers placed before after input output inputs outputs for' turn on = record {
   each = (for', on.each);
   versions = λ version above within. turn_counts before after (length placed) version output outputs turn on.from above within on.versions;
   order = AllPairs-cons IsInOrder output outputs (All-weaker (IsFrom after) (IsInOrder output) (λ later. turn_order before after output later turn) outputs on.from) on.order;
   from = All-cons (IsFrom before) output outputs (turn_from before after output turn) (from_earlier before after outputs (turn_rises before after output turn) on.from);
 }
 
-pub fits_whole : (workers : ℕ) (placed : List Batch) (inputs : List Input) (outputs : List Output) → GoesOn workers placed 0 inputs outputs → Fits inputs workers placed outputs
-fits_whole workers placed inputs outputs on = record { each = on.each; versions = λ version least. on.versions version (omega (arith, least)); order = on.order }
+pub fits_whole : (rule : Rule) (workers : ℕ) (placed : List Batch) (inputs : List Input) (outputs : List Output) → GoesOn rule workers placed 0 inputs outputs → Fits rule inputs workers placed outputs
+fits_whole rule workers placed inputs outputs on = record { each = on.each; versions = λ version least. on.versions version (omega (arith, least)); order = on.order }

@@ -15,7 +15,7 @@ use Rattle.cache_meaning.specs.Held.{held_of}
 use Rattle.soundness.proofs.QueryLemmas.{outcome_sound}
 use Rattle.replay_meaning.specs.Frame.{Input}
 use Rattle.replay_meaning.specs.OutFrame.{Output}
-use Rattle.reply_core.specs.Answered.{proof_in, proof_octets}
+use Rattle.reply_core.specs.Answered.{proof_in, proof_octets, reply_in}
 use Rattle.replay_meaning.specs.Step.{Step, Query, Insert, Tell, query_step, answer_step, DoesBy, Does}
 use Rattle.replay_meaning.specs.Fits.{IsOutputOf, IsFor, is_call, is_placed, query_output}
 use Rattle.replay_meaning.specs.Sound.{IsSoundReply}
@@ -38,7 +38,7 @@ no_query : (question : Question) (given : Result Taken IntakeFault) → Query qu
 no_query question (Ok taken) is = absurd cc
 no_query question (Err fault) is = absurd cc
 
-asks_by : (kind : FrameKind) (now : ℕ) (message : List ℕ) (question : Question) → DoesBy kind now message (Query question) → IsReadAs message (reads.Query question)
+pub asks_by : (kind : FrameKind) (now : ℕ) (message : List ℕ) (question : Question) → DoesBy kind now message (Query question) → IsReadAs message (reads.Query question)
 asks_by kinds.Query now message question (read, reads, is) = query_asks message question read reads is
 asks_by kinds.Upstream now message question (given, gives, is) = absurd (no_query question given is)
 
@@ -55,13 +55,13 @@ proved_by placed input output question version (Some proof) asks found is = λ r
   sound = (outcome_sound (held_of (take version placed)) input.now question.name question.qtype question.qclass proof found).sound;
 }
 
-step_sound : (placed : List Batch) (input : Input) (step : Step) (output : Output) → Does input step → IsOutputOf placed input step output → IsSoundReply placed input output
+step_sound : (placed : List Batch) (input : Input) (step : Step) (output : Output) → Does input step → IsOutputOf reply_in placed input step output → IsSoundReply placed input output
 step_sound placed input (Query question) output does (version, within, is) =
     proved_by placed input output question version (proof_in (held_of (take version placed)) question input.now) (asks_by input.kind input.now input.message question does) refl is
 step_sound placed input (Insert taken) output does (before, at, is) = λ reply. absurd (false≢true (ap is_placed (sym reply ∙ ap (λ o. o.kind) is)))
 step_sound placed input (Tell kind body) output does is = λ reply. absurd (false≢true (sym (tells_no_call input (Tell kind body) does).not_called ∙ sym (ap (λ o. is_call o.kind) is) ∙ ap is_call reply))
 
-pub replies_are_sound : (workers : ℕ) (placed : List Batch) (inputs : List Input) (outputs : List Output) → AllZip (IsFor workers placed) inputs outputs → AllZip (IsSoundReply placed) inputs outputs
+pub replies_are_sound : (workers : ℕ) (placed : List Batch) (inputs : List Input) (outputs : List Output) → AllZip (IsFor reply_in workers placed) inputs outputs → AllZip (IsSoundReply placed) inputs outputs
 replies_are_sound workers placed [] [] each = tt
 replies_are_sound workers placed [] (output ∷ outputs) each = absurd each
 replies_are_sound workers placed (input ∷ inputs) [] each = absurd each

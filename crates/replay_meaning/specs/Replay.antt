@@ -5,6 +5,7 @@ use Rattle.denial_records.specs.declared.batch.Batch.{Batch}
 use Rattle.replay_meaning.specs.Frame.{Input, IsInput, inputs_spelling}
 use Rattle.replay_meaning.specs.OutFrame.{Output, IsOutput, outputs_spelling}
 use Rattle.replay_meaning.specs.Fits.{Fits}
+use Rattle.reply_core.specs.Answered.{reply_in}
 use Rattle.replay_meaning.specs.Sound.{IsSoundReply}
 
 -- the octets spell these frames, which are for so many workers
@@ -26,5 +27,5 @@ pub record IsReplay (workers : ℕ) (octets output : List ℕ) : Type 0 where
   pub written : output ≡ outputs_spelling outputs
   pub valid : All IsOutput outputs
   pub placed : List Batch
-  pub fits : Fits inputs workers placed outputs
+  pub fits : Fits reply_in inputs workers placed outputs
   pub sound : AllZip (IsSoundReply placed) inputs outputs

@@ -8,5 +8,5 @@ mod laws;
 mod out_frame;
 
 pub use frame::{FRAME_HEAD, Frame, FrameKind, read_frame};
-pub use laws::{one_output, one_spelling};
+pub use laws::{one_output, one_spelling, replies_are_sound};
 pub use out_frame::{OutFrame, OutKind};

@@ -1,3 +1,4 @@
+pub mod AskLemmas
 pub mod CountLemmas
 pub mod GivenLemmas
 pub mod MadeLemmas

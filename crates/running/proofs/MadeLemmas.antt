@@ -15,6 +15,7 @@ use Rattle.zone_maker.specs.Questions.{asked_first, asked_second, asked_at, aske
 use Rattle.replay_meaning.specs.Frame.{Input, IsInput, input_spelling, inputs_spelling}
 use Rattle.replay_meaning.specs.OutFrame.{Output, IsOutput, outputs_spelling}
 use Rattle.replay_meaning.specs.Fits.{Fits}
+use Rattle.reply_core.specs.Answered.{reply_in}
 use Rattle.replay_meaning.specs.Sound.{IsSoundReply}
 use Rattle.replay_meaning.specs.Replay.{AreFrames, SpellsFrames, IsReplay}
 use Rattle.replay_meaning.specs.declared.frame.FrameKind.{FrameKind}
@@ -242,7 +243,7 @@ made_summary seed names queries output text replay lines =
       outputs = replay.outputs;
       made = record {
         placed = replay.placed;
-        fits = subst (λ inputs. Fits inputs 1 replay.placed replay.outputs) same replay.fits;
+        fits = subst (λ inputs. Fits reply_in inputs 1 replay.placed replay.outputs) same replay.fits;
         sound = subst (λ inputs. AllZip (IsSoundReply replay.placed) inputs replay.outputs) same replay.sound;
       };
       lines = lines replay.outputs replay.valid replay.written;

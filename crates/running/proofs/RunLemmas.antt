@@ -7,6 +7,8 @@ use Rattle.outside_core.specs.Told.{prepend_told}
 use Rattle.replay_meaning.specs.Frame.{Input}
 use Rattle.replay_meaning.specs.Replay.{IsReplay, SpellsFrames}
 use Rattle.worker_seats.specs.Cuts.{Part, parts_of}
+use Rattle.worker_seats.specs.WalkReplay.{IsReplayBy}
+use Rattle.worker_seats.specs.declared.answering.Answering.{Answering}
 use Rattle.worker_seats.specs.Merge.{AreMerged, AreWritten, AreWrittenInPart, CanBeMerged}
 use Rattle.worker_seats.proofs.MergeLemmas.{one_can}
 use Rattle.running.specs.Run.{HasReplayed, IsCutShort, IsOfSelfrun, IsReplayed}
@@ -38,31 +40,31 @@ selfrun_complete Failed status (inr memory) cause calm = inr memory
 
 -- ---- what was written of a replay
 
-module _ (workers : ℕ) (frames : List Input) (outputs : List (List ℕ)) (goes : (octets output : List ℕ) → SpellsFrames workers octets frames → AreMerged outputs frames output → IsReplay workers octets output) where
-  pub replayed_of : (input : List ℕ) (before after : Option (List ℕ)) → SpellsFrames workers input frames → AreWritten outputs frames before after → IsReplayed workers input before after
+module _ (answering : Answering) (workers : ℕ) (frames : List Input) (outputs : List (List ℕ)) (goes : (octets output : List ℕ) → SpellsFrames workers octets frames → AreMerged outputs frames output → IsReplayBy answering workers octets output) where
+  pub replayed_of : (input : List ℕ) (before after : Option (List ℕ)) → SpellsFrames workers input frames → AreWritten outputs frames before after → IsReplayed answering workers input before after
   replayed_of input before after are w = record { output = w.octets; replay = goes input w.octets are w.merged; written = w.written }
 
-  pub cut_of : (input : List ℕ) (before after : Option (List ℕ)) → SpellsFrames workers input frames → AreWrittenInPart outputs frames before after → IsCutShort workers input before after
+  pub cut_of : (input : List ℕ) (before after : Option (List ℕ)) → SpellsFrames workers input frames → AreWrittenInPart outputs frames before after → IsCutShort answering workers input before after
   cut_of input before after are w =
       record { output = w.octets; replay = goes input w.octets are w.merged; size = w.part.size; strict = w.part.strict; written = w.part.written }
 
 -- where the input is lent
-pub cut_by : (workers : ℕ) (frames : List Input) (outputs : List (List ℕ)) (octets input : List ℕ) (left rest before after : Option (List ℕ)) → octets ≡ input
-    → ((octets output : List ℕ) → SpellsFrames workers octets frames → AreMerged outputs frames output → IsReplay workers octets output)
-    → SpellsFrames workers octets frames → AreWrittenInPart outputs frames before after → left ≡ prepend_told input rest → IfSome rest (λ r. r ≡ []) → IfSome left (λ input. IsCutShort workers input before after)
-cut_by workers frames outputs octets input left rest before after is goes are w told end =
-    told_whole (λ i. IsCutShort workers i before after) left rest input told end
-    (cut_of workers frames outputs goes input before after (subst (λ o. SpellsFrames workers o frames) is are) w)
+pub cut_by : (answering : Answering) (workers : ℕ) (frames : List Input) (outputs : List (List ℕ)) (octets input : List ℕ) (left rest before after : Option (List ℕ)) → octets ≡ input
+    → ((octets output : List ℕ) → SpellsFrames workers octets frames → AreMerged outputs frames output → IsReplayBy answering workers octets output)
+    → SpellsFrames workers octets frames → AreWrittenInPart outputs frames before after → left ≡ prepend_told input rest → IfSome rest (λ r. r ≡ []) → IfSome left (λ input. IsCutShort answering workers input before after)
+cut_by answering workers frames outputs octets input left rest before after is goes are w told end =
+    told_whole (λ i. IsCutShort answering workers i before after) left rest input told end
+    (cut_of answering workers frames outputs goes input before after (subst (λ o. SpellsFrames workers o frames) is are) w)
 
 -- where it is lent, whatever is told
-pub run_by : (workers : ℕ) (frames : List Input) (outputs : List (List ℕ)) (octets input : List ℕ) (left rest before after : Option (List ℕ)) → octets ≡ input
-    → ((octets output : List ℕ) → SpellsFrames workers octets frames → AreMerged outputs frames output → IsReplay workers octets output)
-    → SpellsFrames workers octets frames → AreWritten outputs frames before after → left ≡ prepend_told input rest → IfSome rest (λ r. r ≡ []) → HasReplayed workers left rest before after
-run_by workers frames outputs octets input left rest before after is goes are w told end = record {
+pub run_by : (answering : Answering) (workers : ℕ) (frames : List Input) (outputs : List (List ℕ)) (octets input : List ℕ) (left rest before after : Option (List ℕ)) → octets ≡ input
+    → ((octets output : List ℕ) → SpellsFrames workers octets frames → AreMerged outputs frames output → IsReplayBy answering workers octets output)
+    → SpellsFrames workers octets frames → AreWritten outputs frames before after → left ≡ prepend_told input rest → IfSome rest (λ r. r ≡ []) → HasReplayed answering workers left rest before after
+run_by answering workers frames outputs octets input left rest before after is goes are w told end = record {
   input = input;
   given = told;
   end = end;
-  replayed = replayed_of workers frames outputs goes input before after (subst (λ o. SpellsFrames workers o frames) is are) w;
+  replayed = replayed_of answering workers frames outputs goes input before after (subst (λ o. SpellsFrames workers o frames) is are) w;
 }
 
 -- one worker's octets are the output

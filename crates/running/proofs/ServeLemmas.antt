@@ -5,7 +5,7 @@ use Rattle.std.specs.declared.alloc.Global.{Global}
 use Rattle.std.proofs.lemmas.Option.{none-some, same_Some}
 use Rattle.command_line.specs.Words.{Word, AreWordsOf, Means, texts}
 use Rattle.command_line.specs.declared.command.Command.{Command}
-use Rattle.command_line.specs.declared.command.Command.TheVariants.{Replay, Selfrun, Serve}
+use Rattle.command_line.specs.declared.command.Command.TheVariants.{Replay, Selfrun, Serve, Chase, Redirect, Follow}
 use Rattle.command_line.proofs.CommandLemmas.{servable}
 use Rattle.server.specs.declared.service.Service.{Service}
 use Rattle.running.specs.Serve.{service_of}
@@ -22,6 +22,9 @@ asked_of : Command → Service
 asked_of (Replay workers) = service_of 0 0 0 0
 asked_of (Selfrun seed names queries) = service_of 0 0 0 0
 asked_of (Serve listen upstream workers datagrams) = service_of listen upstream workers datagrams
+asked_of Chase = service_of 0 0 0 0
+asked_of Redirect = service_of 0 0 0 0
+asked_of Follow = service_of 0 0 0 0
 
 -- one command asks for one service
 pub same_service : (command : Command) (l u w d l' u' w' d' : ℕ) → command ≡ Serve l u w d → Some command ≡ Some (Serve l' u' w' d') → service_of l u w d ≡ service_of l' u' w' d'

@@ -10,6 +10,7 @@ use Rattle.replay_meaning.specs.Frame.{Input}
 use Rattle.replay_meaning.specs.OutFrame.{Output}
 use Rattle.replay_meaning.specs.Fits.{Fits}
 use Rattle.replay_meaning.specs.Sound.{IsSoundReply}
+use Rattle.reply_core.specs.Answered.{reply_in}
 
 -- a frame for the one worker
 abbrev pub made_input : FrameKind → ℕ → List ℕ → Input
@@ -28,5 +29,5 @@ made_inputs seed names queries =
 -- what became of them, where each reply is sound
 pub record AreMadeOutputs (seed names queries : ℕ) (outputs : List Output) : Type 0 where
   pub placed : List Batch
-  pub fits : Fits (made_inputs seed names queries) 1 placed outputs
+  pub fits : Fits reply_in (made_inputs seed names queries) 1 placed outputs
   pub sound : AllZip (IsSoundReply placed) (made_inputs seed names queries) outputs

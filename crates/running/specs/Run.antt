@@ -1,10 +1,24 @@
 -- What a run says by its status, of what the source had left and of what came to stand in the sink.
-use Rattle.std.specs.Prelude.{◌≡◌, ℕ, ◌+◌, ◌<◌, ◌≤◌, ◌⊎◌, List, [], length, take, Option, IfSome}
+use Rattle.std.specs.Prelude.{◌≡◌, ℕ, ◌+◌, ◌<◌, ◌≤◌, ◌⊎◌, List, [], length, take, Option, IfSome, String}
+use Rattle.std.specs.declared.alloc.Global.{Global}
 use Rattle.outside_core.specs.Told.{append_told, prepend_told}
-use Rattle.replay_meaning.specs.Replay.{AreFrames, IsReplay}
+use Rattle.replay_meaning.specs.Replay.{AreFrames}
+use Rattle.alias_chain.specs.declared.rule.Rule.TheVariants.{Aliases, Redirection, Both}
+use Rattle.worker_seats.specs.WalkReplay.{IsReplayBy}
+use Rattle.worker_seats.specs.declared.answering.Answering.{Answering}
+use Rattle.worker_seats.specs.declared.answering.Answering.TheVariants.{ByProof, ByWalk}
+use Rattle.command_line.specs.Words.{AreWordsOf}
+use Rattle.command_line.specs.declared.command.Command.TheVariants.{Replay, Chase, Redirect, Follow}
 use Rattle.running.specs.declared.reading.TheConstants.{MAX_INPUT}
 use Rattle.running.specs.declared.status.Status.{Status}
 use Rattle.running.specs.declared.status.Status.TheVariants.{Good, BadFrame, WriteFault, OutOfMemory, InputTooLong}
+
+-- the words ask for a replay that answers queries so, for so many workers; one that answers by walks is for one worker
+abbrev pub AsksReplay : List (String Global) → Answering → ℕ → Type 0
+AsksReplay words ByProof workers = AreWordsOf words (Replay workers)
+AsksReplay words (ByWalk Aliases) workers = AreWordsOf words Chase × (workers ≡ 1)
+AsksReplay words (ByWalk Redirection) workers = AreWordsOf words Redirect × (workers ≡ 1)
+AsksReplay words (ByWalk Both) workers = AreWordsOf words Follow × (workers ≡ 1)
 
 -- the source was read to its end, or to one octet more than the longest input
 pub record IsReadOn (before after : Option (List ℕ)) : Type 0 where
@@ -18,25 +32,25 @@ pub record HasGiven (before after : Option (List ℕ)) : Type 0 where
   pub given : before ≡ prepend_told octets after
 
 -- the sink has got the whole output of a replay of the input for so many workers
-pub record IsReplayed (workers : ℕ) (input : List ℕ) (before after : Option (List ℕ)) : Type 0 where
+pub record IsReplayed (answering : Answering) (workers : ℕ) (input : List ℕ) (before after : Option (List ℕ)) : Type 0 where
   pub output : List ℕ
-  pub replay : IsReplay workers input output
+  pub replay : IsReplayBy answering workers input output
   pub written : after ≡ append_told before output
 
 -- or a strict prefix of it
-pub record IsCutShort (workers : ℕ) (input : List ℕ) (before after : Option (List ℕ)) : Type 0 where
+pub record IsCutShort (answering : Answering) (workers : ℕ) (input : List ℕ) (before after : Option (List ℕ)) : Type 0 where
   pub output : List ℕ
-  pub replay : IsReplay workers input output
+  pub replay : IsReplayBy answering workers input output
   pub size : ℕ
   pub strict : size < length output
   pub written : after ≡ append_told before (take size output)
 
 -- what the source gave up to its end was an input, and the sink has got the whole output of a replay of it
-pub record HasReplayed (workers : ℕ) (left rest before after : Option (List ℕ)) : Type 0 where
+pub record HasReplayed (answering : Answering) (workers : ℕ) (left rest before after : Option (List ℕ)) : Type 0 where
   pub input : List ℕ
   pub given : left ≡ prepend_told input rest
   pub end : IfSome rest (λ more. more ≡ [])
-  pub replayed : IsReplayed workers input before after
+  pub replayed : IsReplayed answering workers input before after
 
 -- the input isn't too long
 abbrev pub IsShort : List ℕ → Type 0

@@ -1,10 +1,11 @@
 ghost use Rattle.std.specs.Prelude.{◌≡◌, ◌⊎◌, ℕ, ◌+◌, ◌<◌, ◌≤◌, List, [], length, IfSome, Some};
 ghost use Rattle.outside_core.specs.Fault.{Rose};
 ghost use Rattle.command_line.specs.Words.{IsCommand, AreWordsOf};
-ghost use Rattle.running.specs.Run.{HasGiven, HasReplayed, IsReadOn, IsReplayed, IsCutShort, IsTaken, IsNoFrames, IsOfReplay, IsOfSelfrun, IsRefused, IsStatusOf};
+ghost use Rattle.running.specs.Run.{AsksReplay, HasGiven, HasReplayed, IsReadOn, IsReplayed, IsCutShort, IsTaken, IsNoFrames, IsOfReplay, IsOfSelfrun, IsRefused, IsStatusOf};
 ghost use Rattle.running.specs.declared.reading.TheConstants.{MAX_INPUT};
 ghost use Rattle.running.specs.Summary.{IsSummed, IsSummedInPart};
-ghost use Rattle.command_line.specs.declared.command.Command.TheVariants.{Replay, Selfrun, Serve};
+ghost use Rattle.command_line.specs.declared.command.Command.TheVariants.{Selfrun, Serve};
+ghost use Rattle.worker_seats.specs.declared.answering.Answering.{Answering};
 ghost use Rattle.server.specs.Back.{CameBack, AllServedWhole};
 ghost use Rattle.running.specs.Serve.{service_of, EndedInWant, IsOfServe, ServedInPart};
 
@@ -12,13 +13,24 @@ use crate::reading::{MAX_INPUT, ReadError, read_whole};
 use crate::replay::replay;
 use crate::selfrun::selfrun;
 use crate::status::Status;
+use alias_chain::Rule;
 use command_line::{Command, command_of};
 use outside_core::{Clock, Gate, Harbor, Sink, Source, write_whole};
 use server::{ServeError, Service, serve};
 use std::alloc::Global;
 use std::sync::Wait;
 use std::thread::Threads;
-use worker_seats::{Frames, write_outputs};
+use worker_seats::{Answering, Frames, write_outputs};
+
+const BY_ALIASES: Answering = Answering::ByWalk {
+    rule: Rule::Aliases,
+};
+
+const BY_REDIRECTION: Answering = Answering::ByWalk {
+    rule: Rule::Redirection,
+};
+
+const BY_BOTH: Answering = Answering::ByWalk { rule: Rule::Both };
 
 /// Runs the words, those after the program's name: replays over the source and the sink, and serves over the harbor at the
 /// moments that the clock tells. Workers of a replay pass the gate.
@@ -42,19 +54,23 @@ pub fn run<R: Threads + Wait + Sync, S: Source, K: Sink, G: Gate, H: Harbor, C: 
         → (source.new ≡ source.old) × (sink.new ≡ sink.old) }
 
     // What was written is the spelling of output frames that fit the frames that the source had
-    // left, for the workers that the words ask for, and each reply among them is sound.
-    ensures good { (workers : ℕ) → AreWordsOf words.now (Replay workers)
+    // left, for the workers that the words ask for and with queries answered as they ask for, and
+    // each reply among them is sound.
+    ensures good { (answering : Answering) (workers : ℕ)
+        → AsksReplay words.now answering workers
         → result ≡ Status.Good
         → IfSome (S.left source.old) (λ input.
-        IsReplayed workers input (K.written sink.old) (K.written sink.new)) }
+        IsReplayed answering workers input (K.written sink.old) (K.written sink.new)) }
 
     // So it is whatever the two tell: what was read in this call spells frames, and what was
     // written in it fits them.
-    ensures replayed { (workers : ℕ) → AreWordsOf words.now (Replay workers)
+    ensures replayed { (answering : Answering) (workers : ℕ)
+        → AsksReplay words.now answering workers
         → result ≡ Status.Good
-        → HasReplayed workers (S.left source.old) (S.left source.new)
+        → HasReplayed answering workers (S.left source.old) (S.left source.new)
         (K.written sink.old) (K.written sink.new) }
-    ensures end { (workers : ℕ) → AreWordsOf words.now (Replay workers)
+    ensures end { (answering : Answering) (workers : ℕ)
+        → AsksReplay words.now answering workers
         → result ≡ Status.Good
         → IfSome (S.left source.old) (λ _. S.left source.new ≡ Some []) }
     ensures no_fault { result ≡ Status.Good
@@ -65,26 +81,32 @@ pub fn run<R: Threads + Wait + Sync, S: Source, K: Sink, G: Gate, H: Harbor, C: 
         → Rose (S.faults source.old) (S.faults source.new) }
     ensures write_fault { result ≡ Status.WriteFault
         → Rose (K.faults sink.old) (K.faults sink.new) }
-    ensures cut { (workers : ℕ) → AreWordsOf words.now (Replay workers)
+    ensures cut { (answering : Answering) (workers : ℕ)
+        → AsksReplay words.now answering workers
         → result ≡ Status.WriteFault → IfSome (S.left source.old) (λ input.
-        IsCutShort workers input (K.written sink.old) (K.written sink.new)) }
+        IsCutShort answering workers input (K.written sink.old) (K.written sink.new)) }
     ensures unwritten { (result ≡ Status.ReadFault) ⊎ (result ≡ Status.OutOfMemory)
         ⊎ IsRefused result → sink.new ≡ sink.old }
-    ensures read { (workers : ℕ) → AreWordsOf words.now (Replay workers)
+    ensures read { (answering : Answering) (workers : ℕ)
+        → AsksReplay words.now answering workers
         → IsOfReplay result ⊎ IsRefused result
         → IsReadOn (S.left source.old) (S.left source.new) }
-    ensures read_part { (workers : ℕ) → AreWordsOf words.now (Replay workers)
+    ensures read_part { (answering : Answering) (workers : ℕ)
+        → AsksReplay words.now answering workers
         → (result ≡ Status.ReadFault) ⊎ (result ≡ Status.OutOfMemory)
         → HasGiven (S.left source.old) (S.left source.new) }
 
     // The input is looked at whole before anything is done: its length, then its frames.
     ensures too_long { result ≡ Status.InputTooLong
         → IfSome (S.left source.old) (λ input. MAX_INPUT < length input) }
-    ensures bad_frame { (workers : ℕ) → AreWordsOf words.now (Replay workers)
+    ensures bad_frame { (answering : Answering) (workers : ℕ)
+        → AsksReplay words.now answering workers
         → result ≡ Status.BadFrame → IfSome (S.left source.old) (IsNoFrames workers) }
-    ensures taken { (workers : ℕ) → AreWordsOf words.now (Replay workers)
+    ensures taken { (answering : Answering) (workers : ℕ)
+        → AsksReplay words.now answering workers
         → IsOfReplay result → IfSome (S.left source.old) (IsTaken workers) }
-    ensures complete { (workers : ℕ) → AreWordsOf words.now (Replay workers)
+    ensures complete { (answering : Answering) (workers : ℕ)
+        → AsksReplay words.now answering workers
         → (input : List ℕ) → S.left source.old ≡ Some input
         → (Rose (S.faults source.old) (S.faults source.new) → ⊥)
         → (Rose (K.faults sink.old) (K.faults sink.new) → ⊥)
@@ -151,8 +173,11 @@ pub fn run<R: Threads + Wait + Sync, S: Source, K: Sink, G: Gate, H: Harbor, C: 
         Err(_) => Status::OutOfMemory,
         Ok(None) => Status::Usage,
         Ok(Some(Command::Replay { workers })) => {
-            run_replay(rt, alloc, workers, source, sink, gate)
+            run_replay(rt, alloc, Answering::ByProof, workers, source, sink, gate)
         }
+        Ok(Some(Command::Chase)) => run_replay(rt, alloc, BY_ALIASES, 1, source, sink, gate),
+        Ok(Some(Command::Redirect)) => run_replay(rt, alloc, BY_REDIRECTION, 1, source, sink, gate),
+        Ok(Some(Command::Follow)) => run_replay(rt, alloc, BY_BOTH, 1, source, sink, gate),
         Ok(
             Some(
                 Command::Selfrun {
@@ -258,6 +283,7 @@ fn run_selfrun<R: Threads + Wait + Sync, K: Sink, G: Gate>(
 fn run_replay<R: Threads + Wait + Sync, S: Source, K: Sink, G: Gate>(
     rt: &R,
     alloc: Global,
+    answering: Answering,
     workers: u8,
     source: &mut S,
     sink: &mut K,
@@ -268,9 +294,9 @@ fn run_replay<R: Threads + Wait + Sync, S: Source, K: Sink, G: Gate>(
     ensures ashore { result ≡ Status.HarborFault → ⊥ }
     ensures good { result ≡ Status.Good
         → IfSome (S.left source.old) (λ input.
-        IsReplayed workers input (K.written sink.old) (K.written sink.new)) }
+        IsReplayed answering workers input (K.written sink.old) (K.written sink.new)) }
     ensures replayed { result ≡ Status.Good
-        → HasReplayed workers (S.left source.old) (S.left source.new)
+        → HasReplayed answering workers (S.left source.old) (S.left source.new)
         (K.written sink.old) (K.written sink.new) }
     ensures end { result ≡ Status.Good
         → IfSome (S.left source.old) (λ _. S.left source.new ≡ Some []) }
@@ -283,7 +309,7 @@ fn run_replay<R: Threads + Wait + Sync, S: Source, K: Sink, G: Gate>(
         → Rose (K.faults sink.old) (K.faults sink.new) }
     ensures cut { result ≡ Status.WriteFault
         → IfSome (S.left source.old) (λ input.
-        IsCutShort workers input (K.written sink.old) (K.written sink.new)) }
+        IsCutShort answering workers input (K.written sink.old) (K.written sink.new)) }
     ensures unwritten { (result ≡ Status.ReadFault) ⊎ (result ≡ Status.OutOfMemory)
         ⊎ IsRefused result → sink.new ≡ sink.old }
     ensures read { IsOfReplay result ⊎ IsRefused result
@@ -311,7 +337,7 @@ fn run_replay<R: Threads + Wait + Sync, S: Source, K: Sink, G: Gate>(
     let Some(frames) = Frames::of(&input, workers) else {
         return Status::BadFrame;
     };
-    let Ok(outputs) = replay(rt, alloc, workers, &frames, gate) else {
+    let Ok(outputs) = replay(rt, alloc, answering, workers, &frames, gate) else {
         return Status::OutOfMemory;
     };
     let written = write_outputs(rt, alloc, sink, &frames, &outputs);

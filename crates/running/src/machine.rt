@@ -1,10 +1,11 @@
 ghost use Rattle.std.specs.Prelude.{◌≡◌, ◌⊎◌, ℕ, ◌<◌, List, [], length, IfSome, Some};
 ghost use Rattle.outside_core.specs.Fault.{Rose};
 ghost use Rattle.command_line.specs.Words.{IsCommand, AreWordsOf};
-ghost use Rattle.running.specs.Run.{HasGiven, HasReplayed, IsReadOn, IsReplayed, IsCutShort, IsTaken, IsNoFrames, IsOfReplay, IsOfSelfrun, IsRefused, IsStatusOf};
+ghost use Rattle.running.specs.Run.{AsksReplay, HasGiven, HasReplayed, IsReadOn, IsReplayed, IsCutShort, IsTaken, IsNoFrames, IsOfReplay, IsOfSelfrun, IsRefused, IsStatusOf};
 ghost use Rattle.running.specs.declared.reading.TheConstants.{MAX_INPUT};
 ghost use Rattle.running.specs.Summary.{IsSummed, IsSummedInPart};
-ghost use Rattle.command_line.specs.declared.command.Command.TheVariants.{Replay, Selfrun, Serve};
+ghost use Rattle.command_line.specs.declared.command.Command.TheVariants.{Selfrun, Serve};
+ghost use Rattle.worker_seats.specs.declared.answering.Answering.{Answering};
 ghost use Rattle.running.specs.Serve.{IsOfServe};
 
 use crate::commands::run;
@@ -30,15 +31,18 @@ pub fn run_here<
         → (result ≡ Status.Usage) ⊎ (result ≡ Status.OutOfMemory) }
     ensures untouched { result ≡ Status.Usage
         → (source.new ≡ source.old) × (sink.new ≡ sink.old) }
-    ensures good { (workers : ℕ) → AreWordsOf words.now (Replay workers)
+    ensures good { (answering : Answering) (workers : ℕ)
+        → AsksReplay words.now answering workers
         → result ≡ Status.Good
         → IfSome (S.left source.old) (λ input.
-        IsReplayed workers input (K.written sink.old) (K.written sink.new)) }
-    ensures replayed { (workers : ℕ) → AreWordsOf words.now (Replay workers)
+        IsReplayed answering workers input (K.written sink.old) (K.written sink.new)) }
+    ensures replayed { (answering : Answering) (workers : ℕ)
+        → AsksReplay words.now answering workers
         → result ≡ Status.Good
-        → HasReplayed workers (S.left source.old) (S.left source.new)
+        → HasReplayed answering workers (S.left source.old) (S.left source.new)
         (K.written sink.old) (K.written sink.new) }
-    ensures end { (workers : ℕ) → AreWordsOf words.now (Replay workers)
+    ensures end { (answering : Answering) (workers : ℕ)
+        → AsksReplay words.now answering workers
         → result ≡ Status.Good
         → IfSome (S.left source.old) (λ _. S.left source.new ≡ Some []) }
     ensures no_fault { result ≡ Status.Good
@@ -48,24 +52,30 @@ pub fn run_here<
         → Rose (S.faults source.old) (S.faults source.new) }
     ensures write_fault { result ≡ Status.WriteFault
         → Rose (K.faults sink.old) (K.faults sink.new) }
-    ensures cut { (workers : ℕ) → AreWordsOf words.now (Replay workers)
+    ensures cut { (answering : Answering) (workers : ℕ)
+        → AsksReplay words.now answering workers
         → result ≡ Status.WriteFault → IfSome (S.left source.old) (λ input.
-        IsCutShort workers input (K.written sink.old) (K.written sink.new)) }
+        IsCutShort answering workers input (K.written sink.old) (K.written sink.new)) }
     ensures unwritten { (result ≡ Status.ReadFault) ⊎ (result ≡ Status.OutOfMemory)
         ⊎ IsRefused result → sink.new ≡ sink.old }
-    ensures read { (workers : ℕ) → AreWordsOf words.now (Replay workers)
+    ensures read { (answering : Answering) (workers : ℕ)
+        → AsksReplay words.now answering workers
         → IsOfReplay result ⊎ IsRefused result
         → IsReadOn (S.left source.old) (S.left source.new) }
-    ensures read_part { (workers : ℕ) → AreWordsOf words.now (Replay workers)
+    ensures read_part { (answering : Answering) (workers : ℕ)
+        → AsksReplay words.now answering workers
         → (result ≡ Status.ReadFault) ⊎ (result ≡ Status.OutOfMemory)
         → HasGiven (S.left source.old) (S.left source.new) }
     ensures too_long { result ≡ Status.InputTooLong
         → IfSome (S.left source.old) (λ input. MAX_INPUT < length input) }
-    ensures bad_frame { (workers : ℕ) → AreWordsOf words.now (Replay workers)
+    ensures bad_frame { (answering : Answering) (workers : ℕ)
+        → AsksReplay words.now answering workers
         → result ≡ Status.BadFrame → IfSome (S.left source.old) (IsNoFrames workers) }
-    ensures taken { (workers : ℕ) → AreWordsOf words.now (Replay workers)
+    ensures taken { (answering : Answering) (workers : ℕ)
+        → AsksReplay words.now answering workers
         → IsOfReplay result → IfSome (S.left source.old) (IsTaken workers) }
-    ensures complete { (workers : ℕ) → AreWordsOf words.now (Replay workers)
+    ensures complete { (answering : Answering) (workers : ℕ)
+        → AsksReplay words.now answering workers
         → (input : List ℕ) → S.left source.old ≡ Some input
         → (Rose (S.faults source.old) (S.faults source.new) → ⊥)
         → (Rose (K.faults sink.old) (K.faults sink.new) → ⊥)

@@ -15,7 +15,7 @@ use reply_core::ReplyBuffer;
 use std::alloc::Global;
 use std::sync::Wait;
 use std::thread::Threads;
-use worker_seats::{Frames, Outputs};
+use worker_seats::{Answering, Frames, Outputs};
 use zone_maker::{make, question};
 
 /// When the messages come, in seconds.
@@ -69,7 +69,7 @@ fn made_outputs<R: Threads + Wait + Sync, G: Gate>(
     let Some(frames) = Frames::of(&octets, 1) else {
         unreachable!()
     };
-    let outputs = replay(rt, alloc, 1, &frames, gate)?;
+    let outputs = replay(rt, alloc, Answering::ByProof, 1, &frames, gate)?;
     Ok(outputs)
 }
 

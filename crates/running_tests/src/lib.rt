@@ -23,3 +23,5 @@ mod replays;
 mod selfrun;
 #[cfg(test)]
 mod serve;
+#[cfg(test)]
+mod walks;

@@ -38,6 +38,25 @@ pub fn source_of(alloc: Global, input: &[u8]) -> Result<MemorySource, OutOfMemor
     Ok(MemorySource::of(Vec::from_slice(alloc, input)?, Vec::new(alloc)))
 }
 
+/// How a run of the words over the input ends, and what it writes, where the calls with these numbers fail.
+pub fn ended<R: Threads + Wait + Sync>(
+    rt: &R,
+    alloc: Global,
+    words: &str,
+    input: &[u8],
+    failing_reads: &[u32],
+    failing_writes: &[u32],
+) -> Result<Ended, OutOfMemory> {
+    let words = words_of(alloc, words)?;
+    let mut source = MemorySource::of(
+        Vec::from_slice(alloc, input)?,
+        Vec::from_slice(alloc, failing_reads)?,
+    );
+    let mut sink = MemorySink::with_room(alloc, 4096, Vec::from_slice(alloc, failing_writes)?)?;
+    let status = run_words(rt, alloc, &words, &mut source, &mut sink, &OpenGate)?;
+    Ok((status, Vec::from_slice(alloc, sink.written())?))
+}
+
 /// How a replay of the input ends, and what it writes, where the calls with these numbers fail.
 pub fn replayed<R: Threads + Wait + Sync>(
     rt: &R,
@@ -46,14 +65,14 @@ pub fn replayed<R: Threads + Wait + Sync>(
     failing_reads: &[u32],
     failing_writes: &[u32],
 ) -> Result<Ended, OutOfMemory> {
-    let words = words_of(alloc, "replay --workers 1")?;
-    let mut source = MemorySource::of(
-        Vec::from_slice(alloc, input)?,
-        Vec::from_slice(alloc, failing_reads)?,
-    );
-    let mut sink = MemorySink::with_room(alloc, 4096, Vec::from_slice(alloc, failing_writes)?)?;
-    let status = run_words(rt, alloc, &words, &mut source, &mut sink, &OpenGate)?;
-    Ok((status, Vec::from_slice(alloc, sink.written())?))
+    ended(
+        rt,
+        alloc,
+        "replay --workers 1",
+        input,
+        failing_reads,
+        failing_writes,
+    )
 }
 
 pub fn joined(alloc: Global, parts: &[&[u8]]) -> Result<Vec<u8>, OutOfMemory> {
@@ -80,8 +99,19 @@ pub fn replayed_otherwise<R: Threads + Wait + Sync>(
     input: &[&[u8]],
     expected: &[&[u8]],
 ) -> Result<Option<Ended>, OutOfMemory> {
+    ended_otherwise(rt, alloc, "replay --workers 1", input, expected)
+}
+
+/// How a run of the words over these parts ends and what it writes, unless it ends well and writes those.
+pub fn ended_otherwise<R: Threads + Wait + Sync>(
+    rt: &R,
+    alloc: Global,
+    words: &str,
+    input: &[&[u8]],
+    expected: &[&[u8]],
+) -> Result<Option<Ended>, OutOfMemory> {
     let input = joined(alloc, input)?;
     let expected = joined(alloc, expected)?;
-    let found = replayed(rt, alloc, &input, &[], &[])?;
+    let found = ended(rt, alloc, words, &input, &[], &[])?;
     Ok(otherwise(found, Status::Good, &expected))
 }

@@ -15,18 +15,20 @@ use Rattle.cache_versions.specs.Hands.{AreAllBelow, times}
 use Rattle.cache_versions.specs.Seats.{places_by, seen_by}
 use Rattle.replay_meaning.specs.Frame.{Input}
 use Rattle.replay_meaning.specs.OutFrame.{Output}
-use Rattle.replay_meaning.specs.Fits.{Fits, IsFor, IsInOrder, is_placed, places}
-use Rattle.replay_meaning.specs.Replay.{SpellsFrames, IsReplay}
-use Rattle.replay_meaning.specs.Sound.{IsSoundReply}
-use Rattle.replay_meaning.proofs.SoundLemmas.{replies_are_sound}
+use Rattle.replay_meaning.specs.Fits.{Rule, Fits, IsFor, IsInOrder, is_placed, places}
+use Rattle.replay_meaning.specs.Replay.{SpellsFrames}
 use Rattle.worker_seats.specs.Answer.{AreFewEnough, IsAnswered}
+use Rattle.worker_seats.specs.Answering.{rule_of}
 use Rattle.worker_seats.specs.OneFrame.{places_of}
 use Rattle.worker_seats.specs.Shift.{IsInTurn, IsShift}
 use Rattle.worker_seats.specs.Workers.{HasSameWorker, HaveWorked, inputs_of, outputs_of}
 use Rattle.worker_seats.specs.Laws.{AreShifts}
+use Rattle.worker_seats.specs.WalkReplay.{IsReplayBy}
+use Rattle.worker_seats.specs.declared.answering.Answering.{Answering}
 use Rattle.cache_versions.proofs.Fronts.{prefix_length}
 use Rattle.worker_seats.proofs.AnswerLemmas.{answered_more, placed_above, answered_for}
 use Rattle.worker_seats.proofs.OwnLemmas.{zip_own, pairs_own, parts_sum, parts_few, at_least}
+use Rattle.worker_seats.proofs.WalkReplayLemmas.{replay_by}
 
 -- ---- places
 
@@ -91,7 +93,7 @@ worker_in input = input.worker
 abbrev pub worker_out : Output → ℕ
 worker_out output = output.worker
 
-module _ (workers : ℕ) (journal : List Batch) (inputs : List Input) (outputs : List Output) (few : length inputs < 2 ^ 32) (shifts : AreShifts workers journal inputs outputs) where
+module _ (rule : Rule) (workers : ℕ) (journal : List Batch) (inputs : List Input) (outputs : List Output) (few : length inputs < 2 ^ 32) (shifts : AreShifts rule workers journal inputs outputs) where
   -- no more batches were placed than there are frames
   journal_few : AreFewEnough journal
   journal_few =
@@ -101,19 +103,19 @@ module _ (workers : ℕ) (journal : List Batch) (inputs : List Input) (outputs :
       omega (arith, one, ap length (get_or_same shifts.placed worker d [] lt), ap (λ w. length (inputs_of w inputs)) (zero-add worker))) in
       omega (arith, dealt, parts, few)
 
-  shift_of : (worker : ℕ) → worker < workers → IsShift (shifts.seen worker) (get_or shifts.placed worker []) (inputs_of worker inputs) (outputs_of worker outputs)
+  shift_of : (worker : ℕ) → worker < workers → IsShift rule (shifts.seen worker) (get_or shifts.placed worker []) (inputs_of worker inputs) (outputs_of worker outputs)
   shift_of worker below = shifts.shifts worker below (omega (arith, journal_few, prefix_length (shifts.seen worker) journal (shifts.begins worker below)))
 
-  answered : AllZip (IsAnswered journal) inputs outputs
+  answered : AllZip (IsAnswered rule journal) inputs outputs
   answered =
-      zip_own worker_in worker_out (IsAnswered journal) workers inputs outputs shifts.below shifts.same
-      (λ worker below. zip_weaker (IsAnswered (shifts.seen worker)) (IsAnswered journal) (λ input output. answered_more (shifts.seen worker) journal input output (shifts.begins worker below)) (inputs_of worker inputs) (outputs_of worker outputs) (shift_of worker below).each)
+      zip_own worker_in worker_out (IsAnswered rule journal) workers inputs outputs shifts.below shifts.same
+      (λ worker below. zip_weaker (IsAnswered rule (shifts.seen worker)) (IsAnswered rule journal) (λ input output. answered_more rule (shifts.seen worker) journal input output (shifts.begins worker below)) (inputs_of worker inputs) (outputs_of worker outputs) (shift_of worker below).each)
 
   below_out : All (λ output. output.worker < workers) outputs
   below_out = zip_right (λ input. input.worker < workers) (λ output. output.worker < workers) HasSameWorker (λ input output below same. subst (λ n. n < workers) (sym same) below) inputs outputs shifts.below shifts.same
 
   above : All IsAbove outputs
-  above = zip_right (λ input. Unit {0}) IsAbove (IsAnswered journal) (λ input output u. placed_above journal input output) inputs outputs (λ k d lt. tt) answered
+  above = zip_right (λ input. Unit {0}) IsAbove (IsAnswered rule journal) (λ input output u. placed_above rule journal input output) inputs outputs (λ k d lt. tt) answered
 
   part_is : (worker : ℕ) (d : List ℕ) → worker < length shifts.placed → get_or shifts.placed worker d ≡ flat_map places_of (outputs_of (0 + worker) outputs)
   part_is worker d lt =
@@ -134,8 +136,8 @@ module _ (workers : ℕ) (journal : List Batch) (inputs : List Input) (outputs :
       let same : (version - 1) + 1 ≡ version = omega (arith, least) in
       subst (λ n. count_by (places n) outputs ≡ 1) same (sym (times_told (version - 1) outputs above) ∙ told_once (version - 1) (omega (arith, least, most)))
 
-  each : AllZip (IsFor workers journal) inputs outputs
-  each = zip_left (λ input. input.worker < workers) (IsAnswered journal) (IsFor workers journal) (answered_for workers journal) inputs outputs shifts.below answered
+  each : AllZip (IsFor rule workers journal) inputs outputs
+  each = zip_left (λ input. input.worker < workers) (IsAnswered rule journal) (IsFor rule workers journal) (answered_for rule workers journal) inputs outputs shifts.below answered
 
   order : AllPairs IsInOrder outputs
   order = λ i j d lt lt'.
@@ -145,12 +147,12 @@ module _ (workers : ℕ) (journal : List Batch) (inputs : List Input) (outputs :
         rises = λ same. (turn same).rises;
       }
 
-  pub all_fit : Fits inputs workers journal outputs × AllZip (IsSoundReply journal) inputs outputs
-  all_fit = (record { each = each; versions = versions; order = order }, replies_are_sound workers journal inputs outputs each)
+  pub all_fit : Fits rule inputs workers journal outputs
+  all_fit = record { each = each; versions = versions; order = order }
 
 -- ---- the seats of a new cache that was closed
 
-module _ {g : Ghosts Held Batch (Unit {0})} where
+module _ {g : Ghosts Held Batch (Unit {0})} (rule : Rule) where
   flat_of_map : (seats : List (Seat Held Batch (Unit {0}) g)) → flat_map (λ (p : List ℕ). p) (map places_by seats) ≡ flat_map places_by seats
   flat_of_map [] = refl
   flat_of_map (s ∷ seats) = ap (λ l. places_by s ++ l) (flat_of_map seats)
@@ -161,7 +163,7 @@ module _ {g : Ghosts Held Batch (Unit {0})} where
   pub shifts_of : (before after : List (Seat Held Batch (Unit {0}) g)) (journal : List Batch) (inputs : List Input) (octets : List ℕ)
       → All (λ input. input.worker < length before) inputs → length after ≡ length before → All (λ seat. places_by seat ≡ []) before
       → All (λ seat. IsPrefix (seen_by seat) journal) after → AreAllBelow (length journal) (flat_map places_by after)
-      → (worked : HaveWorked before after inputs octets) → AreShifts (length before) journal inputs worked.outputs
+      → (worked : HaveWorked rule before after inputs octets) → AreShifts rule (length before) journal inputs worked.outputs
   shifts_of before after journal inputs octets below all fresh seen once worked = record {
     below = below;
     same = worked.same;
@@ -182,8 +184,8 @@ module _ {g : Ghosts Held Batch (Unit {0})} where
         let lt' : worker < length after = omega (arith, lt, all) in
         let one = worked.each worker d lt in
         let seen : seen_by (get_or after worker d) ≡ seen_at after worker = sym (get_or-map seen_by after worker d [] lt') in
-        subst (λ l. IsShift l (get_or (map places_by after) worker []) (inputs_of worker inputs) (outputs_of worker worked.outputs)) seen
-        (subst (λ l. IsShift (seen_by (get_or after worker d)) l (inputs_of worker inputs) (outputs_of worker worked.outputs)) (placed_at worker d lt) (one.shift (subst AreFewEnough (sym seen) few)));
+        subst (λ l. IsShift rule l (get_or (map places_by after) worker []) (inputs_of worker inputs) (outputs_of worker worked.outputs)) seen
+        (subst (λ l. IsShift rule (seen_by (get_or after worker d)) l (inputs_of worker inputs) (outputs_of worker worked.outputs)) (placed_at worker d lt) (one.shift (subst AreFewEnough (sym seen) few)));
   }
     where
       placed_at : (worker : ℕ) (d : Seat Held Batch (Unit {0}) g) (lt : worker < length before) → (worked.each worker d lt).placed ≡ get_or (map places_by after) worker []
@@ -192,20 +194,13 @@ module _ {g : Ghosts Held Batch (Unit {0})} where
           let one = worked.each worker d lt in
           sym (get_or-map places_by after worker d [] lt' ∙ one.places ∙ ap (λ l. l ++ one.placed) (fresh worker d lt))
 
+module _ {g : Ghosts Held Batch (Unit {0})} where
   -- the octets are a replay's
-  pub replay_of : (before after : List (Seat Held Batch (Unit {0}) g)) (journal : List Batch) (octets output : List ℕ) (inputs : List Input)
+  pub replay_of : (answering : Answering) (before after : List (Seat Held Batch (Unit {0}) g)) (journal : List Batch) (octets output : List ℕ) (inputs : List Input)
       → SpellsFrames (length before) octets inputs → length inputs < 2 ^ 32 → length after ≡ length before
       → All (λ seat. places_by seat ≡ []) before → All (λ seat. IsPrefix (seen_by seat) journal) after
-      → AreAllBelow (length journal) (flat_map places_by after) → HaveWorked before after inputs output → IsReplay (length before) octets output
-  replay_of before after journal octets output inputs frames few all fresh seen once worked =
-      let fit = all_fit (length before) journal inputs worked.outputs few (shifts_of before after journal inputs output frames.below all fresh seen once worked) in
-      record {
-        inputs = inputs;
-        frames = frames;
-        outputs = worked.outputs;
-        written = worked.written;
-        valid = worked.valid;
-        placed = journal;
-        fits = fit.0;
-        sound = fit.1;
-      }
+      → AreAllBelow (length journal) (flat_map places_by after) → HaveWorked (rule_of answering) before after inputs output → IsReplayBy answering (length before) octets output
+  replay_of answering before after journal octets output inputs frames few all fresh seen once worked =
+      replay_by answering (length before) octets output inputs worked.outputs journal frames worked.written worked.valid
+      (all_fit (rule_of answering) (length before) journal inputs worked.outputs few
+      (shifts_of (rule_of answering) before after journal inputs output frames.below all fresh seen once worked))

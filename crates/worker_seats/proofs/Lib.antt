@@ -10,4 +10,5 @@ pub mod RoundLemmas
 pub mod ShiftLemmas
 pub mod StartLemmas
 pub mod TurnLemmas
+pub mod WalkReplayLemmas
 pub mod WorkersLemmas

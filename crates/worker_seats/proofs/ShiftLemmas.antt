@@ -13,12 +13,10 @@ use Rattle.cache_versions.specs.declared.state.State.{Ghosts}
 use Rattle.cache_versions.specs.declared.seat.Seat.{Seat}
 use Rattle.cache_versions.specs.Seats.{places_by, seen_by}
 use Rattle.cache_versions.proofs.Fronts.{prefix_self, prefix_trans, prefix_length}
-use Rattle.reply_core.specs.Answered.{reply_in}
 use Rattle.replay_meaning.specs.Frame.{Input, IsInput, input_spelling}
 use Rattle.replay_meaning.specs.OutFrame.{Output, IsOutput, output_spelling}
 use Rattle.replay_meaning.specs.Step.{Step, Query, Insert, Tell}
-use Rattle.replay_meaning.specs.Fits.{IsOutputOf, is_call}
-use Rattle.replay_meaning.specs.Sound.{IsSoundReply}
+use Rattle.replay_meaning.specs.Fits.{Rule, IsOutputOf, is_call}
 use Rattle.replay_meaning.specs.declared.out_frame.OutKind.{OutKind}
 use Rattle.replay_meaning.proofs.FrameLemmas.{spelling-push}
 use Rattle.replay_meaning.proofs.StepLemmas.{TellsNoCall, tells_no_call}
@@ -36,7 +34,6 @@ use Rattle.worker_seats.proofs.FramesLemmas.{Walks, next_left, split_next, walk_
 use Rattle.worker_seats.proofs.LawLemmas.{zip_weaker}
 use Rattle.worker_seats.proofs.NotedLemmas.{AreNoted, noted_all, noted_here, noted_input, noted_none, noted_output}
 use Rattle.worker_seats.proofs.OwnLemmas.{equal_test}
-use Rattle.worker_seats.proofs.TurnLemmas.{answered_sound}
 
 -- ---- lists
 
@@ -76,54 +73,53 @@ other_push worker inputs input other =
 tells_none : (kind : OutKind) (output : Output) → is_call kind ≡ false → output.kind ≡ kind → is_call output.kind ≡ true → ⊥
 tells_none kind output none kind_is call = false≢true (sym none ∙ sym (ap is_call kind_is) ∙ call)
 
-upto_says : (seen : List Batch) (input : Input) (step : Step) (output : Output) → TellsNoCall step → IsOutputOf seen input step output → is_call output.kind ≡ true → output.version ≤ length seen
-upto_says seen input (Query question) output tells (version, within, is) call =
-    let same = ap (λ (o : Output). o.version) is ∙ query_version input.worker version (reply_in (held_of (take version seen)) question input.now) in
+upto_says : (rule : Rule) (seen : List Batch) (input : Input) (step : Step) (output : Output) → TellsNoCall step → IsOutputOf rule seen input step output → is_call output.kind ≡ true → output.version ≤ length seen
+upto_says rule seen input (Query question) output tells (version, within, is) call =
+    let same = ap (λ (o : Output). o.version) is ∙ query_version input.worker version (rule (held_of (take version seen)) question input.now) in
     omega (arith, same, within)
-upto_says seen input (Insert taken) output tells (before, at, is) call =
+upto_says rule seen input (Insert taken) output tells (before, at, is) call =
     let same = ap (λ (o : Output). o.version) is in
     let below = get_below seen before taken.batch at in
     omega (arith, same, below)
-upto_says seen input (Tell kind body) output tells is call = absurd (tells_none kind output tells.not_called (ap (λ (o : Output). o.kind) is) call)
+upto_says rule seen input (Tell kind body) output tells is call = absurd (tells_none kind output tells.not_called (ap (λ (o : Output). o.kind) is) call)
 
 -- a call's version is among those seen
-upto : (seen : List Batch) (input : Input) (output : Output) → IsAnswered seen input output → is_call output.kind ≡ true → output.version ≤ length seen
-upto seen input output answered = upto_says seen input answered.step output (tells_no_call input answered.step answered.does) answered.says
+upto : (rule : Rule) (seen : List Batch) (input : Input) (output : Output) → IsAnswered rule seen input output → is_call output.kind ≡ true → output.version ≤ length seen
+upto rule seen input output answered = upto_says rule seen input answered.step output (tells_no_call input answered.step answered.does) answered.says
 
-call_step : (seen : List Batch) (input : Input) (step : Step) (output : Output) → TellsNoCall step → IsOutputOf seen input step output → is_call output.kind ≡ true → IsCall step
-call_step seen input (Query question) output tells is call = tt
-call_step seen input (Insert taken) output tells is call = tt
-call_step seen input (Tell kind body) output tells is call = tells_none kind output tells.not_called (ap (λ (o : Output). o.kind) is) call
+call_step : (rule : Rule) (seen : List Batch) (input : Input) (step : Step) (output : Output) → TellsNoCall step → IsOutputOf rule seen input step output → is_call output.kind ≡ true → IsCall step
+call_step rule seen input (Query question) output tells is call = tt
+call_step rule seen input (Insert taken) output tells is call = tt
+call_step rule seen input (Tell kind body) output tells is call = tells_none kind output tells.not_called (ap (λ (o : Output). o.kind) is) call
 
 -- ---- a shift
 
-module _ {g : Ghosts Held Batch (Unit {0})} where
-  in_turn : (before after : Seat Held Batch (Unit {0}) g) (input : Input) (earlier output : Output) → IsPrefix (seen_by before) (seen_by after) → IsDone before after input output
+module _ {g : Ghosts Held Batch (Unit {0})} (rule : Rule) where
+  in_turn : (before after : Seat Held Batch (Unit {0}) g) (input : Input) (earlier output : Output) → IsPrefix (seen_by before) (seen_by after) → IsDone rule before after input output
       → (is_call earlier.kind ≡ true → earlier.version ≤ length (seen_by before)) → IsInTurn earlier output
   in_turn before after input earlier output begins done within =
       let is_version : is_call output.kind ≡ true → output.version ≡ length (seen_by after) =
-      λ call. done.version (call_step (seen_by after) input done.answered.step output (tells_no_call input done.answered.step done.answered.does) done.answered.says call) in
+      λ call. done.version (call_step rule (seen_by after) input done.answered.step output (tells_no_call input done.answered.step done.answered.does) done.answered.says call) in
       record {
         never_back = λ first second. omega (arith, within first, prefix_length (seen_by before) (seen_by after) begins, is_version second);
         rises = λ first placed. omega (arith, within first, done.rises placed, is_version (placed_calls output.kind placed));
       }
 
   shift_more : (before after : Seat Held Batch (Unit {0}) g) (placed : List ℕ) (inputs : List Input) (outputs : List Output) (input : Input) (output : Output)
-      → IsPrefix (seen_by before) (seen_by after) → IsDone before after input output → IsShift (seen_by before) placed inputs outputs
-      → IsShift (seen_by after) (placed ++ places_of output) (inputs ++ input ∷ []) (outputs ++ output ∷ [])
+      → IsPrefix (seen_by before) (seen_by after) → IsDone rule before after input output → IsShift rule (seen_by before) placed inputs outputs
+      → IsShift rule (seen_by after) (placed ++ places_of output) (inputs ++ input ∷ []) (outputs ++ output ∷ [])
   shift_more before after placed inputs outputs input output begins done shift =
-      let each = zip_push (IsAnswered (seen_by after)) inputs outputs input output
-      (zip_weaker (IsAnswered (seen_by before)) (IsAnswered (seen_by after)) (λ i o. answered_more (seen_by before) (seen_by after) i o begins) inputs outputs shift.each) done.answered in
+      let each = zip_push (IsAnswered rule (seen_by after)) inputs outputs input output
+      (zip_weaker (IsAnswered rule (seen_by before)) (IsAnswered rule (seen_by after)) (λ i o. answered_more rule (seen_by before) (seen_by after) i o begins) inputs outputs shift.each) done.answered in
       record {
         each = each;
         order = all_pairs_push IsInTurn outputs output shift.order
             (λ k d lt. in_turn before after input (get_or outputs k d) output begins done
-            (zip_at (IsAnswered (seen_by before)) (λ o. is_call o.kind ≡ true → o.version ≤ length (seen_by before)) (λ i o. upto (seen_by before) i o) inputs outputs shift.each k d lt));
+            (zip_at (IsAnswered rule (seen_by before)) (λ o. is_call o.kind ≡ true → o.version ≤ length (seen_by before)) (λ i o. upto rule (seen_by before) i o) inputs outputs shift.each k d lt));
         places = ap (λ l. l ++ places_of output) shift.places ∙ sym (spelling-push places_of outputs output);
-        sound = zip_weaker (IsAnswered (seen_by after)) (IsSoundReply (seen_by after)) (answered_sound (seen_by after)) (inputs ++ input ∷ []) (outputs ++ output ∷ []) each;
       }
 
-  pub work_none : (worker : ℕ) (seat : Seat Held Batch (Unit {0}) g) (octets : List ℕ) → octets ≡ [] → IsWork worker seat seat [] octets
+  pub work_none : (worker : ℕ) (seat : Seat Held Batch (Unit {0}) g) (octets : List ℕ) → octets ≡ [] → IsWork rule worker seat seat [] octets
   work_none worker seat octets none = record {
     outputs = [];
     written = none;
@@ -135,17 +131,17 @@ module _ {g : Ghosts Held Batch (Unit {0})} where
       placed = [];
       places = sym (append-nil (places_by seat));
       few = omega arith;
-      shift = λ few. record { each = tt; order = λ i j d lt lt'. absurd (omega arith); places = refl; sound = tt };
+      shift = λ few. record { each = tt; order = λ i j d lt lt'. absurd (omega arith); places = refl };
     };
   }
 
-  work_other : (worker : ℕ) (before after : Seat Held Batch (Unit {0}) g) (inputs : List Input) (input : Input) (octets : List ℕ) → (input.worker ≡ worker → ⊥) → IsWork worker before after inputs octets → IsWork worker before after (inputs ++ input ∷ []) octets
+  work_other : (worker : ℕ) (before after : Seat Held Batch (Unit {0}) g) (inputs : List Input) (input : Input) (octets : List ℕ) → (input.worker ≡ worker → ⊥) → IsWork rule worker before after inputs octets → IsWork rule worker before after (inputs ++ input ∷ []) octets
   work_other worker before after inputs input octets other work = record {
     outputs = work.outputs;
     written = work.written;
     valid = work.valid;
     own = work.own;
-    worked = subst (λ l. HasWorked before after l work.outputs) (sym (other_push worker inputs input other)) work.worked;
+    worked = subst (λ l. HasWorked rule before after l work.outputs) (sym (other_push worker inputs input other)) work.worked;
   }
 
   -- where the batch stands that the frame has placed, if it has placed one
@@ -158,19 +154,19 @@ module _ {g : Ghosts Held Batch (Unit {0})} where
   places_at_most before after input (inl same) = record { own = []; places = same ∙ sym (append-nil (places_by before)); one = omega arith }
   places_at_most before after input (inr placed) = record { own = length placed.former ∷ []; places = placed.places; one = omega arith }
 
-  same_places : (before after : Seat Held Batch (Unit {0}) g) (input : Input) (output : Output) (places : Places before after) → IsDone before after input output → places_of output ≡ places.own
+  same_places : (before after : Seat Held Batch (Unit {0}) g) (input : Input) (output : Output) (places : Places before after) → IsDone rule before after input output → places_of output ≡ places.own
   same_places before after input output places done = append_cancel_left (places_by before) (places_of output) places.own (sym done.places ∙ places.places)
 
   module _ (before now after : Seat Held Batch (Unit {0}) g) (inputs : List Input) (outputs : List Output) (input : Input) (octets octets' : List ℕ)
-      (begins : IsPrefix (seen_by now) (seen_by after)) (does : DoesOneFrame now after input octets octets') (places : Places now after) (worked : HasWorked before now inputs outputs) where
-    shift_on : AreFewEnough (seen_by after) → IsShift (seen_by after) (worked.placed ++ places.own) (inputs ++ input ∷ []) (outputs ++ does.output ∷ [])
+      (begins : IsPrefix (seen_by now) (seen_by after)) (does : DoesOneFrame rule now after input octets octets') (places : Places now after) (worked : HasWorked rule before now inputs outputs) where
+    shift_on : AreFewEnough (seen_by after) → IsShift rule (seen_by after) (worked.placed ++ places.own) (inputs ++ input ∷ []) (outputs ++ does.output ∷ [])
     shift_on few =
         let done = does.done few in
         let before_few : AreFewEnough (seen_by now) = omega (arith, few, prefix_length (seen_by now) (seen_by after) begins) in
-        subst (λ l. IsShift (seen_by after) (worked.placed ++ l) (inputs ++ input ∷ []) (outputs ++ does.output ∷ [])) (same_places now after input does.output places done)
+        subst (λ l. IsShift rule (seen_by after) (worked.placed ++ l) (inputs ++ input ∷ []) (outputs ++ does.output ∷ [])) (same_places now after input does.output places done)
         (shift_more now after worked.placed inputs outputs input does.output begins done (worked.shift before_few))
 
-    worked_more : HasWorked before after (inputs ++ input ∷ []) (outputs ++ does.output ∷ [])
+    worked_more : HasWorked rule before after (inputs ++ input ∷ []) (outputs ++ does.output ∷ [])
     worked_more = record {
       begins = prefix_trans (seen_by before) (seen_by now) (seen_by after) worked.begins begins;
       same = zip_push HasSameWorker inputs outputs input does.output worked.same does.worker;
@@ -180,7 +176,7 @@ module _ {g : Ghosts Held Batch (Unit {0})} where
       shift = shift_on;
     }
 
-  work_own : (worker : ℕ) (before now after : Seat Held Batch (Unit {0}) g) (inputs : List Input) (input : Input) (octets octets' : List ℕ) → input.worker ≡ worker → IsPrefix (seen_by now) (seen_by after) → DoesOneFrame now after input octets octets' → HasPlacedAtMost now after input → IsWork worker before now inputs octets → IsWork worker before after (inputs ++ input ∷ []) octets'
+  work_own : (worker : ℕ) (before now after : Seat Held Batch (Unit {0}) g) (inputs : List Input) (input : Input) (octets octets' : List ℕ) → input.worker ≡ worker → IsPrefix (seen_by now) (seen_by after) → DoesOneFrame rule now after input octets octets' → HasPlacedAtMost now after input → IsWork rule worker before now inputs octets → IsWork rule worker before after (inputs ++ input ∷ []) octets'
   work_own worker before now after inputs input octets octets' same begins does placed work =
       let output = does.output in
       record {
@@ -188,7 +184,7 @@ module _ {g : Ghosts Held Batch (Unit {0})} where
         written = does.writes.written ∙ ap (λ l. l ++ output_spelling output) work.written ∙ sym (spelling-push output_spelling work.outputs output);
         valid = All-push IsOutput work.outputs output work.valid does.writes.valid;
         own = All-push (λ o. o.worker ≡ worker) work.outputs output work.own (does.worker ∙ same);
-        worked = subst (λ l. HasWorked before after l (work.outputs ++ output ∷ [])) (sym (own_push worker inputs input same))
+        worked = subst (λ l. HasWorked rule before after l (work.outputs ++ output ∷ [])) (sym (own_push worker inputs input same))
             (worked_more before now after (inputs_of worker inputs) work.outputs input octets octets' begins does (places_at_most now after input placed) work.worked);
       }
 
@@ -196,7 +192,7 @@ module _ {g : Ghosts Held Batch (Unit {0})} where
   pub record IsUnderWay (worker : ℕ) (before now : Seat Held Batch (Unit {0}) g) (inputs : List Input) (rest : List ℕ) (calls : ℕ) (octets : List ℕ) (cuts : List Cut) (passed : ℕ) : Type 0 where
     pub walk : Walks inputs rest
     pub few : calls ≤ length walk.done
-    pub work : IsWork worker before now walk.done octets
+    pub work : IsWork rule worker before now walk.done octets
     pub noted : AreNoted worker walk.done work.outputs cuts passed
 
   pub under_way_none : (worker : ℕ) (seat : Seat Held Batch (Unit {0}) g) (inputs : List Input) (rest octets : List ℕ) (cuts : List Cut) → AreSpelled rest inputs → octets ≡ [] → cuts ≡ [] → IsUnderWay worker seat seat inputs rest 0 octets cuts 0
@@ -231,7 +227,7 @@ module _ {g : Ghosts Held Batch (Unit {0})} where
         noted = noted_next;
       }
 
-      pub frame_own : (seat : Seat Held Batch (Unit {0}) g) (octets' : List ℕ) → input.worker ≡ worker → IsPrefix (seen_by now) (seen_by seat) → DoesOneFrame now seat input octets octets' → HasPlacedAtMost now seat input → IsUnderWay worker before seat inputs after (calls + 1) octets' cuts' passed'
+      pub frame_own : (seat : Seat Held Batch (Unit {0}) g) (octets' : List ℕ) → input.worker ≡ worker → IsPrefix (seen_by now) (seen_by seat) → DoesOneFrame rule now seat input octets octets' → HasPlacedAtMost now seat input → IsUnderWay worker before seat inputs after (calls + 1) octets' cuts' passed'
       unfolding work_own
       frame_own seat octets' same begins does placed = record {
         walk = record { done = way.walk.done ++ input ∷ []; left = next.0; split = split_next inputs rest way.walk input next.0 next.1; spelled = next.2 };
@@ -242,8 +238,8 @@ module _ {g : Ghosts Held Batch (Unit {0})} where
 
   module _ (worker : ℕ) (before now : Seat Held Batch (Unit {0}) g) (inputs : List Input) (rest : List ℕ) (calls : ℕ) (octets : List ℕ) (cuts : List Cut) (passed : ℕ) (way : IsUnderWay worker before now inputs rest calls octets cuts passed)
       (none : (input : Input) (after : List ℕ) → IsInput input → rest ≡ input_spelling input ++ after → ⊥) where
-    pub shift_done : IsWork worker before now inputs octets
-    shift_done = subst (λ l. IsWork worker before now l octets) (walk_all inputs rest way.walk none) way.work
+    pub shift_done : IsWork rule worker before now inputs octets
+    shift_done = subst (λ l. IsWork rule worker before now l octets) (walk_all inputs rest way.walk none) way.work
 
     pub cuts_done : AreCuts worker inputs octets cuts
     cuts_done = subst (λ l. AreCuts worker l octets cuts) (walk_all inputs rest way.walk none) (noted_all worker way.walk.done way.work.outputs cuts passed way.noted octets way.work.valid way.work.written)

@@ -19,22 +19,19 @@ use Rattle.cache_versions.specs.declared.place.Placed.{Placed}
 use Rattle.cache_versions.specs.Inserts.{Inserted}
 use Rattle.cache_versions.specs.Seats.{places_by, seen_by}
 use Rattle.cache_versions.proofs.Fronts.{prefix_length}
-use Rattle.reply_core.specs.Answered.{reply_in}
 use Rattle.replay_meaning.specs.Frame.{Input}
 use Rattle.replay_meaning.specs.OutFrame.{Output}
 use Rattle.replay_meaning.specs.Outcome.{stored_octets}
 use Rattle.replay_meaning.specs.Step.{Query, Insert, Tell, query_step, answer_step, DoesBy, Does}
-use Rattle.replay_meaning.specs.Fits.{is_placed, query_output, told_output}
-use Rattle.replay_meaning.specs.Sound.{IsSoundReply}
+use Rattle.replay_meaning.specs.Fits.{Rule, is_placed, query_output, told_output}
 use Rattle.replay_meaning.specs.declared.frame.FrameKind.TheVariants as kinds
 use Rattle.replay_meaning.specs.declared.out_frame.OutKind.{OutKind}
 use Rattle.replay_meaning.specs.declared.out_frame.OutKind.TheVariants.{Stored}
-use Rattle.replay_meaning.proofs.SoundLemmas.{replies_are_sound}
 use Rattle.replay_meaning.proofs.StepLemmas.{tells_no_call}
 use Rattle.replay_meaning.proofs.OneOutputLemmas.{query_worker}
 use Rattle.worker_seats.specs.Answer.{IsAnswered}
 use Rattle.worker_seats.specs.OneFrame.{DoesOneFrame, IsDone, Writes, WritesCall, places_of}
-use Rattle.worker_seats.proofs.AnswerLemmas.{answered_for, query_places_none, query_version}
+use Rattle.worker_seats.proofs.AnswerLemmas.{query_places_none, query_version}
 
 pub on_ok : {T E P Q : Type 0} (r : Result T E) → (P → Q) → OnOk r P → OnOk r Q
 on_ok (Ok x) f p = f p
@@ -44,11 +41,10 @@ pub on_both : {T E P Q R : Type 0} (r : Result T E) → (P → Q → R) → OnOk
 on_both (Ok x) f p q = f p q
 on_both (Err e) f p q = tt
 
--- ---- replies
-
-pub answered_sound : (seen : List Batch) (input : Input) (output : Output) → IsAnswered seen input output → IsSoundReply seen input output
-answered_sound seen input output answered =
-    (replies_are_sound (input.worker + 1) seen (input ∷ []) (output ∷ []) (answered_for (input.worker + 1) seen input output (omega arith) answered, tt)).0
+-- what holds for every rule holds for one
+pub on_any : {T E : Type 0} (Q : Rule → Type 0) (r : Result T E) (rule : Rule) → OnOk r ((any : Rule) → Q any) → OnOk r (Q rule)
+on_any Q (Ok x) rule all = all rule
+on_any Q (Err e) rule all = tt
 
 -- ---- places
 
@@ -60,11 +56,11 @@ same_places places output none = sym (append-nil places) ∙ ap (λ l. places ++
 
 -- ---- steps
 
-module _ {g : Ghosts Held Batch (Unit {0})} where
-  pub told_frame : (seat : Seat Held Batch (Unit {0}) g) (input : Input) (kind : OutKind) (body octets octets' : List ℕ) → Does input (Tell kind body) → Writes (told_output input.worker kind body) octets octets' → DoesOneFrame seat seat input octets octets'
+module _ {g : Ghosts Held Batch (Unit {0})} (rule : Rule) where
+  pub told_frame : (seat : Seat Held Batch (Unit {0}) g) (input : Input) (kind : OutKind) (body octets octets' : List ℕ) → Does input (Tell kind body) → Writes (told_output input.worker kind body) octets octets' → DoesOneFrame rule seat seat input octets octets'
   told_frame seat input kind body octets octets' does writes =
       let none = tells_no_call input (Tell kind body) does in
-      let answered : IsAnswered (seen_by seat) input (told_output input.worker kind body) = record { step = Tell kind body; does = does; says = refl } in
+      let answered : IsAnswered rule (seen_by seat) input (told_output input.worker kind body) = record { step = Tell kind body; does = does; says = refl } in
       record {
         output = told_output input.worker kind body;
         worker = refl;
@@ -74,32 +70,31 @@ module _ {g : Ghosts Held Batch (Unit {0})} where
           rises = λ placed. absurd (false≢true (sym none.not_placed ∙ placed));
           places = same_places (places_by seat) (told_output input.worker kind body) none.not_placed;
           idle = λ no_call. refl;
-          sound = answered_sound (seen_by seat) input (told_output input.worker kind body) answered;
         };
         writes = writes;
       }
 
   call_frame : (before after : Seat Held Batch (Unit {0}) g) (input : Input) (output : Output) (octets octets' : List ℕ)
-      → output.worker ≡ input.worker → output.version ≡ length (seen_by after) → IsDone before after input output
-      → WritesCall output octets octets' → DoesOneFrame before after input octets octets'
+      → output.worker ≡ input.worker → output.version ≡ length (seen_by after) → IsDone rule before after input output
+      → WritesCall output octets octets' → DoesOneFrame rule before after input octets octets'
   call_frame before after input output octets octets' worker version done writes = record {
     output = writes.told;
     worker = writes.worker ∙ worker;
-    done = λ few. subst (IsDone before after input) (sym (writes.same (omega (arith, few, version)))) done;
+    done = λ few. subst (IsDone rule before after input) (sym (writes.same (omega (arith, few, version)))) done;
     writes = writes.writes;
   }
 
   pub asked_frame : (before after : Seat Held Batch (Unit {0}) g) (input : Input) (question : Question) (version : ℕ) (found : Option (List ℕ)) (octets octets' : List ℕ)
-      → Does input (Query question) → version ≡ length (seen_by after) → reply_in (held_of (seen_by after)) question input.now ≡ found → places_by after ≡ places_by before
-      → WritesCall (query_output input.worker version found) octets octets' → DoesOneFrame before after input octets octets'
+      → Does input (Query question) → version ≡ length (seen_by after) → rule (held_of (seen_by after)) question input.now ≡ found → places_by after ≡ places_by before
+      → WritesCall (query_output input.worker version found) octets octets' → DoesOneFrame rule before after input octets octets'
   asked_frame before after input question version found octets octets' does version_is found_is same writes =
       let output : Output = query_output input.worker version found in
       let none = query_places_none input.worker version found in
       let all : take version (seen_by after) ≡ seen_by after = take_all version (seen_by after) (omega (arith, version_is)) in
-      let answered : IsAnswered (seen_by after) input output = record {
+      let answered : IsAnswered rule (seen_by after) input output = record {
         step = Query question;
         does = does;
-        says = (version, omega (arith, version_is), ap (query_output input.worker version) (sym found_is ∙ ap (λ (l : List Batch). reply_in (held_of l) question input.now) (sym all)));
+        says = (version, omega (arith, version_is), ap (query_output input.worker version) (sym found_is ∙ ap (λ (l : List Batch). rule (held_of l) question input.now) (sym all)));
       } in
       let told : output.version ≡ length (seen_by after) = query_version input.worker version found ∙ version_is in
       call_frame before after input output octets octets' (query_worker input.worker version found) told (record {
@@ -108,16 +103,20 @@ module _ {g : Ghosts Held Batch (Unit {0})} where
         rises = λ placed. absurd (false≢true (sym none ∙ placed));
         places = same ∙ same_places (places_by before) output none;
         idle = λ no_call. absurd (no_call tt);
-        sound = answered_sound (seen_by after) input output answered;
       }) writes
+
+-- of what a query doesn't read, for any rule
+module _ {g : Ghosts Held Batch (Unit {0})} where
+  pub told_by_any : (seat : Seat Held Batch (Unit {0}) g) (input : Input) (kind : OutKind) (body octets octets' : List ℕ) → Does input (Tell kind body) → Writes (told_output input.worker kind body) octets octets' → (rule : Rule) → DoesOneFrame rule seat seat input octets octets'
+  told_by_any seat input kind body octets octets' does writes rule = told_frame rule seat input kind body octets octets' does writes
 
   pub placed_frame : (before after : Seat Held Batch (Unit {0}) g) (input : Input) (taken : Taken) (p : Placed Held Batch (Unit {0}) g) (body octets octets' : List ℕ)
       → Does input (Insert taken) → Inserted before after taken.batch p → body ≡ stored_octets taken
-      → WritesCall (record { kind = Stored; worker = input.worker; version = p.version; body = body }) octets octets' → DoesOneFrame before after input octets octets'
-  placed_frame before after input taken p body octets octets' does inserted body_is writes =
+      → WritesCall (record { kind = Stored; worker = input.worker; version = p.version; body = body }) octets octets' → (rule : Rule) → DoesOneFrame rule before after input octets octets'
+  placed_frame before after input taken p body octets octets' does inserted body_is writes rule =
       let output : Output = record { kind = Stored; worker = input.worker; version = p.version; body = body } in
       let grown : length (seen_by after) ≡ length inserted.former + 1 = ap length inserted.seen ∙ length-append inserted.former (taken.batch ∷ []) in
-      let answered : IsAnswered (seen_by after) input output = record {
+      let answered : IsAnswered rule (seen_by after) input output = record {
         step = Insert taken;
         does = does;
         says = (
@@ -128,19 +127,18 @@ module _ {g : Ghosts Held Batch (Unit {0})} where
       } in
       let place : p.version - 1 ≡ length inserted.former = omega (arith, inserted.version) in
       let told : p.version ≡ length (seen_by after) = inserted.version ∙ sym grown in
-      call_frame before after input output octets octets' refl told (record {
+      call_frame rule before after input output octets octets' refl told (record {
         answered = answered;
         version = λ call. told;
         rises = λ placed. omega (arith, prefix_length (seen_by before) inserted.former inserted.begins, grown);
         places = inserted.places ∙ ap (λ n. places_by before ++ n ∷ []) (sym place);
         idle = λ no_call. absurd (no_call tt);
-        sound = answered_sound (seen_by after) input output answered;
       }) writes
 
   -- more batches were seen than a frame can tell
   pub spent_frame : (before after : Seat Held Batch (Unit {0}) g) (input : Input) (output : Output) (octets octets' : List ℕ)
-      → output.worker ≡ input.worker → 2 ^ 32 ≤ length (seen_by after) → Writes output octets octets' → DoesOneFrame before after input octets octets'
-  spent_frame before after input output octets octets' worker many writes = record {
+      → output.worker ≡ input.worker → 2 ^ 32 ≤ length (seen_by after) → Writes output octets octets' → (rule : Rule) → DoesOneFrame rule before after input octets octets'
+  spent_frame before after input output octets octets' worker many writes rule = record {
     output = output;
     worker = worker;
     done = λ few. absurd (omega (arith, few, many));

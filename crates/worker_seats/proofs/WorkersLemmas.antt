@@ -14,6 +14,7 @@ use Rattle.cache_versions.specs.Rows.{AreNumbered}
 use Rattle.cache_versions.specs.Seats.{number_by}
 use Rattle.replay_meaning.specs.Frame.{Input}
 use Rattle.replay_meaning.specs.OutFrame.{Output, IsOutput}
+use Rattle.replay_meaning.specs.Fits.{Rule}
 use Rattle.replay_meaning.proofs.FrameLemmas.{outputs_have_one}
 use Rattle.worker_seats.specs.Merge.{AreOutputsOf, AreMerged}
 use Rattle.worker_seats.specs.Work.{IsWork}
@@ -55,12 +56,12 @@ results_length results shifts are = sym (length-map shifts (λ s. Ok s)) ∙ sym
 
 -- ---- workers
 
-module _ {g : Ghosts Held Batch (Unit {0})} {X : Type 0} (seat_of : X → Seat Held Batch (Unit {0}) g) (octets_of : X → List ℕ) where
+module _ {g : Ghosts Held Batch (Unit {0})} {X : Type 0} (rule : Rule) (seat_of : X → Seat Held Batch (Unit {0}) g) (octets_of : X → List ℕ) where
   abbrev pub EachWorked : List (Seat Held Batch (Unit {0}) g) → List X → List Input → Type 0
   EachWorked before parts inputs =
-      (worker : ℕ) (d : Seat Held Batch (Unit {0}) g) (e : X) → worker < length parts → IsWork worker (get_or before worker d) (seat_of (get_or parts worker e)) inputs (octets_of (get_or parts worker e))
+      (worker : ℕ) (d : Seat Held Batch (Unit {0}) g) (e : X) → worker < length parts → IsWork rule worker (get_or before worker d) (seat_of (get_or parts worker e)) inputs (octets_of (get_or parts worker e))
 
-  pub outputs_at : (worker : ℕ) (before : Seat Held Batch (Unit {0}) g) (part : X) (inputs : List Input) → IsWork worker before (seat_of part) inputs (octets_of part) → AreOutputsOf worker inputs (octets_of part)
+  pub outputs_at : (worker : ℕ) (before : Seat Held Batch (Unit {0}) g) (part : X) (inputs : List Input) → IsWork rule worker before (seat_of part) inputs (octets_of part) → AreOutputsOf worker inputs (octets_of part)
   outputs_at worker before part inputs work = record {
     outputs = work.outputs;
     written = work.written;
@@ -69,7 +70,7 @@ module _ {g : Ghosts Held Batch (Unit {0})} {X : Type 0} (seat_of : X → Seat H
     many = AllZip-long HasSameWorker (inputs_of worker inputs) work.outputs work.worked.same;
   }
 
-  pub worked_all : (before : List (Seat Held Batch (Unit {0}) g)) (parts : List X) (inputs : List Input) (octets : List ℕ) → length parts ≡ length before → EachWorked before parts inputs → AreMerged (map octets_of parts) inputs octets → HaveWorked before (map seat_of parts) inputs octets
+  pub worked_all : (before : List (Seat Held Batch (Unit {0}) g)) (parts : List X) (inputs : List Input) (octets : List ℕ) → length parts ≡ length before → EachWorked before parts inputs → AreMerged (map octets_of parts) inputs octets → HaveWorked rule before (map seat_of parts) inputs octets
   worked_all before parts inputs octets all each merged = record {
     outputs = merged.outputs;
     written = merged.written;
@@ -81,8 +82,8 @@ module _ {g : Ghosts Held Batch (Unit {0})} {X : Type 0} (seat_of : X → Seat H
         let work = each worker d e lt' in
         let mine : work.outputs ≡ outputs_of worker merged.outputs =
         outputs_have_one.whole work.outputs (outputs_of worker merged.outputs) work.valid (All-filter (λ (o : Output). o.worker == worker) IsOutput merged.outputs merged.valid) (sym work.written ∙ sym (get_or-map octets_of parts worker e [] lt') ∙ merged.each worker [] (omega (arith, lt', length-map parts octets_of))) in
-        subst (λ s. HasWorked (get_or before worker d) s (inputs_of worker inputs) (outputs_of worker merged.outputs)) (sym (get_or-map seat_of parts worker e d lt'))
-        (subst (λ l. HasWorked (get_or before worker d) (seat_of (get_or parts worker e)) (inputs_of worker inputs) l) mine work.worked);
+        subst (λ s. HasWorked rule (get_or before worker d) s (inputs_of worker inputs) (outputs_of worker merged.outputs)) (sym (get_or-map seat_of parts worker e d lt'))
+        (subst (λ l. HasWorked rule (get_or before worker d) (seat_of (get_or parts worker e)) (inputs_of worker inputs) l) mine work.worked);
   }
 
   pub numbers_all : (before : List (Seat Held Batch (Unit {0}) g)) (parts : List X) → length parts ≡ length before → AreNumbered before

@@ -1,4 +1,5 @@
 pub mod Answer
+pub mod Answering
 pub mod Cuts
 pub mod Frames
 pub mod Gather
@@ -7,5 +8,6 @@ pub mod Merge
 pub mod OneFrame
 pub mod Ranges
 pub mod Shift
+pub mod WalkReplay
 pub mod Work
 pub mod Workers

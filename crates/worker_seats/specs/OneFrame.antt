@@ -11,8 +11,7 @@ use Rattle.cache_versions.specs.Seats.{places_by, seen_by}
 use Rattle.replay_meaning.specs.Frame.{Input}
 use Rattle.replay_meaning.specs.OutFrame.{Output, IsOutput, output_spelling}
 use Rattle.replay_meaning.specs.Step.{Step, Query, Insert, Tell}
-use Rattle.replay_meaning.specs.Fits.{is_placed}
-use Rattle.replay_meaning.specs.Sound.{IsSoundReply}
+use Rattle.replay_meaning.specs.Fits.{Rule, is_placed}
 use Rattle.replay_meaning.specs.declared.frame.Frame.{Frame}
 use Rattle.replay_meaning.specs.declared.frame.FrameKind.TheVariants.{Upstream}
 use Rattle.replay_meaning.specs.declared.out_frame.OutKind.{OutKind}
@@ -50,8 +49,8 @@ places_of output = cond (is_placed output.kind) ((output.version - 1) ∷ []) []
 
 module _ {g : Ghosts Held Batch (Unit {0})} where
   -- the frame is answered, and this is what its seat was before and is after
-  pub record IsDone (before after : Seat Held Batch (Unit {0}) g) (input : Input) (output : Output) : Type 0 where
-    pub answered : IsAnswered (seen_by after) input output
+  pub record IsDone (rule : Rule) (before after : Seat Held Batch (Unit {0}) g) (input : Input) (output : Output) : Type 0 where
+    pub answered : IsAnswered rule (seen_by after) input output
     -- a call is told with the number of batches that the seat has then seen
     pub version : IsCall answered.step → output.version ≡ length (seen_by after)
     -- a placed batch is a new one
@@ -59,14 +58,13 @@ module _ {g : Ghosts Held Batch (Unit {0})} where
     -- its place is the seat's last one
     pub places : places_by after ≡ places_by before ++ places_of output
     pub idle : (IsCall answered.step → ⊥) → after ≡ before
-    pub sound : IsSoundReply (seen_by after) input output
 
   -- Such a frame is done, and the octets have got its output at their end. If more batches were seen than an output can tell, it
   -- may be any of the worker: a run of fewer frames never comes there.
-  pub record DoesOneFrame (before after : Seat Held Batch (Unit {0}) g) (input : Input) (octets octets' : List ℕ) : Type 0 where
+  pub record DoesOneFrame (rule : Rule) (before after : Seat Held Batch (Unit {0}) g) (input : Input) (octets octets' : List ℕ) : Type 0 where
     pub output : Output
     pub worker : output.worker ≡ input.worker
-    pub done : AreFewEnough (seen_by after) → IsDone before after input output
+    pub done : AreFewEnough (seen_by after) → IsDone rule before after input output
     pub writes : Writes output octets octets'
 
   -- The frame is an upstream answer, and what intake takes of it is the last batch seen, behind a journal that begins with what

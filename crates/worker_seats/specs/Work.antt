@@ -7,6 +7,7 @@ use Rattle.cache_versions.specs.declared.state.State.{Ghosts}
 use Rattle.cache_versions.specs.declared.seat.Seat.{Seat}
 use Rattle.replay_meaning.specs.Frame.{Input}
 use Rattle.replay_meaning.specs.OutFrame.{Output, IsOutput, outputs_spelling}
+use Rattle.replay_meaning.specs.Fits.{Rule}
 use Rattle.cache_versions.specs.Seats.{number_by}
 use Rattle.resolver.specs.Caches.{IsSeatOf}
 use Rattle.resolver.specs.declared.shared_cache.SharedCache.{SharedCache}
@@ -19,18 +20,18 @@ use Rattle.worker_seats.specs.Workers.{HasWorked, inputs_of}
 
 module _ {g : Ghosts Held Batch (Unit {0})} where
   -- the worker did its own of the inputs, in their order
-  pub record IsWork (worker : ℕ) (before after : Seat Held Batch (Unit {0}) g) (inputs : List Input) (octets : List ℕ) : Type 0 where
+  pub record IsWork (rule : Rule) (worker : ℕ) (before after : Seat Held Batch (Unit {0}) g) (inputs : List Input) (octets : List ℕ) : Type 0 where
     pub outputs : List Output
     pub written : octets ≡ outputs_spelling outputs
     pub valid : All IsOutput outputs
     pub own : All (λ output. output.worker ≡ worker) outputs
-    pub worked : HasWorked before after (inputs_of worker inputs) outputs
+    pub worked : HasWorked rule before after (inputs_of worker inputs) outputs
 
 -- the worker did its work over its seat of the cache, and leaves this
-pub record IsShiftOf (cache : SharedCache) (job : Job) (inputs : List Input) (shift : Shift) : Type 0 where
+pub record IsShiftOf (rule : Rule) (cache : SharedCache) (job : Job) (inputs : List Input) (shift : Shift) : Type 0 where
   pub object : IsSeatOf cache shift.seat
   pub number : number_by shift.seat ≡ number_by job.seat
-  pub work : IsWork job.worker job.seat shift.seat inputs shift.octets.items
+  pub work : IsWork rule job.worker job.seat shift.seat inputs shift.octets.items
   pub cuts : AreCuts job.worker inputs shift.octets.items shift.cuts.items
 
 -- what it has written

@@ -4,15 +4,18 @@ ghost use Rattle.dnswire.specs.Query.{IsReadAs};
 ghost use Rattle.intake.specs.Batch.{IsTaken};
 ghost use Rattle.reply_core.specs.Error.{error_octets, plain_octets};
 ghost use Rattle.reply_core.specs.declared.rcode.TheConstants.{BAD_VERSION};
-ghost use Rattle.cache_versions.specs.Seats.{number_by, places_by, seen_by};
+ghost use Rattle.cache_versions.specs.Seats.{IsSameSeat, number_by, places_by, seen_by};
 ghost use Rattle.resolver.specs.Caches.{IsSeatOf};
 ghost use Rattle.replay_meaning.specs.Frame.{input_of};
 ghost use Rattle.replay_meaning.specs.Outcome.{stored_octets, refusal_code};
 ghost use Rattle.replay_meaning.specs.declared.frame.FrameKind.{FrameKind};
 ghost use Rattle.replay_meaning.specs.declared.out_frame.OutKind.{OutKind};
 ghost use Rattle.dnswire.specs.declared.query_read.QueryRead.{QueryRead};
+ghost use Rattle.replay_meaning.specs.Fits.{Rule as AnyRule};
+ghost use Rattle.worker_seats.specs.Answering.{IsOutcomeBy, rule_of};
 ghost use Rattle.worker_seats.specs.OneFrame.{DoesOneFrame, HasPlacedAtMost, Writes, WritesCall, output_for};
 
+use alias_chain::Rule;
 use dname::OutOfMemory;
 use dnswire::{Head, QueryRead, Question, read_query};
 use intake::{IntakeFault, Taken, batch_of};
@@ -22,6 +25,15 @@ use reply_core::{ReplyBuffer, write_error, write_plain};
 use resolver::{CacheFault, CacheSeat, Outcome, SharedCache};
 use std::alloc::{AllocError, Global};
 use std::sync::Wait;
+
+/// By what queries are answered.
+#[derive(Clone, Copy, Debug, PartialEq, Eq)]
+pub enum Answering {
+    /// By what is proved of the question itself.
+    ByProof,
+    /// By a walk from the question's name on, of such links.
+    ByWalk { rule: Rule },
+}
 
 /// The code of a call whose version has no number that an output frame can tell.
 const NUMBERS_SPENT: u8 = 8;
@@ -33,6 +45,7 @@ pub fn one_frame<R: Wait>(
     alloc: Global,
     cache: &SharedCache,
     seat: &mut CacheSeat,
+    answering: Answering,
     frame: &Frame<'_>,
     reply: &mut ReplyBuffer,
     out: &mut Vec<u8>,
@@ -41,13 +54,13 @@ pub fn one_frame<R: Wait>(
     ensures object { IsSeatOf cache.now seat.new }
     ensures number { number_by seat.new ≡ number_by seat.old }
     ensures begins { IsPrefix (seen_by seat.old) (seen_by seat.new) }
-    ensures done { OnOk result (DoesOneFrame
+    ensures done { OnOk result (DoesOneFrame (rule_of answering)
         seat.old seat.new (input_of frame.entry.now) out.old.items out.new.items) }
     ensures kept { OnErr result (out.new.items ≡ out.old.items) }
     ensures placed { HasPlacedAtMost seat.old seat.new (input_of frame.entry.now) }
 {
     match frame.kind {
-        FrameKind::Query => query_frame(cache, seat, frame, reply, out),
+        FrameKind::Query => query_frame(cache, seat, answering, frame, reply, out),
         FrameKind::Upstream => upstream_frame(rt, alloc, cache, seat, frame, out),
     }
 }
@@ -55,6 +68,7 @@ pub fn one_frame<R: Wait>(
 fn query_frame(
     cache: &SharedCache,
     seat: &mut CacheSeat,
+    answering: Answering,
     frame: &Frame<'_>,
     reply: &mut ReplyBuffer,
     out: &mut Vec<u8>,
@@ -65,7 +79,7 @@ fn query_frame(
     ensures number { number_by seat.new ≡ number_by seat.old }
     ensures begins { IsPrefix (seen_by seat.old) (seen_by seat.new) }
     ensures places { places_by seat.new ≡ places_by seat.old }
-    ensures done { OnOk result (DoesOneFrame
+    ensures done { OnOk result (DoesOneFrame (rule_of answering)
         seat.old seat.new (input_of frame.entry.now) out.old.items out.new.items) }
     ensures kept { OnErr result (out.new.items ≡ out.old.items) }
 {
@@ -74,14 +88,15 @@ fn query_frame(
         QueryRead::NotImp(head) => write_error_output(frame, &head, NOT_IMPLEMENTED, reply, out),
         QueryRead::FormErr(head) => write_error_output(frame, &head, FORMAT_ERROR, reply, out),
         QueryRead::BadVers(question) => write_bad_version_output(frame, &question, reply, out),
-        QueryRead::Query(question) => ask(cache, seat, frame, &question, reply, out),
+        QueryRead::Query(question) => ask(cache, seat, answering, frame, &question, reply, out),
     }
 }
 
-// Asks the question of the version that the seat reads.
+// Asks the question of the version that the seat reads, and writes what becomes of it.
 fn ask(
     cache: &SharedCache,
     seat: &mut CacheSeat,
+    answering: Answering,
     frame: &Frame<'_>,
     question: &Question,
     reply: &mut ReplyBuffer,
@@ -94,15 +109,36 @@ fn ask(
     ensures number { number_by seat.new ≡ number_by seat.old }
     ensures begins { IsPrefix (seen_by seat.old) (seen_by seat.new) }
     ensures places { places_by seat.new ≡ places_by seat.old }
-    ensures done { OnOk result (DoesOneFrame
+    ensures done { OnOk result (DoesOneFrame (rule_of answering)
         seat.old seat.new (input_of frame.entry.now) out.old.items out.new.items) }
     ensures kept { OnErr result (out.new.items ≡ out.old.items) }
 {
-    match cache.query(seat, question, frame.now, reply) {
+    match answer(cache, seat, answering, question, frame.now, reply) {
         Outcome::Answered { version } => {
             write_call(frame, OutKind::Reply, version, reply.as_slice(), out)
         }
         Outcome::Forward { version } => write_call(frame, OutKind::Forward, version, &[], out),
+    }
+}
+
+fn answer(
+    cache: &SharedCache,
+    seat: &mut CacheSeat,
+    answering: Answering,
+    question: &Question,
+    now: u32,
+    reply: &mut ReplyBuffer,
+) -> Outcome
+    requires { IsSeatOf cache.now seat.old }
+    ensures object { IsSeatOf cache.now seat.new }
+    ensures same { IsSameSeat seat.old seat.new }
+    ensures begins { IsPrefix (seen_by seat.old) (seen_by seat.new) }
+    ensures outcome { IsOutcomeBy
+        (rule_of answering) (seen_by seat.new) question.now now result reply.new }
+{
+    match answering {
+        Answering::ByProof => cache.query(seat, question, now, reply),
+        Answering::ByWalk { rule } => alias_chain::answer(cache, seat, rule, question, now, reply),
     }
 }
 
@@ -119,7 +155,7 @@ fn upstream_frame<R: Wait>(
     ensures object { IsSeatOf cache.now seat.new }
     ensures number { number_by seat.new ≡ number_by seat.old }
     ensures begins { IsPrefix (seen_by seat.old) (seen_by seat.new) }
-    ensures done { OnOk result (DoesOneFrame
+    ensures done { OnOk result ((rule : AnyRule) → DoesOneFrame rule
         seat.old seat.new (input_of frame.entry.now) out.old.items out.new.items) }
     ensures kept { OnErr result (out.new.items ≡ out.old.items) }
     ensures placed { HasPlacedAtMost seat.old seat.new (input_of frame.entry.now) }
@@ -146,7 +182,7 @@ fn insert<R: Wait>(
     ensures object { IsSeatOf cache.now seat.new }
     ensures number { number_by seat.new ≡ number_by seat.old }
     ensures begins { IsPrefix (seen_by seat.old) (seen_by seat.new) }
-    ensures done { OnOk result (DoesOneFrame
+    ensures done { OnOk result ((rule : AnyRule) → DoesOneFrame rule
         seat.old seat.new (input_of frame.entry.now) out.old.items out.new.items) }
     ensures kept { OnErr result (out.new.items ≡ out.old.items) }
     ensures placed { HasPlacedAtMost seat.old seat.new (input_of frame.entry.now) }

@@ -1,12 +1,13 @@
 ghost use Rattle.std.specs.Prelude.{◌≡◌, ◌<◌, ◌^◌, IfOk, length};
 ghost use Rattle.cache_versions.specs.Seats.{number_by};
 ghost use Rattle.resolver.specs.Caches.{IsSeatOf};
+ghost use Rattle.worker_seats.specs.Answering.{rule_of};
 ghost use Rattle.worker_seats.specs.Cuts.{AreCuts};
 ghost use Rattle.worker_seats.specs.Work.{HasPassed, IsWork};
 
 use crate::cut::{Cut, RANGE};
 use crate::frames::{Frames, frame_for};
-use crate::one_frame;
+use crate::{Answering, one_frame};
 use dname::OutOfMemory;
 use outside_core::{Gate, Side};
 use reply_core::ReplyBuffer;
@@ -34,6 +35,7 @@ pub(crate) fn work_shift<R: Wait, G: Gate>(
     rt: &R,
     alloc: Global,
     cache: &SharedCache,
+    answering: Answering,
     job: Job,
     frames: &Frames<'_>,
     gate: &G,
@@ -45,7 +47,7 @@ pub(crate) fn work_shift<R: Wait, G: Gate>(
     ensures cuts { IfOk result (λ shift.
         AreCuts job.worker frames.now shift.octets.items shift.cuts.items) }
     ensures work { IfOk result (λ shift.
-        IsWork job.worker job.seat shift.seat frames.now shift.octets.items) }
+        IsWork (rule_of answering) job.worker job.seat shift.seat frames.now shift.octets.items) }
 {
     let Job { worker, seat } = job;
     let mut seat = seat;
@@ -67,7 +69,16 @@ pub(crate) fn work_shift<R: Wait, G: Gate>(
         passed = count_frame(&mut cuts, passed, here)?;
         if let Some(frame) = own {
             gate.pass(rt, frame.worker, call, Side::Before);
-            one_frame(rt, alloc, cache, &mut seat, &frame, &mut reply, &mut octets)?;
+            one_frame(
+                rt,
+                alloc,
+                cache,
+                &mut seat,
+                answering,
+                &frame,
+                &mut reply,
+                &mut octets,
+            )?;
             gate.pass(rt, frame.worker, call, Side::After);
             call += 1;
         }

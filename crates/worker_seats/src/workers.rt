@@ -2,11 +2,13 @@ ghost use Rattle.std.specs.Prelude.{◌≡◌, ℕ, List, ◌<◌, ◌^◌, All,
 ghost use Rattle.cache_versions.specs.Rows.{AreNumbered};
 ghost use Rattle.resolver.specs.Caches.{IsSeatOf};
 ghost use Rattle.worker_seats.specs.declared.shift.Job.{Job};
+ghost use Rattle.worker_seats.specs.Answering.{rule_of};
 ghost use Rattle.worker_seats.specs.Cuts.{AreCut, parts_of};
 ghost use Rattle.worker_seats.specs.Merge.{AreMerged, CanBeMerged};
 ghost use Rattle.worker_seats.specs.Work.{ArePlaced, IsShiftOf, part_of};
 ghost use Rattle.worker_seats.specs.Workers.{HaveWorked};
 
+use crate::Answering;
 use crate::frames::Frames;
 use crate::outputs::{OnePart, Outputs};
 use crate::shift::{Job, Shift, work_shift};
@@ -26,6 +28,7 @@ pub fn run_workers<R: Threads + Wait + Sync, G: Gate>(
     alloc: Global,
     cache: &SharedCache,
     seats: Vec<CacheSeat>,
+    answering: Answering,
     frames: &Frames<'_>,
     gate: &G,
 ) -> Result<(Vec<CacheSeat>, Outputs), OutOfMemory>
@@ -41,9 +44,9 @@ pub fn run_workers<R: Threads + Wait + Sync, G: Gate>(
     ensures cuts { IfOk result (λ done. AreCut done.1 frames.now) }
     ensures worked { IfOk result (λ done. (octets : List ℕ)
         → AreMerged (parts_of done.1) frames.now octets
-        → HaveWorked seats.items done.0.items frames.now octets) }
+        → HaveWorked (rule_of answering) seats.items done.0.items frames.now octets) }
 {
-    let results = work_all(rt, alloc, cache, seats, frames, gate)?;
+    let results = work_all(rt, alloc, cache, seats, answering, frames, gate)?;
     let shifts = all_shifts(alloc, results)?;
     split(alloc, shifts)
 }
@@ -54,6 +57,7 @@ fn work_all<R: Threads + Wait + Sync, G: Gate>(
     alloc: Global,
     cache: &SharedCache,
     seats: Vec<CacheSeat>,
+    answering: Answering,
     frames: &Frames<'_>,
     gate: &G,
 ) -> Result<Vec<Result<Shift, OutOfMemory>>, OutOfMemory>
@@ -62,18 +66,19 @@ fn work_all<R: Threads + Wait + Sync, G: Gate>(
     ensures all { IfOk result (λ results. length results.items ≡ length seats.items) }
     ensures each { IfOk result (λ results. (worker : ℕ) (d : _) (e : _)
         → worker < length seats.items
-        → IfOk (slice_index_or results.items worker d) (IsShiftOf cache.now
+        → IfOk (slice_index_or results.items worker d) (IsShiftOf (rule_of answering) cache.now
         (record { worker = worker; seat = slice_index_or seats.items worker e })
         frames.now)) }
 {
     let jobs = jobs_of(alloc, seats)?;
-    do_jobs(rt, alloc, cache, jobs, frames, gate)
+    do_jobs(rt, alloc, cache, answering, jobs, frames, gate)
 }
 
 fn do_jobs<R: Threads + Wait + Sync, G: Gate>(
     rt: &R,
     alloc: Global,
     cache: &SharedCache,
+    answering: Answering,
     jobs: Vec<Job>,
     frames: &Frames<'_>,
     gate: &G,
@@ -83,14 +88,14 @@ fn do_jobs<R: Threads + Wait + Sync, G: Gate>(
     ensures all { IfOk result (λ results. length results.items ≡ length jobs.items) }
     ensures each { IfOk result (λ results. (place : ℕ) (d : _) (e : Job)
         → place < length jobs.items
-        → IfOk (slice_index_or results.items place d) (IsShiftOf cache.now
+        → IfOk (slice_index_or results.items place d) (IsShiftOf (rule_of answering) cache.now
         (slice_index_or jobs.items place e) frames.now)) }
 {
     let work = |job: Job| -> Result<Shift, OutOfMemory>
         requires { IsSeatOf cache.now job.seat × (length frames.now < 2 ^ 32) }
         ensures { IfOk result
-            (IsShiftOf cache.entry.now job frames.entry.now) }
-    { work_shift(rt, alloc, cache, job, frames, gate) };
+            (IsShiftOf (rule_of answering) cache.entry.now job frames.entry.now) }
+    { work_shift(rt, alloc, cache, answering, job, frames, gate) };
     thread::map_vec(rt, jobs, &work)
 }
 

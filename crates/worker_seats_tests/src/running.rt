@@ -9,7 +9,7 @@ use std::alloc::Global;
 use std::sync::Wait;
 use std::test::Fail;
 use std::thread::Threads;
-use worker_seats::{Frames, run_workers, write_outputs};
+use worker_seats::{Answering, Frames, run_workers, write_outputs};
 
 // The octets of the frames.
 fn spelled(alloc: Global, frames: &[Frame<'_>]) -> Result<Vec<u8>, OutOfMemory> {
@@ -49,7 +49,8 @@ pub fn written<R: Threads + Wait + Sync, G: Gate>(
         return Err("a frame of another worker")?;
     };
     let (cache, seats) = SharedCache::with_seats(rt, alloc, workers)?;
-    match run_workers(rt, alloc, &cache, seats, &frames, gate) {
+    let answering = Answering::ByProof;
+    match run_workers(rt, alloc, &cache, seats, answering, &frames, gate) {
         Ok((seats, outputs)) => {
             let closed = cache.close(rt, seats);
             let mut octets = Vec::new(alloc);

@@ -85,13 +85,18 @@ class Zone:
         chain = ((wire.hashed_label(start), wire.nsec3_data(end, each, salt, iterations)) for start, end, each in links)
         return [signed(front + TO_APEX, 2, NSEC3, DENIAL_TTL, data) for front, data in chain]
 
-    def filling(self, a_message=A_MESSAGE):
-        """Frames after which the cache holds the zone's records."""
+    def sets(self):
+        """The zone's records, each with its signature."""
         owners = [self.label(place) for place in self.with_sets]
         owners += [b"\1*" + self.label(place) for place in self.wildcards]
         sets = [signed(owner + TO_APEX, 2, A, SET_TTL, bytes([192, 0, 2, 1])) for owner in owners]
         sets = [SIGNED_SOA] + sets + self.denials
         check(len(sets) == self.size, f"{len(sets)} records were made for a cache of {self.size}")
+        return sets
+
+    def filling(self, a_message=A_MESSAGE):
+        """Frames after which the cache holds the zone's records."""
+        sets = self.sets()
         for at in range(0, self.size, a_message):
             some = sets[at : at + a_message]
             yield Call(answer(some, MOMENT), frozenset([(STORED, len(some), 0)]))

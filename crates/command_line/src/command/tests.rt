@@ -123,6 +123,24 @@ const SERVE_OPTIONS: [&str; 8] = [
     "serve|--listen|9|--upstream|12|--workers|4|--datagrams|1",
 ];
 
+const WALKS: [(&str, Command); 3] = [
+    ("chase", Command::Chase),
+    ("redirect", Command::Redirect),
+    ("follow", Command::Follow),
+];
+
+// They have no options, and no other names.
+const WALK_OPTIONS: [&str; 8] = [
+    "chase|--workers|1",
+    "chase|",
+    "chase|--",
+    "redirect|--workers=1",
+    "redirect|redirect",
+    "follow|1",
+    "Chase",
+    "redirec",
+];
+
 fn command_in(alloc: Global, text: &str) -> Result<Option<Command>, Fail> {
     let mut words = Vec::new(alloc);
     for word in text.split('|') {
@@ -177,6 +195,35 @@ fn words_ask_for_a_server(rt: HostRuntime) -> Result<(), Fail> {
         };
         assert_eq!(rt; command, Some(wanted), "{text}");
     }
+    Ok(())
+}
+
+// The words that are another command than is wanted, or none.
+fn walk_otherwise(alloc: Global) -> Result<Option<&'static str>, Fail> {
+    for (text, wanted) in WALKS {
+        if command_in(alloc, text)? != Some(wanted) {
+            return Ok(Some(text));
+        }
+    }
+    Ok(None)
+}
+
+// The words that are a command.
+fn taken(alloc: Global, texts: &[&'static str]) -> Result<Option<&'static str>, Fail> {
+    for text in texts {
+        if command_in(alloc, text)?.is_some() {
+            return Ok(Some(*text));
+        }
+    }
+    Ok(None)
+}
+
+#[test]
+fn words_ask_for_walks(rt: HostRuntime) -> Result<(), Fail> {
+    let wrong = walk_otherwise(rt.alloc())?;
+    assert!(rt; wrong.is_none(), "{wrong:?}");
+    let wrong = taken(rt.alloc(), &WALK_OPTIONS)?;
+    assert!(rt; wrong.is_none(), "{wrong:?}");
     Ok(())
 }
 

@@ -1,9 +1,10 @@
 use Rattle.std.proofs.Common.{◌≡◌, ◌⊎◌, ◌∙◌, sym, subst}
 use Rattle.command_line.specs.Words.{texts}
 use Rattle.command_line.specs.declared.command.Command.TheVariants.{Replay, Selfrun, Serve}
-use Rattle.command_line.proofs.CommandLemmas.{replay_in_range, same_selfrun, same_workers, selfrun_in_range}
+use Rattle.command_line.proofs.CommandLemmas.{replay_in_range, same_selfrun, selfrun_in_range}
 use Rattle.server.specs.Back.{CameBack, AllServedWhole}
 use Rattle.running.specs.Serve.{EndedInWant, ServedInPart}
+use Rattle.running.proofs.AskLemmas.{asks_chase, asks_follow, asks_redirect, asks_replay, none_asked}
 use Rattle.running.proofs.ServeLemmas.{found_means, none_found, few_datagrams, same_service, workers_in_range}
 use Rattle.running.proofs.commands.run.Goals as goal
 
@@ -38,7 +39,7 @@ run_serve-requires-clause-few g c = λ κs outlives.
     (found_means c.args.words.now c.in-Ok-Some-Serve.field-0 c.in-Ok-Some-Serve.field-0-0 (Serve c.in-Ok-Some-Serve.listen c.in-Ok-Some-Serve.upstream c.in-Ok-Some-Serve.workers c.in-Ok-Some-Serve.datagrams) c.in-Ok-Some-Serve.field-0-is c.in-Ok-Some-Serve.field-0-0-is c.in-Ok-Some-Serve.ensures.read)
 
 pub returns-in-Ok-None-clause-complete : goal.returns-in-Ok-None-clause-complete
-returns-in-Ok-None-clause-complete g c = λ workers means input is source sink. absurd (none_found c.in-Ok-None.field-0 (Replay workers) c.in-Ok-None.field-0-is (c.in-Ok-None.ensures.every (Replay workers) means))
+returns-in-Ok-None-clause-complete g c = λ answering workers asks input is source sink. absurd (none_asked c.args.words.now c.in-Ok-None.field-0 c.in-Ok-None.field-0-is c.in-Ok-None.ensures.every answering workers asks)
 
 pub returns-in-Ok-None-clause-summary_ends : goal.returns-in-Ok-None-clause-summary_ends
 returns-in-Ok-None-clause-summary_ends g c = λ seed names queries means. absurd (none_found c.in-Ok-None.field-0 (Selfrun seed names queries) c.in-Ok-None.field-0-is (c.in-Ok-None.ensures.every (Selfrun seed names queries) means))
@@ -53,31 +54,136 @@ pub returns-in-Ok-None-clause-serve_complete : goal.returns-in-Ok-None-clause-se
 returns-in-Ok-None-clause-serve_complete g c = λ l u w d means calm. absurd (none_found c.in-Ok-None.field-0 (Serve l u w d) c.in-Ok-None.field-0-is (c.in-Ok-None.ensures.every (Serve l u w d) means))
 
 pub returns-in-Ok-Some-Replay-clause-good : goal.returns-in-Ok-Some-Replay-clause-good
-returns-in-Ok-Some-Replay-clause-good g c = λ workers means.
-    rw (same_workers c.in-Ok-Some-Replay.field-0-0 c.in-Ok-Some-Replay.workers workers c.in-Ok-Some-Replay.field-0-0-is (sym c.in-Ok-Some-Replay.field-0-is ∙ c.in-Ok-Some-Replay.ensures.every (Replay workers) means)) at c.run_replay.ensures.good
+returns-in-Ok-Some-Replay-clause-good g c = λ answering workers asks.
+    let (by, for_all) = asks_replay c.args.words.now c.in-Ok-Some-Replay.field-0 c.in-Ok-Some-Replay.field-0-0 c.in-Ok-Some-Replay.field-0-is c.in-Ok-Some-Replay.ensures.every answering workers asks c.in-Ok-Some-Replay.workers c.in-Ok-Some-Replay.field-0-0-is in
+    rw (by, for_all) c.run_replay.ensures.good
 
 pub returns-in-Ok-Some-Replay-clause-replayed : goal.returns-in-Ok-Some-Replay-clause-replayed
-returns-in-Ok-Some-Replay-clause-replayed g c = λ workers means.
-    rw (same_workers c.in-Ok-Some-Replay.field-0-0 c.in-Ok-Some-Replay.workers workers c.in-Ok-Some-Replay.field-0-0-is (sym c.in-Ok-Some-Replay.field-0-is ∙ c.in-Ok-Some-Replay.ensures.every (Replay workers) means)) at c.run_replay.ensures.replayed
+returns-in-Ok-Some-Replay-clause-replayed g c = λ answering workers asks.
+    let (by, for_all) = asks_replay c.args.words.now c.in-Ok-Some-Replay.field-0 c.in-Ok-Some-Replay.field-0-0 c.in-Ok-Some-Replay.field-0-is c.in-Ok-Some-Replay.ensures.every answering workers asks c.in-Ok-Some-Replay.workers c.in-Ok-Some-Replay.field-0-0-is in
+    rw (by, for_all) c.run_replay.ensures.replayed
 
 pub returns-in-Ok-Some-Replay-clause-cut : goal.returns-in-Ok-Some-Replay-clause-cut
-returns-in-Ok-Some-Replay-clause-cut g c = λ workers means.
-    rw (same_workers c.in-Ok-Some-Replay.field-0-0 c.in-Ok-Some-Replay.workers workers c.in-Ok-Some-Replay.field-0-0-is (sym c.in-Ok-Some-Replay.field-0-is ∙ c.in-Ok-Some-Replay.ensures.every (Replay workers) means)) at c.run_replay.ensures.cut
+returns-in-Ok-Some-Replay-clause-cut g c = λ answering workers asks.
+    let (by, for_all) = asks_replay c.args.words.now c.in-Ok-Some-Replay.field-0 c.in-Ok-Some-Replay.field-0-0 c.in-Ok-Some-Replay.field-0-is c.in-Ok-Some-Replay.ensures.every answering workers asks c.in-Ok-Some-Replay.workers c.in-Ok-Some-Replay.field-0-0-is in
+    rw (by, for_all) c.run_replay.ensures.cut
 
 pub returns-in-Ok-Some-Replay-clause-bad_frame : goal.returns-in-Ok-Some-Replay-clause-bad_frame
-returns-in-Ok-Some-Replay-clause-bad_frame g c = λ workers means.
-    rw (same_workers c.in-Ok-Some-Replay.field-0-0 c.in-Ok-Some-Replay.workers workers c.in-Ok-Some-Replay.field-0-0-is (sym c.in-Ok-Some-Replay.field-0-is ∙ c.in-Ok-Some-Replay.ensures.every (Replay workers) means)) at c.run_replay.ensures.bad_frame
+returns-in-Ok-Some-Replay-clause-bad_frame g c = λ answering workers asks.
+    let (by, for_all) = asks_replay c.args.words.now c.in-Ok-Some-Replay.field-0 c.in-Ok-Some-Replay.field-0-0 c.in-Ok-Some-Replay.field-0-is c.in-Ok-Some-Replay.ensures.every answering workers asks c.in-Ok-Some-Replay.workers c.in-Ok-Some-Replay.field-0-0-is in
+    rw for_all c.run_replay.ensures.bad_frame
 
 pub returns-in-Ok-Some-Replay-clause-taken : goal.returns-in-Ok-Some-Replay-clause-taken
-returns-in-Ok-Some-Replay-clause-taken g c = λ workers means.
-    rw (same_workers c.in-Ok-Some-Replay.field-0-0 c.in-Ok-Some-Replay.workers workers c.in-Ok-Some-Replay.field-0-0-is (sym c.in-Ok-Some-Replay.field-0-is ∙ c.in-Ok-Some-Replay.ensures.every (Replay workers) means)) at c.run_replay.ensures.taken
+returns-in-Ok-Some-Replay-clause-taken g c = λ answering workers asks.
+    let (by, for_all) = asks_replay c.args.words.now c.in-Ok-Some-Replay.field-0 c.in-Ok-Some-Replay.field-0-0 c.in-Ok-Some-Replay.field-0-is c.in-Ok-Some-Replay.ensures.every answering workers asks c.in-Ok-Some-Replay.workers c.in-Ok-Some-Replay.field-0-0-is in
+    rw for_all c.run_replay.ensures.taken
 
 pub returns-in-Ok-Some-Replay-clause-complete : goal.returns-in-Ok-Some-Replay-clause-complete
-returns-in-Ok-Some-Replay-clause-complete g c = λ workers means.
-    rw (same_workers c.in-Ok-Some-Replay.field-0-0 c.in-Ok-Some-Replay.workers workers c.in-Ok-Some-Replay.field-0-0-is (sym c.in-Ok-Some-Replay.field-0-is ∙ c.in-Ok-Some-Replay.ensures.every (Replay workers) means)) at c.run_replay.ensures.complete
+returns-in-Ok-Some-Replay-clause-complete g c = λ answering workers asks.
+    let (by, for_all) = asks_replay c.args.words.now c.in-Ok-Some-Replay.field-0 c.in-Ok-Some-Replay.field-0-0 c.in-Ok-Some-Replay.field-0-is c.in-Ok-Some-Replay.ensures.every answering workers asks c.in-Ok-Some-Replay.workers c.in-Ok-Some-Replay.field-0-0-is in
+    rw for_all c.run_replay.ensures.complete
 
 pub returns-in-Ok-Some-Replay-clause-harbor_fault : goal.returns-in-Ok-Some-Replay-clause-harbor_fault
 returns-in-Ok-Some-Replay-clause-harbor_fault g c = λ fault. absurd (c.run_replay.ensures.ashore fault)
+
+pub returns-in-Ok-Some-Chase-clause-good : goal.returns-in-Ok-Some-Chase-clause-good
+returns-in-Ok-Some-Chase-clause-good g c = λ answering workers asks.
+    let (by, for_all) = asks_chase c.args.words.now c.in-Ok-Some-Chase.field-0 c.in-Ok-Some-Chase.field-0-0 c.in-Ok-Some-Chase.field-0-is c.in-Ok-Some-Chase.ensures.every answering workers asks c.in-Ok-Some-Chase.field-0-0-is in
+    rw (by, for_all) c.run_replay-in-Ok-Some-Chase.ensures.good
+
+pub returns-in-Ok-Some-Chase-clause-replayed : goal.returns-in-Ok-Some-Chase-clause-replayed
+returns-in-Ok-Some-Chase-clause-replayed g c = λ answering workers asks.
+    let (by, for_all) = asks_chase c.args.words.now c.in-Ok-Some-Chase.field-0 c.in-Ok-Some-Chase.field-0-0 c.in-Ok-Some-Chase.field-0-is c.in-Ok-Some-Chase.ensures.every answering workers asks c.in-Ok-Some-Chase.field-0-0-is in
+    rw (by, for_all) c.run_replay-in-Ok-Some-Chase.ensures.replayed
+
+pub returns-in-Ok-Some-Chase-clause-cut : goal.returns-in-Ok-Some-Chase-clause-cut
+returns-in-Ok-Some-Chase-clause-cut g c = λ answering workers asks.
+    let (by, for_all) = asks_chase c.args.words.now c.in-Ok-Some-Chase.field-0 c.in-Ok-Some-Chase.field-0-0 c.in-Ok-Some-Chase.field-0-is c.in-Ok-Some-Chase.ensures.every answering workers asks c.in-Ok-Some-Chase.field-0-0-is in
+    rw (by, for_all) c.run_replay-in-Ok-Some-Chase.ensures.cut
+
+pub returns-in-Ok-Some-Chase-clause-bad_frame : goal.returns-in-Ok-Some-Chase-clause-bad_frame
+returns-in-Ok-Some-Chase-clause-bad_frame g c = λ answering workers asks.
+    let (by, for_all) = asks_chase c.args.words.now c.in-Ok-Some-Chase.field-0 c.in-Ok-Some-Chase.field-0-0 c.in-Ok-Some-Chase.field-0-is c.in-Ok-Some-Chase.ensures.every answering workers asks c.in-Ok-Some-Chase.field-0-0-is in
+    rw for_all c.run_replay-in-Ok-Some-Chase.ensures.bad_frame
+
+pub returns-in-Ok-Some-Chase-clause-taken : goal.returns-in-Ok-Some-Chase-clause-taken
+returns-in-Ok-Some-Chase-clause-taken g c = λ answering workers asks.
+    let (by, for_all) = asks_chase c.args.words.now c.in-Ok-Some-Chase.field-0 c.in-Ok-Some-Chase.field-0-0 c.in-Ok-Some-Chase.field-0-is c.in-Ok-Some-Chase.ensures.every answering workers asks c.in-Ok-Some-Chase.field-0-0-is in
+    rw for_all c.run_replay-in-Ok-Some-Chase.ensures.taken
+
+pub returns-in-Ok-Some-Chase-clause-complete : goal.returns-in-Ok-Some-Chase-clause-complete
+returns-in-Ok-Some-Chase-clause-complete g c = λ answering workers asks.
+    let (by, for_all) = asks_chase c.args.words.now c.in-Ok-Some-Chase.field-0 c.in-Ok-Some-Chase.field-0-0 c.in-Ok-Some-Chase.field-0-is c.in-Ok-Some-Chase.ensures.every answering workers asks c.in-Ok-Some-Chase.field-0-0-is in
+    rw for_all c.run_replay-in-Ok-Some-Chase.ensures.complete
+
+pub returns-in-Ok-Some-Chase-clause-harbor_fault : goal.returns-in-Ok-Some-Chase-clause-harbor_fault
+returns-in-Ok-Some-Chase-clause-harbor_fault g c = λ fault. absurd (c.run_replay-in-Ok-Some-Chase.ensures.ashore fault)
+
+pub returns-in-Ok-Some-Redirect-clause-good : goal.returns-in-Ok-Some-Redirect-clause-good
+returns-in-Ok-Some-Redirect-clause-good g c = λ answering workers asks.
+    let (by, for_all) = asks_redirect c.args.words.now c.in-Ok-Some-Redirect.field-0 c.in-Ok-Some-Redirect.field-0-0 c.in-Ok-Some-Redirect.field-0-is c.in-Ok-Some-Redirect.ensures.every answering workers asks c.in-Ok-Some-Redirect.field-0-0-is in
+    rw (by, for_all) c.run_replay-in-Ok-Some-Redirect.ensures.good
+
+pub returns-in-Ok-Some-Redirect-clause-replayed : goal.returns-in-Ok-Some-Redirect-clause-replayed
+returns-in-Ok-Some-Redirect-clause-replayed g c = λ answering workers asks.
+    let (by, for_all) = asks_redirect c.args.words.now c.in-Ok-Some-Redirect.field-0 c.in-Ok-Some-Redirect.field-0-0 c.in-Ok-Some-Redirect.field-0-is c.in-Ok-Some-Redirect.ensures.every answering workers asks c.in-Ok-Some-Redirect.field-0-0-is in
+    rw (by, for_all) c.run_replay-in-Ok-Some-Redirect.ensures.replayed
+
+pub returns-in-Ok-Some-Redirect-clause-cut : goal.returns-in-Ok-Some-Redirect-clause-cut
+returns-in-Ok-Some-Redirect-clause-cut g c = λ answering workers asks.
+    let (by, for_all) = asks_redirect c.args.words.now c.in-Ok-Some-Redirect.field-0 c.in-Ok-Some-Redirect.field-0-0 c.in-Ok-Some-Redirect.field-0-is c.in-Ok-Some-Redirect.ensures.every answering workers asks c.in-Ok-Some-Redirect.field-0-0-is in
+    rw (by, for_all) c.run_replay-in-Ok-Some-Redirect.ensures.cut
+
+pub returns-in-Ok-Some-Redirect-clause-bad_frame : goal.returns-in-Ok-Some-Redirect-clause-bad_frame
+returns-in-Ok-Some-Redirect-clause-bad_frame g c = λ answering workers asks.
+    let (by, for_all) = asks_redirect c.args.words.now c.in-Ok-Some-Redirect.field-0 c.in-Ok-Some-Redirect.field-0-0 c.in-Ok-Some-Redirect.field-0-is c.in-Ok-Some-Redirect.ensures.every answering workers asks c.in-Ok-Some-Redirect.field-0-0-is in
+    rw for_all c.run_replay-in-Ok-Some-Redirect.ensures.bad_frame
+
+pub returns-in-Ok-Some-Redirect-clause-taken : goal.returns-in-Ok-Some-Redirect-clause-taken
+returns-in-Ok-Some-Redirect-clause-taken g c = λ answering workers asks.
+    let (by, for_all) = asks_redirect c.args.words.now c.in-Ok-Some-Redirect.field-0 c.in-Ok-Some-Redirect.field-0-0 c.in-Ok-Some-Redirect.field-0-is c.in-Ok-Some-Redirect.ensures.every answering workers asks c.in-Ok-Some-Redirect.field-0-0-is in
+    rw for_all c.run_replay-in-Ok-Some-Redirect.ensures.taken
+
+pub returns-in-Ok-Some-Redirect-clause-complete : goal.returns-in-Ok-Some-Redirect-clause-complete
+returns-in-Ok-Some-Redirect-clause-complete g c = λ answering workers asks.
+    let (by, for_all) = asks_redirect c.args.words.now c.in-Ok-Some-Redirect.field-0 c.in-Ok-Some-Redirect.field-0-0 c.in-Ok-Some-Redirect.field-0-is c.in-Ok-Some-Redirect.ensures.every answering workers asks c.in-Ok-Some-Redirect.field-0-0-is in
+    rw for_all c.run_replay-in-Ok-Some-Redirect.ensures.complete
+
+pub returns-in-Ok-Some-Redirect-clause-harbor_fault : goal.returns-in-Ok-Some-Redirect-clause-harbor_fault
+returns-in-Ok-Some-Redirect-clause-harbor_fault g c = λ fault. absurd (c.run_replay-in-Ok-Some-Redirect.ensures.ashore fault)
+
+pub returns-in-Ok-Some-Follow-clause-good : goal.returns-in-Ok-Some-Follow-clause-good
+returns-in-Ok-Some-Follow-clause-good g c = λ answering workers asks.
+    let (by, for_all) = asks_follow c.args.words.now c.in-Ok-Some-Follow.field-0 c.in-Ok-Some-Follow.field-0-0 c.in-Ok-Some-Follow.field-0-is c.in-Ok-Some-Follow.ensures.every answering workers asks c.in-Ok-Some-Follow.field-0-0-is in
+    rw (by, for_all) c.run_replay-in-Ok-Some-Follow.ensures.good
+
+pub returns-in-Ok-Some-Follow-clause-replayed : goal.returns-in-Ok-Some-Follow-clause-replayed
+returns-in-Ok-Some-Follow-clause-replayed g c = λ answering workers asks.
+    let (by, for_all) = asks_follow c.args.words.now c.in-Ok-Some-Follow.field-0 c.in-Ok-Some-Follow.field-0-0 c.in-Ok-Some-Follow.field-0-is c.in-Ok-Some-Follow.ensures.every answering workers asks c.in-Ok-Some-Follow.field-0-0-is in
+    rw (by, for_all) c.run_replay-in-Ok-Some-Follow.ensures.replayed
+
+pub returns-in-Ok-Some-Follow-clause-cut : goal.returns-in-Ok-Some-Follow-clause-cut
+returns-in-Ok-Some-Follow-clause-cut g c = λ answering workers asks.
+    let (by, for_all) = asks_follow c.args.words.now c.in-Ok-Some-Follow.field-0 c.in-Ok-Some-Follow.field-0-0 c.in-Ok-Some-Follow.field-0-is c.in-Ok-Some-Follow.ensures.every answering workers asks c.in-Ok-Some-Follow.field-0-0-is in
+    rw (by, for_all) c.run_replay-in-Ok-Some-Follow.ensures.cut
+
+pub returns-in-Ok-Some-Follow-clause-bad_frame : goal.returns-in-Ok-Some-Follow-clause-bad_frame
+returns-in-Ok-Some-Follow-clause-bad_frame g c = λ answering workers asks.
+    let (by, for_all) = asks_follow c.args.words.now c.in-Ok-Some-Follow.field-0 c.in-Ok-Some-Follow.field-0-0 c.in-Ok-Some-Follow.field-0-is c.in-Ok-Some-Follow.ensures.every answering workers asks c.in-Ok-Some-Follow.field-0-0-is in
+    rw for_all c.run_replay-in-Ok-Some-Follow.ensures.bad_frame
+
+pub returns-in-Ok-Some-Follow-clause-taken : goal.returns-in-Ok-Some-Follow-clause-taken
+returns-in-Ok-Some-Follow-clause-taken g c = λ answering workers asks.
+    let (by, for_all) = asks_follow c.args.words.now c.in-Ok-Some-Follow.field-0 c.in-Ok-Some-Follow.field-0-0 c.in-Ok-Some-Follow.field-0-is c.in-Ok-Some-Follow.ensures.every answering workers asks c.in-Ok-Some-Follow.field-0-0-is in
+    rw for_all c.run_replay-in-Ok-Some-Follow.ensures.taken
+
+pub returns-in-Ok-Some-Follow-clause-complete : goal.returns-in-Ok-Some-Follow-clause-complete
+returns-in-Ok-Some-Follow-clause-complete g c = λ answering workers asks.
+    let (by, for_all) = asks_follow c.args.words.now c.in-Ok-Some-Follow.field-0 c.in-Ok-Some-Follow.field-0-0 c.in-Ok-Some-Follow.field-0-is c.in-Ok-Some-Follow.ensures.every answering workers asks c.in-Ok-Some-Follow.field-0-0-is in
+    rw for_all c.run_replay-in-Ok-Some-Follow.ensures.complete
+
+pub returns-in-Ok-Some-Follow-clause-harbor_fault : goal.returns-in-Ok-Some-Follow-clause-harbor_fault
+returns-in-Ok-Some-Follow-clause-harbor_fault g c = λ fault. absurd (c.run_replay-in-Ok-Some-Follow.ensures.ashore fault)
 
 pub returns-in-Ok-Some-Selfrun-clause-summed : goal.returns-in-Ok-Some-Selfrun-clause-summed
 returns-in-Ok-Some-Selfrun-clause-summed g c = λ seed names queries means.

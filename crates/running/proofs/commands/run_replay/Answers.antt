@@ -17,5 +17,5 @@ write_outputs-written-requires-clause-workers g c = λ κs outlives.
 
 pub returns-clause-cut : goal.returns-clause-cut
 returns-clause-cut g c = λ fault.
-    cut_by c.args.workers c.in-Some.frames (parts_of c.in-Ok-replay.outputs) c.deref.result.now c.in-Ok.input.items _ _ _ _
+    cut_by c.args.answering c.args.workers c.in-Some.frames (parts_of c.in-Ok-replay.outputs) c.deref.result.now c.in-Ok.input.items _ _ _ _
     c.deref.ensures.value c.in-Ok-replay.ensures.replay c.in-Some.ensures.frames c.in-Err.ensures.part c.in-Ok.ensures.left (c.in-Ok.ensures.end (omega arith))

@@ -2,7 +2,7 @@ use Rattle.std.proofs.Common.{inl, refl}
 use Rattle.std.specs.Prelude.{Err}
 use Rattle.replay_meaning.specs.Frame.{input_of}
 use Rattle.cache_versions.proofs.Fronts.{prefix_self}
-use Rattle.worker_seats.proofs.TurnLemmas.{on_both, told_frame, answer_does, fault_is}
+use Rattle.worker_seats.proofs.TurnLemmas.{on_both, told_by_any, answer_does, fault_is}
 use Rattle.worker_seats.proofs.answering.upstream_frame.Goals as goal
 
 pub returns-in-Err-clause-begins : goal.returns-in-Err-clause-begins
@@ -11,7 +11,7 @@ returns-in-Err-clause-begins g c = prefix_self _
 pub returns-in-Err-clause-done : goal.returns-in-Err-clause-done
 returns-in-Err-clause-done g c =
     let input = input_of c.args.frame.now in
-    on_both _ (λ writes other. told_frame c.args.seat.now input _ _ _ _ (answer_does input (Err c.in-Err.fault) c.requires.kind (fault_is input.message input.now c.in-Err.fault c.in-Err.ensures.refused other)) writes)
+    on_both _ (λ writes other. told_by_any c.args.seat.now input _ _ _ _ (answer_does input (Err c.in-Err.fault) c.requires.kind (fault_is input.message input.now c.in-Err.fault c.in-Err.ensures.refused other)) writes)
     c.write_refused_output.ensures.written c.write_refused_output.ensures.fault
 
 pub returns-in-Err-clause-placed : goal.returns-in-Err-clause-placed

@@ -1,6 +1,7 @@
 use Rattle.std.proofs.Common.{◌≡◌, length}
 use Rattle.cache_versions.specs.Seats.{number_by}
 use Rattle.resolver.specs.Caches.{IsSeatOf}
+use Rattle.worker_seats.specs.Answering.{rule_of}
 use Rattle.worker_seats.proofs.ShiftLemmas.{IsUnderWay}
 use Rattle.worker_seats.proofs.shift.work_shift.Given as goal
 
@@ -8,7 +9,7 @@ abbrev pub invariant-loop-own : goal.invariant-loop-own
 invariant-loop-own g l = record {
   object : IsSeatOf l.cache l.seat;
   number : number_by l.seat ≡ number_by l.fn.job.seat;
-  way : IsUnderWay l.fn.job.worker l.fn.job.seat l.seat l.frames l.rest l.call l.octets.items l.cuts.items l.passed;
+  way : IsUnderWay (rule_of l.answering) l.fn.job.worker l.fn.job.seat l.seat l.frames l.rest l.call l.octets.items l.cuts.items l.passed;
 }
 
 abbrev pub decreases-loop-own : goal.decreases-loop-own

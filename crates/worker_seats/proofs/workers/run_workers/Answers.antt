@@ -10,6 +10,7 @@ use Rattle.cache_versions.specs.Rows.{AreNumbered}
 use Rattle.cache_versions.specs.Seats.{number_by}
 use Rattle.worker_seats.specs.Cuts.{AreCut, AreCuts, Part, parts_of}
 use Rattle.worker_seats.specs.Merge.{AreOutputsOf, AreMerged, CanBeMerged}
+use Rattle.worker_seats.specs.Answering.{rule_of}
 use Rattle.worker_seats.specs.Work.{IsShiftOf, IsWork, part_of}
 use Rattle.worker_seats.specs.Workers.{HaveWorked}
 use Rattle.worker_seats.proofs.MergeableLemmas.{can_merge}
@@ -37,7 +38,7 @@ returns-clause-object g c =
     (all_map (λ s. IsSeatOf c.args.cache.now s) (λ shift. shift.seat) shifts
     (λ worker d lt. shift_at (λ shift. IsSeatOf c.args.cache.now shift.seat) c.in_ok-results.results.items shifts worker d c.in_ok-shifts.ensures lt
     (let e = some_of seats worker (omega (arith, lt, same)) in
-    IfOk-weaker _ (IsShiftOf c.args.cache.now (record { worker = worker; seat = get_or seats worker e }) c.args.frames.now) (λ shift. IsSeatOf c.args.cache.now shift.seat) (λ shift is. is.object) (c.in_ok-results.ensures.each worker (Ok d) e (omega (arith, lt, same))))))) c.split.ensures.seats
+    IfOk-weaker _ (IsShiftOf (rule_of c.args.answering) c.args.cache.now (record { worker = worker; seat = get_or seats worker e }) c.args.frames.now) (λ shift. IsSeatOf c.args.cache.now shift.seat) (λ shift is. is.object) (c.in_ok-results.ensures.each worker (Ok d) e (omega (arith, lt, same))))))) c.split.ensures.seats
 
 pub returns-clause-numbers : goal.returns-clause-numbers
 returns-clause-numbers g c =
@@ -45,9 +46,9 @@ returns-clause-numbers g c =
     let seats = c.args.seats.items in
     let same : length shifts ≡ length seats = results_length c.in_ok-results.results.items shifts c.in_ok-shifts.ensures ∙ c.in_ok-results.ensures.all in
     IfOk-weaker c.split.result (λ done. done.0.items ≡ map (λ shift. shift.seat) shifts) (λ done. AreNumbered done.0.items) (λ done is. subst AreNumbered (sym is)
-    (numbers_all (λ shift. shift.seat) (λ shift. shift.octets.items) seats shifts same c.requires.numbers
+    (numbers_all (rule_of c.args.answering) (λ shift. shift.seat) (λ shift. shift.octets.items) seats shifts same c.requires.numbers
     (λ worker e d lt. shift_at (λ shift. number_by shift.seat ≡ number_by (get_or seats worker e)) c.in_ok-results.results.items shifts worker d c.in_ok-shifts.ensures lt
-    (IfOk-weaker _ (IsShiftOf c.args.cache.now (record { worker = worker; seat = get_or seats worker e }) c.args.frames.now) (λ shift. number_by shift.seat ≡ number_by (get_or seats worker e)) (λ shift is. is.number) (c.in_ok-results.ensures.each worker (Ok d) e (omega (arith, lt, same))))))) c.split.ensures.seats
+    (IfOk-weaker _ (IsShiftOf (rule_of c.args.answering) c.args.cache.now (record { worker = worker; seat = get_or seats worker e }) c.args.frames.now) (λ shift. number_by shift.seat ≡ number_by (get_or seats worker e)) (λ shift is. is.number) (c.in_ok-results.ensures.each worker (Ok d) e (omega (arith, lt, same))))))) c.split.ensures.seats
 
 pub returns-clause-merge : goal.returns-clause-merge
 returns-clause-merge g c =
@@ -65,7 +66,7 @@ returns-clause-merge g c =
     let d = some_of shifts worker inside in
     let e = some_of seats worker (omega (arith, inside, same)) in
     let one = shift_at (λ shift. AreOutputsOf worker inputs shift.octets.items) c.in_ok-results.results.items shifts worker d c.in_ok-shifts.ensures inside
-    (IfOk-weaker _ (IsShiftOf c.args.cache.now (record { worker = worker; seat = get_or seats worker e }) inputs) (λ shift. AreOutputsOf worker inputs shift.octets.items) (λ shift is. outputs_at (λ s. s.seat) (λ s. s.octets.items) worker (get_or seats worker e) shift inputs is.work) (c.in_ok-results.ensures.each worker (Ok d) e (omega (arith, inside, same)))) in
+    (IfOk-weaker _ (IsShiftOf (rule_of c.args.answering) c.args.cache.now (record { worker = worker; seat = get_or seats worker e }) inputs) (λ shift. AreOutputsOf worker inputs shift.octets.items) (λ shift is. outputs_at (rule_of c.args.answering) (λ s. s.seat) (λ s. s.octets.items) worker (get_or seats worker e) shift inputs is.work) (c.in_ok-results.ensures.each worker (Ok d) e (omega (arith, inside, same)))) in
     subst (AreOutputsOf worker inputs) (sym (get_or-map (λ shift. shift.octets.items) shifts worker d o inside)) one))) c.split.ensures.parts
 
 pub returns-clause-cuts : goal.returns-clause-cuts
@@ -81,7 +82,7 @@ returns-clause-cuts g c =
     let e = some_of seats worker (omega (arith, inside, same)) in
     subst (λ (part : Part). AreCuts worker inputs part.octets part.cuts) (sym (get_or-map part_of shifts worker d o inside))
     (shift_at (λ shift. AreCuts worker inputs shift.octets.items shift.cuts.items) c.in_ok-results.results.items shifts worker d c.in_ok-shifts.ensures inside
-    (IfOk-weaker _ (IsShiftOf c.args.cache.now (record { worker = worker; seat = get_or seats worker e }) inputs) (λ shift. AreCuts worker inputs shift.octets.items shift.cuts.items) (λ shift is. is.cuts) (c.in_ok-results.ensures.each worker (Ok d) e (omega (arith, inside, same))))))) c.split.ensures.parts
+    (IfOk-weaker _ (IsShiftOf (rule_of c.args.answering) c.args.cache.now (record { worker = worker; seat = get_or seats worker e }) inputs) (λ shift. AreCuts worker inputs shift.octets.items shift.cuts.items) (λ shift is. is.cuts) (c.in_ok-results.ensures.each worker (Ok d) e (omega (arith, inside, same))))))) c.split.ensures.parts
 
 pub returns-clause-worked : goal.returns-clause-worked
 returns-clause-worked g c =
@@ -90,9 +91,9 @@ returns-clause-worked g c =
     let inputs = c.args.frames.now in
     let same : length shifts ≡ length seats = results_length c.in_ok-results.results.items shifts c.in_ok-shifts.ensures ∙ c.in_ok-results.ensures.all in
     if_ok_both c.split.result (λ done. done.0.items ≡ map (λ shift. shift.seat) shifts) (λ done. done.1 ≡ map part_of shifts)
-    (λ done. (octets : _) → AreMerged (parts_of done.1) inputs octets → HaveWorked seats done.0.items inputs octets) c.split.ensures.seats c.split.ensures.parts
-    (λ done is parts octets merged. subst (λ l. HaveWorked seats l inputs octets) (sym is)
-    (worked_all (λ shift. shift.seat) (λ shift. shift.octets.items) seats shifts inputs octets same
-    (λ worker e d lt. shift_at (λ shift. IsWork worker (get_or seats worker e) shift.seat inputs shift.octets.items) c.in_ok-results.results.items shifts worker d c.in_ok-shifts.ensures lt
-    (IfOk-weaker _ (IsShiftOf c.args.cache.now (record { worker = worker; seat = get_or seats worker e }) inputs) (λ shift. IsWork worker (get_or seats worker e) shift.seat inputs shift.octets.items) (λ shift is. is.work) (c.in_ok-results.ensures.each worker (Ok d) e (omega (arith, lt, same)))))
+    (λ done. (octets : _) → AreMerged (parts_of done.1) inputs octets → HaveWorked (rule_of c.args.answering) seats done.0.items inputs octets) c.split.ensures.seats c.split.ensures.parts
+    (λ done is parts octets merged. subst (λ l. HaveWorked (rule_of c.args.answering) seats l inputs octets) (sym is)
+    (worked_all (rule_of c.args.answering) (λ shift. shift.seat) (λ shift. shift.octets.items) seats shifts inputs octets same
+    (λ worker e d lt. shift_at (λ shift. IsWork (rule_of c.args.answering) worker (get_or seats worker e) shift.seat inputs shift.octets.items) c.in_ok-results.results.items shifts worker d c.in_ok-shifts.ensures lt
+    (IfOk-weaker _ (IsShiftOf (rule_of c.args.answering) c.args.cache.now (record { worker = worker; seat = get_or seats worker e }) inputs) (λ shift. IsWork (rule_of c.args.answering) worker (get_or seats worker e) shift.seat inputs shift.octets.items) (λ shift is. is.work) (c.in_ok-results.ensures.each worker (Ok d) e (omega (arith, lt, same)))))
     (subst (λ l. AreMerged l inputs octets) (ap parts_of parts ∙ map-map (λ part. part.octets) part_of shifts) merged)))

@@ -4,6 +4,7 @@ use Rattle.std.proofs.lemmas.Result.{IfOk-weaker}
 use Rattle.facts.proofs.Lists.{some_of}
 use Rattle.resolver.specs.Caches.{IsSeatOf}
 use Rattle.worker_seats.specs.declared.shift.Job.{Job}
+use Rattle.worker_seats.specs.Answering.{rule_of}
 use Rattle.worker_seats.specs.Work.{IsShiftOf}
 use Rattle.worker_seats.proofs.WorkersLemmas.{job_at, all_jobs, jobs_length}
 use Rattle.worker_seats.proofs.workers.work_all.Goals as goal
@@ -20,4 +21,4 @@ returns-clause-each g c = IfOk-weaker c.do_jobs.result _ _ (λ results each work
     let first = some_of jobs worker lt' in
     let job = job_at (λ j. j.worker) (λ j. j.seat) jobs c.args.seats.items worker first e c.in_ok-jobs.ensures.seats c.in_ok-jobs.ensures.places lt' in
     let same : get_or jobs worker first ≡ record { worker = worker; seat = get_or c.args.seats.items worker e } = λ i. record { worker = job.0 i; seat = job.1 i } in
-    subst (λ (j : Job). IfOk (get_or results.items worker d) (IsShiftOf c.args.cache.now j inputs)) same (each worker d first lt')) c.do_jobs.ensures.each
+    subst (λ (j : Job). IfOk (get_or results.items worker d) (IsShiftOf (rule_of c.args.answering) c.args.cache.now j inputs)) same (each worker d first lt')) c.do_jobs.ensures.each

@@ -1,0 +1,11 @@
+pub mod StepLemmas
+pub mod TargetLemmas
+pub mod WalkLemmas
+pub mod WritingLemmas
+pub mod ReplyLemmas
+pub mod SearchLemmas
+pub mod AliasLemmas
+pub mod DnameLemmas
+pub mod SoundLemmas
+pub mod AlikeLemmas
+pub mod ChoiceLemmas

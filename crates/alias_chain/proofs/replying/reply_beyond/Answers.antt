@@ -1,0 +1,11 @@
+use Rattle.std.proofs.Common.{◌∙◌, ap, sym}
+use Rattle.std.specs.Option.{option_map}
+use Rattle.alias_chain.specs.Lent.{walk_by}
+use Rattle.alias_chain.specs.WalkReply.{octets_at}
+use Rattle.alias_chain.proofs.ReplyLemmas.{walk_replies}
+use Rattle.alias_chain.proofs.replying.reply_beyond.Goals as goal
+
+pub returns : goal.returns
+returns c =
+    ap (option_map (octets_at c.args.question.now c.args.now)) (sym c.in-Some.ensures.walk)
+    ∙ walk_replies c.args.question.now c.args.now c.in-Some.walk.ttl (walk_by c.in-Some.walk) c.write_walk.new.out c.in-Some.ensures.ttl c.write_walk.ensures

@@ -1,0 +1,9 @@
+//! Tests of `alias_chain`.
+#![tactic(auto)]
+
+#[cfg(test)]
+mod records;
+#[cfg(test)]
+mod sizes;
+#[cfg(test)]
+mod worked_cases;

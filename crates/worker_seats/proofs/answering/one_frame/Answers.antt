@@ -1,0 +1,10 @@
+use Rattle.replay_meaning.specs.Frame.{input_of}
+use Rattle.worker_seats.specs.Answering.{rule_of}
+use Rattle.worker_seats.specs.OneFrame.{DoesOneFrame}
+use Rattle.worker_seats.proofs.TurnLemmas.{on_any}
+use Rattle.worker_seats.proofs.answering.one_frame.Goals as goal
+
+pub returns-in-Upstream-clause-done : goal.returns-in-Upstream-clause-done
+returns-in-Upstream-clause-done g c =
+    on_any (λ rule. DoesOneFrame rule c.args.seat.now c.upstream_frame.new.seat (input_of c.args.frame.now) c.args.out.now.items c.upstream_frame.new.out.items) c.upstream_frame.result (rule_of c.args.answering)
+    c.upstream_frame.ensures.done
