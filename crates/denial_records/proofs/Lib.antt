@@ -1,4 +1,5 @@
 pub mod KeptLemmas
+pub mod NextLemmas
 pub mod OffsetLemmas
 pub mod PartsLemmas
 pub mod RisingLemmas

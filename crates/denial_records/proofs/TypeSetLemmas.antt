@@ -215,23 +215,27 @@ split_left types t rest window bitmap after left begins =
 in_first : (window : ℕ) (bitmap : List ℕ) (more : List Block) (t : ℕ) → Contains (types_of (record { window = window; bitmap = bitmap } ∷ more)) t → Contains (types_of_block (record { window = window; bitmap = bitmap })) t ⊎ Contains (types_of more) t
 in_first window bitmap more t h = Contains-append_cases (types_of_block (record { window = window; bitmap = bitmap })) (types_of more) t h
 
+-- a type that is in no window before the front's block is in that block
+pub found_here : (types : List ℕ) (t : ℕ) (rest : List ℕ) (window : ℕ) (bitmap after : List ℕ) → IsLookedUpIn types t rest → BeginsWith 0 rest window bitmap after → t / 256 ≤ window → Contains types t → (window ≡ t / 256) × (has_bit bitmap (t % 256) ≡ true)
+found_here types t rest window bitmap after left begins low h =
+    let split = split_left types t rest window bitmap after left begins in
+    elim (in_first window bitmap split.more t (subst (λ b. Contains (types_of b) t) split.is (left.back h))) [
+      | inl h ↦ in_block window bitmap t begins.formed.short h
+      | inr h ↦ (let later = in_blocks (window + 1) split.more t split.formed h in absurd (omega (arith, later, low)))
+    ]
+
 -- the block of the type's window decides
 pub look_here : (types : List ℕ) (t : ℕ) (rest : List ℕ) (window : ℕ) (bitmap after : List ℕ) (r : Bool) → IsLookedUpIn types t rest → BeginsWith 0 rest window bitmap after → window ≡ t / 256 → r ≡ has_bit bitmap (t % 256) → Decides r (Contains types t)
 look_here types t rest window bitmap after r left begins same is =
-    let split = split_left types t rest window bitmap after left begins in
-    let found : Contains types t → has_bit bitmap (t % 256) ≡ true = λ h.
-    elim (in_first window bitmap split.more t (subst (λ b. Contains (types_of b) t) split.is (left.back h))) [
-      | inl h ↦ (in_block window bitmap t begins.formed.short h).1
-      | inr h ↦ (let later = in_blocks (window + 1) split.more t split.formed h in absurd (omega (arith, later, same)))
-    ] in (
+    let split = split_left types t rest window bitmap after left begins in (
       λ set. left.into (subst (λ b. Contains (types_of b) t) (sym split.is)
           (Contains-append_left (types_of_block (record { window = window; bitmap = bitmap })) (types_of split.more) t (to_block window bitmap t same (sym is ∙ set)))),
-      λ h. is ∙ found h,
+      λ h. is ∙ (found_here types t rest window bitmap after left begins (omega (arith, same)) h).1,
     )
 
--- a block of another window says nothing of it
-pub look_past : (types : List ℕ) (t : ℕ) (rest : List ℕ) (window : ℕ) (bitmap after : List ℕ) → IsLookedUpIn types t rest → BeginsWith 0 rest window bitmap after → window ≢ t / 256 → IsLookedUpIn types t after
-look_past types t rest window bitmap after left begins other =
+-- a block that hasn't the type says nothing of it
+pub look_past_none : (types : List ℕ) (t : ℕ) (rest : List ℕ) (window : ℕ) (bitmap after : List ℕ) → IsLookedUpIn types t rest → BeginsWith 0 rest window bitmap after → (window ≡ t / 256 → has_bit bitmap (t % 256) ≡ true → ⊥) → IsLookedUpIn types t after
+look_past_none types t rest window bitmap after left begins none =
     let split = split_left types t rest window bitmap after left begins in
     record {
       least = window + 1;
@@ -241,10 +245,14 @@ look_past types t rest window bitmap after left begins other =
       into = λ h. left.into (subst (λ b. Contains (types_of b) t) (sym split.is)
           (Contains-append_right (types_of_block (record { window = window; bitmap = bitmap })) (types_of split.more) t h));
       back = λ h. elim (in_first window bitmap split.more t (subst (λ b. Contains (types_of b) t) split.is (left.back h))) [
-        | inl h ↦ absurd (other (in_block window bitmap t begins.formed.short h).0)
+        | inl h ↦ (let at = in_block window bitmap t begins.formed.short h in absurd (none at.0 at.1))
         | inr h ↦ h
       ];
     }
+
+-- a block of another window says nothing of it
+pub look_past : (types : List ℕ) (t : ℕ) (rest : List ℕ) (window : ℕ) (bitmap after : List ℕ) → IsLookedUpIn types t rest → BeginsWith 0 rest window bitmap after → window ≢ t / 256 → IsLookedUpIn types t after
+look_past types t rest window bitmap after left begins other = look_past_none types t rest window bitmap after left begins (λ same _. other same)
 
 none_left : (least : ℕ) (rest : List ℕ) (blocks : List Block) (t : ℕ) → rest ≡ map_of blocks → AreBlocksFrom least blocks → ((window : ℕ) (bitmap after : List ℕ) → ¬ BeginsWith 0 rest window bitmap after) → Contains (types_of blocks) t → ⊥
 none_left least rest [] t written formed none h = nothing_in t h

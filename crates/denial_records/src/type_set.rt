@@ -1,4 +1,5 @@
-ghost use Rattle.std.specs.Prelude.{◌≡◌, ◌↔◌, ◌⊎◌, ℕ, ◌+◌, ◌<◌, ◌≤◌, List, length, IsTrue, IfOk, IsErrOf, MatchOption, Ok, Err, Contains};
+ghost use Rattle.std.specs.Prelude.{◌≡◌, ◌↔◌, ◌⊎◌, ℕ, ◌+◌, ◌*◌, ◌<◌, ◌≤◌, true, false, List, length, IsTrue, IfOk, IfSome, IfNone, IsErrOf, MatchOption, Ok, Err, Contains};
+ghost use Rattle.denial_records.specs.declared.type_set.TheConstants.{MAX_BITMAP};
 ghost use Rattle.denial_records.specs.TypeSet.{IsTypeMap, IsNoTypeMap, IsTypeSet, BeginsWith, IsBitmap, has_bit, types_in, IsKept};
 
 use dname::{Octets, OutOfMemory};
@@ -130,6 +131,25 @@ impl<'a> LentTypes<'a> {
         }
         false
     }
+
+    /// The least type of the set that isn't below this one. It looks at each block once at most.
+    pub fn next_from(&self, rtype: u16) -> Option<u16>
+        ensures next { IfSome result (λ next. Contains self.now next × (rtype ≤ next)
+            × ((other : ℕ) → Contains self.now other → rtype ≤ other → next ≤ other)) }
+        ensures none { IfNone result ((other : ℕ) → Contains self.now other → other < rtype) }
+        ensures set { IsTypeSet self.now }
+    {
+        let mut rest = self.octets;
+        while let Some((block, after)) = first_block(rest, 0) {
+            let begin = 256 * u16::from(block.window);
+            let from = usize::from(rtype.saturating_sub(begin));
+            if let Some(bit) = first_bit(block.bitmap, from) {
+                return Some(begin + bit as u16);
+            }
+            rest = after;
+        }
+        None
+    }
 }
 
 // A window's number and its bitmap.
@@ -195,4 +215,21 @@ fn has_bit(bitmap: &[u8], bit: usize) -> bool
         Some(octet) => *octet & (0x80 >> (bit % 8)) != 0,
         None => false,
     }
+}
+
+// The first bit that is set, from this one on.
+fn first_bit(bitmap: &[u8], from: usize) -> Option<usize>
+    requires { length bitmap.now ≤ MAX_BITMAP }
+    ensures some { IfSome result (λ bit. (from ≤ bit) × (bit < 8 * length bitmap.now)
+        × (has_bit bitmap.now bit ≡ true)
+        × ((other : ℕ) → from ≤ other → other < bit → has_bit bitmap.now other ≡ false)) }
+    ensures none { IfNone result ((other : ℕ) → from ≤ other → other < 8 * length bitmap.now
+        → has_bit bitmap.now other ≡ false) }
+{
+    for bit in from..8 * bitmap.len() {
+        if has_bit(bitmap, bit) {
+            return Some(bit);
+        }
+    }
+    None
 }

@@ -123,3 +123,63 @@ fn other_octets_are_refused(rt: HostRuntime) {
     let wrong = refused_otherwise(rt.alloc(), &REFUSED);
     assert!(rt; wrong.is_none(), "{wrong:?}");
 }
+
+// A MX RRSIG NSEC and TYPE1234, of RFC 4034, section 4.3
+const MAP_OF_ALFA: &[u8] =
+    b"\x00\x06\x40\x01\x00\x00\x00\x03\x04\x1b\0\0\0\0\0\0\0\0\0\0\0\0\0\0\0\0\0\0\0\0\0\0\0\0\0\0\x20";
+
+// The types 1, 263, 264, 767, 768 and 65535, in blocks of the windows 0, 1, 2, 3 and 255.
+const OF_FIVE: &[u8] =
+    b"\x00\x01\x40\x01\x02\x01\x80\x02\x20\0\0\0\0\0\0\0\0\0\0\0\0\0\0\0\0\0\0\0\0\0\0\0\0\0\0\0\0\0\0\0\x01\x03\x01\x80\xff\x20\0\0\0\0\0\0\0\0\0\0\0\0\0\0\0\0\0\0\0\0\0\0\0\0\0\0\0\0\0\0\0\x01";
+
+// Type bit maps, a type, and the least of theirs that isn't below it.
+const NEXT: [(&[u8], u16, Option<u16>); 24] = [
+    (b"", 0, None),
+    (b"", 65535, None),
+    (MAP_OF_ALFA, 0, Some(1)),
+    (MAP_OF_ALFA, 1, Some(1)),
+    (MAP_OF_ALFA, 2, Some(15)),
+    (MAP_OF_ALFA, 16, Some(46)),
+    (MAP_OF_ALFA, 47, Some(47)),
+    // The first bitmap has 48 bits.
+    (MAP_OF_ALFA, 48, Some(1234)),
+    (MAP_OF_ALFA, 255, Some(1234)),
+    // Between the blocks, and at the front of the second window.
+    (MAP_OF_ALFA, 512, Some(1234)),
+    (MAP_OF_ALFA, 1024, Some(1234)),
+    (MAP_OF_ALFA, 1234, Some(1234)),
+    (MAP_OF_ALFA, 1235, None),
+    (MAP_OF_ALFA, 1280, None),
+    (MAP_OF_ALFA, 65535, None),
+    (OF_FIVE, 2, Some(263)),
+    (OF_FIVE, 256, Some(263)),
+    (OF_FIVE, 264, Some(264)),
+    (OF_FIVE, 265, Some(767)),
+    (OF_FIVE, 767, Some(767)),
+    (OF_FIVE, 768, Some(768)),
+    (OF_FIVE, 769, Some(65535)),
+    (OF_FIVE, 65280, Some(65535)),
+    (OF_FIVE, 65535, Some(65535)),
+];
+
+// The place of the first row that has another next type, and which.
+fn next_otherwise(
+    alloc: Global,
+    rows: &[(&[u8], u16, Option<u16>)],
+) -> Result<Option<(usize, Option<u16>)>, Fail> {
+    for (i, (octets, rtype, next)) in rows.iter().enumerate() {
+        let set = TypeSet::read(alloc, octets)?;
+        let found = set.lent().next_from(*rtype);
+        if found != *next {
+            return Ok(Some((i, found)));
+        }
+    }
+    Ok(None)
+}
+
+#[test]
+fn the_next_type_is_the_least_from_there_on(rt: HostRuntime) -> Result<(), Fail> {
+    let wrong = next_otherwise(rt.alloc(), &NEXT)?;
+    assert!(rt; wrong.is_none(), "{wrong:?}");
+    Ok(())
+}

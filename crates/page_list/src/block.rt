@@ -20,10 +20,6 @@ pub(crate) trait Block<T: Drop>: Drop {
         ensures { IfOk result (λ made. flat_map entries (map arc_value made.items)
             ≡ items.items) };
 
-    /// A block with new owners of its parts.
-    fn copied(&self, alloc: Global) -> Result<Self, OutOfMemory>
-        ensures { IfOk result (λ copy. entries copy ≡ entries self.now) };
-
     fn len(&self) -> usize
         ensures { result ≡ length (entries self.now) };
 
@@ -69,6 +65,13 @@ pub(crate) trait Block<T: Drop>: Drop {
         ensures done { IsTrue result → entries self.new
             ≡ take from (entries self.old) ++ items.now ++ drop to (entries self.old) }
         ensures same { result ≡ false → self.new ≡ self.old };
+
+    /// What `replace` makes of the block, beside it. None where that can't be, and for want of memory.
+    fn replaced(&self, alloc: Global, from: usize, to: usize, items: &[Entry<T>]) -> Option<Self>
+        requires order { from ≤ to }
+        requires in_range { to ≤ length (entries self.now) }
+        ensures { IfSome result (λ made. entries made
+            ≡ take from (entries self.now) ++ items.now ++ drop to (entries self.now)) };
 
     /// The entries of `left` before `from`, `items`, and the entries of `right` from `to` on, in new blocks.
     fn spliced(

@@ -68,13 +68,6 @@ impl<T: Drop, B: Block<T>> Block<T> for Blocks<T, B> {
         blocks_of(alloc, B::made(alloc, items)?, Growth::Anywhere)
     }
 
-    fn copied(&self, alloc: Global) -> Result<Blocks<T, B>, OutOfMemory>
-        ensures { IfOk result (λ copy. copy ≡ self.now) }
-    {
-        let row = self.row.try_clone(alloc)?;
-        Ok(Blocks { row })
-    }
-
     fn len(&self) -> usize {
         self.row.total()
     }
@@ -101,6 +94,17 @@ impl<T: Drop, B: Block<T>> Block<T> for Blocks<T, B> {
 
     fn replace(&mut self, alloc: Global, from: usize, to: usize, items: &[Entry<T>]) -> bool {
         self.row.replace(alloc, from, to, items)
+    }
+
+    fn replaced(&self, alloc: Global, from: usize, to: usize, items: &[Entry<T>]) -> Option<Self> {
+        let Ok(mut row) = self.row.try_clone(alloc) else {
+            return None;
+        };
+        if row.replace(alloc, from, to, items) {
+            Some(Blocks { row })
+        } else {
+            None
+        }
     }
 
     fn spliced(

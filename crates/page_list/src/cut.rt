@@ -41,9 +41,10 @@ pub(crate) fn cut<X: Drop>(
         let part = rest.split_off(at)?;
         parts.push(Short::of(part))?;
     }
-    rest.shrink_to_fit();
-    if !rest.is_empty() {
-        parts.push(Short::of(rest))?;
+    // what the long list has beside its first part would fit no other page: that too gets a block of memory of its own size
+    let first = rest.split_off(0)?;
+    if !first.is_empty() {
+        parts.push(Short::of(first))?;
     }
     parts.reverse();
     Ok(parts)

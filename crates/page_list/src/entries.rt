@@ -7,11 +7,10 @@ use crate::short::MOST;
 use crate::{Entry, OutOfMemory};
 use std::alloc::Global;
 
-/// New owners of what stands in `before`, then in `between`, then in `after`, with room for `room` entries, so that a page that is
-/// changed where it lies takes no memory.
+/// New owners of what stands in `before`, then in `between`, then in `after`, with room for no more: so the memory of a page that
+/// is given back is taken again for one of as many entries.
 pub(crate) fn entries_round<T: Drop>(
     alloc: Global,
-    room: usize,
     before: &[Entry<T>],
     between: &[Entry<T>],
     after: &[Entry<T>],
@@ -22,22 +21,21 @@ pub(crate) fn entries_round<T: Drop>(
         .len()
         .saturating_add(between.len())
         .saturating_add(after.len());
-    let mut all = Vec::with_capacity(alloc, count.max(room))?;
+    let mut all = Vec::with_capacity(alloc, count)?;
     put_onto(&mut all, before)?;
     put_onto(&mut all, between)?;
     put_onto(&mut all, after)?;
     Ok(all)
 }
 
-/// New owners of what stands in `items`, with room for `room` entries.
+/// New owners of what stands in `items`.
 pub(crate) fn copies_of<T: Drop>(
     alloc: Global,
-    room: usize,
     items: &[Entry<T>],
 ) -> Result<Vec<Entry<T>>, OutOfMemory>
     ensures { IfOk result (λ all. all.items ≡ items.now) }
 {
-    let mut all = Vec::with_capacity(alloc, items.len().max(room))?;
+    let mut all = Vec::with_capacity(alloc, items.len())?;
     put_onto(&mut all, items)?;
     Ok(all)
 }
@@ -140,13 +138,7 @@ fn replace_all<T: Drop>(
     ensures same { result ≡ false → all.new.items ≡ all.old.items }
 {
     let old = all.as_slice();
-    match entries_round(
-        alloc,
-        MOST,
-        items_before(old, from),
-        items,
-        items_from(old, to),
-    ) {
+    match entries_round(alloc, items_before(old, from), items, items_from(old, to)) {
         Ok(made) => {
             *all = made;
             true

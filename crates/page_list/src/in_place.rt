@@ -29,12 +29,9 @@ pub(crate) fn replace_block<T: Drop, B: Block<T>>(
     if let Some(block) = Arc::get_mut(share) {
         return block.replace(alloc, from, to, items);
     }
-    let Ok(mut block) = share.copied(alloc) else {
+    let Some(block) = share.replaced(alloc, from, to, items) else {
         return false;
     };
-    if !block.replace(alloc, from, to, items) {
-        return false;
-    }
     match Arc::new(alloc, block) {
         Ok(made) => {
             *share = made;

@@ -6,7 +6,7 @@ ghost use Rattle.page_list.specs.Marks.{Marked, mark_of};
 ghost use Rattle.page_list.specs.Search.{IsBehindLesser, IsTestAt};
 
 use crate::cut::{Growth, cut};
-use crate::entries::{copies_of, entries_round, may_have};
+use crate::entries::{entries_round, may_have};
 use crate::parts::{items_before, items_from, last_of};
 use crate::short::{MOST, Short};
 use crate::{Block, Entry, Found, OutOfMemory, STRIDE};
@@ -115,14 +115,6 @@ impl<T: Drop> Block<T> for Page<T> {
         pages_of(alloc, items, Growth::Anywhere)
     }
 
-    /// With room for as many entries as a page may have.
-    fn copied(&self, alloc: Global) -> Result<Page<T>, OutOfMemory>
-        ensures { IfOk result (λ copy. copy ≡ self.now) }
-    {
-        let entries = Short::of(copies_of(alloc, MOST, self.entries.as_slice())?);
-        Ok(Page { entries })
-    }
-
     fn len(&self) -> usize {
         self.entries.as_slice().len()
     }
@@ -176,6 +168,19 @@ impl<T: Drop> Block<T> for Page<T> {
             && self.entries.replace(alloc, from, to, items)
     }
 
+    fn replaced(&self, alloc: Global, from: usize, to: usize, items: &[Entry<T>]) -> Option<Self> {
+        let old = self.entries.as_slice();
+        if !may_have(old.len(), from, to, items.len()) {
+            return None;
+        }
+        match entries_round(alloc, items_before(old, from), items, items_from(old, to)) {
+            Ok(entries) => Some(Page {
+                entries: Short::of(entries),
+            }),
+            Err(_) => None,
+        }
+    }
+
     fn spliced(
         alloc: Global,
         left: &Self,
@@ -191,7 +196,7 @@ impl<T: Drop> Block<T> for Page<T> {
     {
         let before = items_before(left.entries.as_slice(), from);
         let after = items_from(right.entries.as_slice(), to);
-        let entries = entries_round(alloc, 0, before, items.as_slice(), after)?;
+        let entries = entries_round(alloc, before, items.as_slice(), after)?;
         pages_of(alloc, entries, Growth::after(after.is_empty()))
     }
 }

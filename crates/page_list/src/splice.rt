@@ -166,7 +166,7 @@ pub(crate) fn row_with<T: Drop, B: Block<T>>(
     if row.replace(alloc, from, to, items) {
         return Ok(row);
     }
-    let items = copies_of(alloc, 0, items)?;
+    let items = copies_of(alloc, items)?;
     let blocks = respliced(alloc, &row, from, to, items)?;
     let made = Row::of(alloc, blocks)?;
     Ok(made)

@@ -19,7 +19,7 @@ pub use action::Action;
 pub use cache_fault::CacheFault;
 pub use event::Event;
 pub use outcome::Outcome;
-pub use proving::{answer, prove};
+pub use proving::{answer, prove, prove_in};
 pub use replying::reply;
 pub use shared_cache::{CacheSeat, SharedCache};
 pub use worker_core::{SLOTS, WorkerCore};

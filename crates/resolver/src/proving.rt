@@ -25,7 +25,22 @@ pub fn prove<'a>(store: &'a Store, name: &Name, qtype: u16, now: u32) -> Option<
     ensures exact { IsSome result ↔ IsSome (proof_of store.now now name.now qtype) }
     ensures sound { (IsProofType qtype → ⊥) → IfSome result (IsSoundVerdict name.now qtype) }
 {
-    let proof = proof_of(store, name, qtype, now)?;
+    the_zone_is_asked();
+    let zone = store.zone_for(name, qtype)?;
+    prove_in(&zone, name, qtype, now)
+}
+
+/// The same by one zone's records, which is what `prove` gives where the zone is the one for the question. None exactly where they
+/// prove nothing. It takes no memory.
+pub fn prove_in<'a>(zone: &ZoneRef<'a>, name: &Name, qtype: u16, now: u32) -> Option<Verdict<'a>>
+    ensures proved { IfSome result
+        (IsVerdictOf now (zone_proof zone.now.held now zone.now.apex name.now qtype)) }
+    ensures exact { IsSome result
+        ↔ IsSome (zone_proof zone.now.held now zone.now.apex name.now qtype) }
+    ensures sound { IsAsked zone.now.apex name.now qtype
+        → IfSome result (IsSoundVerdict name.now qtype) }
+{
+    let proof = zone_proof(zone, now, name, qtype)?;
     Some(proof.verdict(now))
 }
 
@@ -47,15 +62,6 @@ pub fn answer<'a>(
         return None;
     }
     prove(store, name, qtype, now)
-}
-
-fn proof_of<'a>(store: &'a Store, name: &Name, qtype: u16, now: u32) -> Option<Proven<'a>>
-    ensures proof { result ≡ proof_of store.now now name.now qtype }
-    ensures sound { (IsProofType qtype → ⊥) → IfSome result (IsSound name.now qtype) }
-{
-    the_zone_is_asked();
-    let zone = store.zone_for(name, qtype)?;
-    zone_proof(&zone, now, name, qtype)
 }
 
 fn zone_proof<'a>(zone: &ZoneRef<'a>, now: u32, name: &Name, qtype: u16) -> Option<Proven<'a>>
