@@ -1,9 +1,9 @@
 """Makes, measures, attacks and compares what dnsreplay reads and writes; `COMMAND --help` tells more."""
 import argparse, os, signal, sys
-from . import bench, differential, fits, frames, hostile, try_serve, twice
+from . import bench, differential, fits, frames, hostile, try_serve, try_tcp, twice
 from .wire import Fault, Unreadable
 
-MODULES = (bench, hostile, try_serve, frames, fits, differential, twice)
+MODULES = (bench, hostile, try_serve, try_tcp, frames, fits, differential, twice)
 
 def add(parsers, module, name):
     """A module's command: its `words` say what it takes and `run` does it, or it has `COMMANDS` below it."""

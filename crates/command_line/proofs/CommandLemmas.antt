@@ -6,10 +6,10 @@ use Rattle.std.specs.List.{All}
 use Rattle.std.proofs.lemmas.Bool.{eqb-true, eqb-false}
 use Rattle.std.proofs.lemmas.Option.{same_Some}
 use Rattle.std.proofs.lemmas.List.Elements.{All-nil, All-cons, All-head, All-tail, All-same}
-use Rattle.command_line.specs.Words.{Word, Setting, Sets, two, one, Gives, nothing, first, Means, texts, workers_setting, seed_setting, names_setting, queries_setting, HasPorts, listen_setting, upstream_setting, datagrams_setting}
+use Rattle.command_line.specs.Words.{Word, Setting, Sets, two, one, Gives, nothing, first, Means, texts, workers_setting, seed_setting, names_setting, queries_setting, HasPorts, listen_setting, upstream_setting, datagrams_setting, connections_setting}
 use Rattle.command_line.specs.Options.{IsWalkNamed}
 use Rattle.command_line.specs.declared.command.Command.{Command}
-use Rattle.command_line.specs.declared.command.Command.TheVariants.{Replay, Selfrun, Serve, Chase, Redirect, Follow}
+use Rattle.command_line.specs.declared.command.Command.TheVariants.{Replay, Selfrun, Serve, Chase, Redirect, Follow, Tcp}
 
 -- ---- the first word
 
@@ -43,6 +43,9 @@ abbrev pub OfServe : ℕ → ℕ → ℕ → ℕ → List Word → Type 0
 OfServe listen upstream workers datagrams options =
     Gives ((listen_setting, listen) ∷ (upstream_setting, upstream) ∷ (workers_setting, workers) ∷ (datagrams_setting, datagrams) ∷ []) options
 
+abbrev pub OfTcp : ℕ → ℕ → List Word → Type 0
+OfTcp listen connections options = Gives ((listen_setting, listen) ∷ (connections_setting, connections) ∷ []) options
+
 abbrev Answer : Type 0 → Type 0
 Answer E = Result (Option Command) E
 
@@ -70,6 +73,7 @@ serve_every words options r is every (Serve listen upstream workers datagrams) (
 serve_every words options r is every Chase is' = absurd (differ (codes "serve") (codes "chase") options [] refl (sym is ∙ is'))
 serve_every words options r is every Redirect is' = absurd (differ (codes "serve") (codes "redirect") options [] refl (sym is ∙ is'))
 serve_every words options r is every Follow is' = absurd (differ (codes "serve") (codes "follow") options [] refl (sym is ∙ is'))
+serve_every words options r is every (Tcp listen connections) (rest, is', gives) = absurd (differ (codes "serve") (codes "tcp") options rest refl (sym is ∙ is'))
 
 pub replay_read : {E : Type 0} (words options : List Word) (r : Answer E) → words ≡ codes "replay" ∷ options → IfOk r (λ found. IfSome found (λ command. (workers : ℕ) × (command ≡ Replay workers) × OfReplay workers options)) → IfOk r (λ found. IfSome found (Means words))
 replay_read words options (Err e) is read = tt
@@ -83,6 +87,21 @@ replay_every words options r is every (Serve listen upstream workers datagrams) 
 replay_every words options r is every Chase is' = absurd (differ (codes "replay") (codes "chase") options [] refl (sym is ∙ is'))
 replay_every words options r is every Redirect is' = absurd (differ (codes "replay") (codes "redirect") options [] refl (sym is ∙ is'))
 replay_every words options r is every Follow is' = absurd (differ (codes "replay") (codes "follow") options [] refl (sym is ∙ is'))
+replay_every words options r is every (Tcp listen connections) (rest, is', gives) = absurd (differ (codes "replay") (codes "tcp") options rest refl (sym is ∙ is'))
+
+pub tcp_read : {E : Type 0} (words options : List Word) (r : Answer E) → words ≡ codes "tcp" ∷ options → IfOk r (λ found. IfSome found (λ command. (listen connections : ℕ) × (command ≡ Tcp listen connections) × OfTcp listen connections options)) → IfOk r (λ found. IfSome found (Means words))
+tcp_read words options (Err e) is read = tt
+tcp_read words options (Ok None) is read = tt
+tcp_read words options (Ok (Some command)) is (listen, connections, same, gives) = subst (Means words) (sym same) (options, is, gives)
+
+pub tcp_every : {E : Type 0} (words options : List Word) (r : Answer E) → words ≡ codes "tcp" ∷ options → ((listen connections : ℕ) → OfTcp listen connections options → IfOk r (λ found. found ≡ Some (Tcp listen connections))) → (command : Command) → Means words command → IfOk r (λ found. found ≡ Some command)
+tcp_every words options r is every (Replay workers) (rest, is', gives) = absurd (differ (codes "tcp") (codes "replay") options rest refl (sym is ∙ is'))
+tcp_every words options r is every (Selfrun seed names queries) (rest, is', gives) = absurd (differ (codes "tcp") (codes "selfrun") options rest refl (sym is ∙ is'))
+tcp_every words options r is every (Serve listen upstream workers datagrams) (rest, is', gives, ports) = absurd (differ (codes "tcp") (codes "serve") options rest refl (sym is ∙ is'))
+tcp_every words options r is every Chase is' = absurd (differ (codes "tcp") (codes "chase") options [] refl (sym is ∙ is'))
+tcp_every words options r is every Redirect is' = absurd (differ (codes "tcp") (codes "redirect") options [] refl (sym is ∙ is'))
+tcp_every words options r is every Follow is' = absurd (differ (codes "tcp") (codes "follow") options [] refl (sym is ∙ is'))
+tcp_every words options r is every (Tcp listen connections) (rest, is', gives) = every listen connections (subst (OfTcp listen connections) (ap (drop 1) (sym is' ∙ is)) gives)
 
 pub selfrun_read : {E : Type 0} (words options : List Word) (r : Answer E) → words ≡ codes "selfrun" ∷ options → IfOk r (λ found. IfSome found (λ command. (seed names queries : ℕ) × (command ≡ Selfrun seed names queries) × OfSelfrun seed names queries options)) → IfOk r (λ found. IfSome found (Means words))
 selfrun_read words options (Err e) is read = tt
@@ -96,6 +115,7 @@ selfrun_every words options r is every (Serve listen upstream workers datagrams)
 selfrun_every words options r is every Chase is' = absurd (differ (codes "selfrun") (codes "chase") options [] refl (sym is ∙ is'))
 selfrun_every words options r is every Redirect is' = absurd (differ (codes "selfrun") (codes "redirect") options [] refl (sym is ∙ is'))
 selfrun_every words options r is every Follow is' = absurd (differ (codes "selfrun") (codes "follow") options [] refl (sym is ∙ is'))
+selfrun_every words options r is every (Tcp listen connections) (rest, is', gives) = absurd (differ (codes "selfrun") (codes "tcp") options rest refl (sym is ∙ is'))
 
 pub walk_read : (words options : List Word) (front : Word) (r : Option Command) → words ≡ front ∷ options → IfSome r (λ command. (options ≡ []) × IsWalkNamed front command) → IfSome r (Means words)
 walk_read words options front None is read = tt
@@ -105,6 +125,7 @@ walk_read words options front (Some (Serve listen upstream workers datagrams)) i
 walk_read words options front (Some Chase) is (none, named) = is ∙ (λ i. named i ∷ none i)
 walk_read words options front (Some Redirect) is (none, named) = is ∙ (λ i. named i ∷ none i)
 walk_read words options front (Some Follow) is (none, named) = is ∙ (λ i. named i ∷ none i)
+walk_read words options front (Some (Tcp listen connections)) is (none, named) = absurd named
 
 -- the first word, and those behind it
 first_is : (words options rest : List Word) (front front' : Word) → words ≡ front ∷ options → words ≡ front' ∷ rest → front ≡ front'
@@ -113,14 +134,15 @@ first_is words options rest front front' is is' = ap (λ l. get_or l 0 []) (sym 
 rest_is : (words options rest : List Word) (front front' : Word) → words ≡ front ∷ options → words ≡ front' ∷ rest → options ≡ rest
 rest_is words options rest front front' is is' = ap (drop 1) (sym is ∙ is')
 
-pub walk_every : (words options : List Word) (front : Word) (r : Option Command) → words ≡ front ∷ options → (front ≡ codes "replay" → ⊥) → (front ≡ codes "selfrun" → ⊥) → (front ≡ codes "serve" → ⊥)
+pub walk_every : (words options : List Word) (front : Word) (r : Option Command) → words ≡ front ∷ options → (front ≡ codes "replay" → ⊥) → (front ≡ codes "selfrun" → ⊥) → (front ≡ codes "serve" → ⊥) → (front ≡ codes "tcp" → ⊥)
     → ((command : Command) → options ≡ [] → IsWalkNamed front command → r ≡ Some command) → (command : Command) → Means words command → r ≡ Some command
-walk_every words options front r is replay selfrun serve every (Replay workers) (rest, is', gives) = absurd (replay (first_is words options rest front (codes "replay") is is'))
-walk_every words options front r is replay selfrun serve every (Selfrun seed names queries) (rest, is', gives) = absurd (selfrun (first_is words options rest front (codes "selfrun") is is'))
-walk_every words options front r is replay selfrun serve every (Serve listen upstream workers datagrams) (rest, is', gives, ports) = absurd (serve (first_is words options rest front (codes "serve") is is'))
-walk_every words options front r is replay selfrun serve every Chase is' = every Chase (rest_is words options [] front (codes "chase") is is') (first_is words options [] front (codes "chase") is is')
-walk_every words options front r is replay selfrun serve every Redirect is' = every Redirect (rest_is words options [] front (codes "redirect") is is') (first_is words options [] front (codes "redirect") is is')
-walk_every words options front r is replay selfrun serve every Follow is' = every Follow (rest_is words options [] front (codes "follow") is is') (first_is words options [] front (codes "follow") is is')
+walk_every words options front r is replay selfrun serve tcp every (Replay workers) (rest, is', gives) = absurd (replay (first_is words options rest front (codes "replay") is is'))
+walk_every words options front r is replay selfrun serve tcp every (Selfrun seed names queries) (rest, is', gives) = absurd (selfrun (first_is words options rest front (codes "selfrun") is is'))
+walk_every words options front r is replay selfrun serve tcp every (Serve listen upstream workers datagrams) (rest, is', gives, ports) = absurd (serve (first_is words options rest front (codes "serve") is is'))
+walk_every words options front r is replay selfrun serve tcp every Chase is' = every Chase (rest_is words options [] front (codes "chase") is is') (first_is words options [] front (codes "chase") is is')
+walk_every words options front r is replay selfrun serve tcp every Redirect is' = every Redirect (rest_is words options [] front (codes "redirect") is is') (first_is words options [] front (codes "redirect") is is')
+walk_every words options front r is replay selfrun serve tcp every Follow is' = every Follow (rest_is words options [] front (codes "follow") is is') (first_is words options [] front (codes "follow") is is')
+walk_every words options front r is replay selfrun serve tcp every (Tcp listen connections) (rest, is', gives) = absurd (tcp (first_is words options rest front (codes "tcp") is is'))
 
 pub no_words : (words : List Word) → words ≡ [] → (command : Command) → Means words command → ⊥
 no_words words none (Replay workers) (rest, is, gives) = absurd (omega (arith, ap length (sym none ∙ is)))
@@ -129,6 +151,7 @@ no_words words none (Serve listen upstream workers datagrams) (rest, is, gives, 
 no_words words none Chase is = absurd (omega (arith, ap length (sym none ∙ is)))
 no_words words none Redirect is = absurd (omega (arith, ap length (sym none ∙ is)))
 no_words words none Follow is = absurd (omega (arith, ap length (sym none ∙ is)))
+no_words words none (Tcp listen connections) (rest, is, gives) = absurd (omega (arith, ap length (sym none ∙ is)))
 
 -- ---- the values lie in their ranges
 
@@ -194,6 +217,7 @@ seed_of (Serve listen upstream workers datagrams) = 0
 seed_of Chase = 0
 seed_of Redirect = 0
 seed_of Follow = 0
+seed_of (Tcp listen connections) = 0
 
 names_of : Command → ℕ
 names_of (Replay workers) = 0
@@ -202,6 +226,7 @@ names_of (Serve listen upstream workers datagrams) = 0
 names_of Chase = 0
 names_of Redirect = 0
 names_of Follow = 0
+names_of (Tcp listen connections) = 0
 
 queries_of : Command → ℕ
 queries_of (Replay workers) = 0
@@ -210,6 +235,7 @@ queries_of (Serve listen upstream workers datagrams) = 0
 queries_of Chase = 0
 queries_of Redirect = 0
 queries_of Follow = 0
+queries_of (Tcp listen connections) = 0
 
 workers_of : Command → ℕ
 workers_of (Replay workers) = workers
@@ -218,6 +244,7 @@ workers_of (Serve listen upstream workers datagrams) = 0
 workers_of Chase = 0
 workers_of Redirect = 0
 workers_of Follow = 0
+workers_of (Tcp listen connections) = 0
 
 pub same_workers : (command : Command) (workers asked : ℕ) → command ≡ Replay workers → Some command ≡ Some (Replay asked) → workers ≡ asked
 unfolding workers_of

@@ -7,7 +7,7 @@ use Rattle.clap.specs.Words.{App, Rule, first_value, found_of, new_app, new_rule
 use Rattle.clap.specs.declared.parser.matches.ArgMatches.{ArgMatches}
 use Rattle.command_line.specs.Words.{Word, Setting, IsValue}
 use Rattle.command_line.specs.declared.command.Command.{Command}
-use Rattle.command_line.specs.declared.command.Command.TheVariants.{Replay, Selfrun, Serve, Chase, Redirect, Follow}
+use Rattle.command_line.specs.declared.command.Command.TheVariants.{Replay, Selfrun, Serve, Chase, Redirect, Follow, Tcp}
 use Rattle.command_line.specs.declared.setting.Setting as program
 
 -- the option's name in a word: two hyphens stand before it
@@ -72,3 +72,4 @@ IsWalkNamed name (Serve listen upstream workers datagrams) = ⊥
 IsWalkNamed name Chase = name ≡ codes "chase"
 IsWalkNamed name Redirect = name ≡ codes "redirect"
 IsWalkNamed name Follow = name ≡ codes "follow"
+IsWalkNamed name (Tcp listen connections) = ⊥

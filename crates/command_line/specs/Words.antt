@@ -3,7 +3,7 @@ use Rattle.std.specs.Prelude.{◌≡◌, ◌⊎◌, ℕ, ◌+◌, ◌-◌, ◌<�
 use Rattle.std.specs.Str.Parse.{IsNumeral, digits_value}
 use Rattle.std.specs.declared.alloc.Global.{Global}
 use Rattle.command_line.specs.declared.command.Command.{Command}
-use Rattle.command_line.specs.declared.command.Command.TheVariants.{Replay, Selfrun, Serve, Chase, Redirect, Follow}
+use Rattle.command_line.specs.declared.command.Command.TheVariants.{Replay, Selfrun, Serve, Chase, Redirect, Follow, Tcp}
 
 -- a word, octet by octet
 abbrev pub Word : Type 0
@@ -59,12 +59,15 @@ upstream_setting = record { name = codes "--upstream"; least = 1; most = 65535 }
 abbrev pub datagrams_setting : Setting
 datagrams_setting = record { name = codes "--datagrams"; least = 1; most = 5000 }
 
+abbrev pub connections_setting : Setting
+connections_setting = record { name = codes "--connections"; least = 1; most = 100 }
+
 -- each worker listens at a port of its own, from the first one on; upstream's is none of them
 pub record HasPorts (listen upstream workers : ℕ) : Type 0 where
   pub last : listen + workers - 1 ≤ 65535
   pub apart : (upstream < listen) ⊎ (listen + workers ≤ upstream)
 
--- the words after a command's name are its options; the last three have none
+-- the words after a command's name are its options; `chase`, `redirect` and `follow` have none
 abbrev pub Means : List Word → Command → Type 0
 Means words (Replay workers) =
     (options : List Word) × (words ≡ codes "replay" ∷ options) × Gives ((workers_setting, workers) ∷ []) options
@@ -79,6 +82,9 @@ Means words (Serve listen upstream workers datagrams) =
 Means words Chase = words ≡ codes "chase" ∷ []
 Means words Redirect = words ≡ codes "redirect" ∷ []
 Means words Follow = words ≡ codes "follow" ∷ []
+Means words (Tcp listen connections) =
+    (options : List Word) × (words ≡ codes "tcp" ∷ options)
+    × Gives ((listen_setting, listen) ∷ (connections_setting, connections) ∷ []) options
 
 abbrev pub texts : List (String Global) → List Word
 texts words = map string_bytes words

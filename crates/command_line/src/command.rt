@@ -1,8 +1,8 @@
 ghost use Rattle.std.specs.Prelude.{◌≡◌, ◌↔◌, ◌≤◌, ℕ, [], ◌∷◌, drop, length, IfOk, IfSome, IsTrue, Some};
 ghost use Rattle.std.specs.String.{string_bytes};
-ghost use Rattle.command_line.specs.Words.{AreWordsOf, Gives, texts, workers_setting, seed_setting, names_setting, queries_setting, listen_setting, upstream_setting, datagrams_setting, HasPorts};
+ghost use Rattle.command_line.specs.Words.{AreWordsOf, Gives, texts, workers_setting, seed_setting, names_setting, queries_setting, listen_setting, upstream_setting, datagrams_setting, connections_setting, HasPorts};
 ghost use Rattle.command_line.specs.Options.{IsWalkNamed};
-ghost use Rattle.command_line.specs.declared.command.Command.TheVariants.{Replay, Selfrun, Serve};
+ghost use Rattle.command_line.specs.declared.command.Command.TheVariants.{Replay, Selfrun, Serve, Tcp};
 
 use crate::matching::{matches_of, value_in};
 use crate::setting::Setting;
@@ -53,6 +53,12 @@ const DATAGRAMS: Setting<'static> = Setting {
     most: 5_000,
 };
 
+const CONNECTIONS: Setting<'static> = Setting {
+    name: "connections",
+    least: 1,
+    most: 100,
+};
+
 /// What the words ask for.
 #[derive(Clone, Copy, Debug, PartialEq, Eq)]
 pub enum Command {
@@ -80,6 +86,12 @@ pub enum Command {
     Redirect,
     /// Frames are replayed over one worker, and queries answered by way of both too.
     Follow,
+    /// Frames are replayed over one worker, and 1 to 100 connections, one after the other, answered
+    /// at the port `listen` from what is then held.
+    Tcp {
+        listen: u16,
+        connections: u32,
+    },
 }
 
 /// The command that the words after the program's name are, if they are one. Each of its options
@@ -103,6 +115,9 @@ pub fn command_of(alloc: Global, words: &[String]) -> Result<Option<Command>, Ou
     }
     if is_word(first, "serve") {
         return serve_of(alloc, options);
+    }
+    if is_word(first, "tcp") {
+        return tcp_of(alloc, options);
     }
     Ok(walk_of(first, options))
 }
@@ -212,6 +227,32 @@ fn serve_at(listen: u32, upstream: u32, workers: u32, datagrams: u32) -> Option<
         workers: workers as u8,
         datagrams,
     })
+}
+
+fn tcp_of(alloc: Global, options: &[String]) -> Result<Option<Command>, OutOfMemory>
+    ensures read { IfOk result (λ found. IfSome found (λ command. (listen connections : ℕ)
+        × (command ≡ Tcp listen connections)
+        × Gives ((listen_setting, listen) ∷ (connections_setting, connections) ∷ [])
+        (texts options.now))) }
+    ensures every { (listen connections : ℕ)
+        → Gives ((listen_setting, listen) ∷ (connections_setting, connections) ∷ [])
+        (texts options.now)
+        → IfOk result (λ found. found ≡ Some (Tcp listen connections)) }
+{
+    let settings = [LISTEN, CONNECTIONS];
+    let Some(matches) = matches_of(alloc, &settings, options)? else {
+        return Ok(None);
+    };
+    let Some(listen) = value_in(&matches, &settings[0]) else {
+        return Ok(None);
+    };
+    let Some(connections) = value_in(&matches, &settings[1]) else {
+        return Ok(None);
+    };
+    Ok(Some(Command::Tcp {
+        listen: listen as u16,
+        connections,
+    }))
 }
 
 // The command that has no options, if the first word is its name, and the only word.

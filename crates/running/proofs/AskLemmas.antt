@@ -8,7 +8,7 @@ use Rattle.worker_seats.specs.declared.answering.Answering.{Answering}
 use Rattle.worker_seats.specs.declared.answering.Answering.TheVariants.{ByProof, ByWalk}
 use Rattle.command_line.specs.Words.{AreWordsOf}
 use Rattle.command_line.specs.declared.command.Command.{Command}
-use Rattle.command_line.specs.declared.command.Command.TheVariants.{Replay, Selfrun, Serve, Chase, Redirect, Follow}
+use Rattle.command_line.specs.declared.command.Command.TheVariants.{Replay, Selfrun, Serve, Chase, Redirect, Follow, Tcp}
 use Rattle.running.specs.Run.{AsksReplay}
 
 answering_of : Command → Answering
@@ -18,6 +18,7 @@ answering_of (Serve listen upstream workers datagrams) = ByProof
 answering_of Chase = ByWalk Aliases
 answering_of Redirect = ByWalk Redirection
 answering_of Follow = ByWalk Both
+answering_of (Tcp listen connections) = ByProof
 
 workers_of : Command → ℕ
 workers_of (Replay workers) = workers
@@ -26,6 +27,7 @@ workers_of (Serve listen upstream workers datagrams) = 0
 workers_of Chase = 1
 workers_of Redirect = 1
 workers_of Follow = 1
+workers_of (Tcp listen connections) = 0
 
 -- the words are a command that replays so
 record Asked (words : List (String Global)) (answering : Answering) (workers : ℕ) : Type 0 where

@@ -1,20 +1,23 @@
-ghost use Rattle.std.specs.Prelude.{◌≡◌, ◌⊎◌, ℕ, ◌+◌, ◌<◌, ◌≤◌, List, [], length, IfSome, Some};
+ghost use Rattle.std.specs.Prelude.{◌≡◌, ◌⊎◌, ℕ, ◌+◌, ◌<◌, ◌≤◌, List, [], length, IfSome, None, Some};
 ghost use Rattle.outside_core.specs.Fault.{Rose};
 ghost use Rattle.command_line.specs.Words.{IsCommand, AreWordsOf};
 ghost use Rattle.running.specs.Run.{AsksReplay, HasGiven, HasReplayed, IsReadOn, IsReplayed, IsCutShort, IsTaken, IsNoFrames, IsOfReplay, IsOfSelfrun, IsRefused, IsStatusOf};
 ghost use Rattle.running.specs.declared.reading.TheConstants.{MAX_INPUT};
 ghost use Rattle.running.specs.Summary.{IsSummed, IsSummedInPart};
-ghost use Rattle.command_line.specs.declared.command.Command.TheVariants.{Selfrun, Serve};
+ghost use Rattle.command_line.specs.declared.command.Command.TheVariants.{Selfrun, Serve, Tcp};
 ghost use Rattle.worker_seats.specs.declared.answering.Answering.{Answering};
 ghost use Rattle.server.specs.Back.{CameBack, AllServedWhole};
 ghost use Rattle.running.specs.Serve.{service_of, EndedInWant, IsOfServe, ServedInPart};
+ghost use Rattle.running.specs.Connections.{HasServed, HasServedInPart, IsOfTcp};
 
 use crate::reading::{MAX_INPUT, ReadError, read_whole};
 use crate::replay::replay;
 use crate::selfrun::selfrun;
 use crate::status::Status;
+use crate::tcp::run_tcp;
 use alias_chain::Rule;
 use command_line::{Command, command_of};
+use gateway::Gateway;
 use outside_core::{Clock, Gate, Harbor, Sink, Source, write_whole};
 use server::{ServeError, Service, serve};
 use std::alloc::Global;
@@ -32,9 +35,9 @@ const BY_REDIRECTION: Answering = Answering::ByWalk {
 
 const BY_BOTH: Answering = Answering::ByWalk { rule: Rule::Both };
 
-/// Runs the words, those after the program's name: replays over the source and the sink, and serves over the harbor at the
-/// moments that the clock tells. Workers of a replay pass the gate.
-pub fn run<R: Threads + Wait + Sync, S: Source, K: Sink, G: Gate, H: Harbor, C: Clock>(
+/// Runs the words, those after the program's name: replays over the source and the sink, and serves over the harbor, or the gateway,
+/// at the moments that the clock tells. Workers of a replay pass the gate.
+pub fn run<R: Threads + Wait + Sync, S: Source, K: Sink, G: Gate, H: Harbor, C: Clock, W: Gateway>(
     rt: &R,
     alloc: Global,
     words: &[String],
@@ -43,7 +46,10 @@ pub fn run<R: Threads + Wait + Sync, S: Source, K: Sink, G: Gate, H: Harbor, C: 
     gate: &G,
     harbor: &mut H,
     clock: &C,
+    gateway: &mut W,
 ) -> Status
+    requires { W.Gateway.listens gateway.old ≡ None }
+
     // Want of memory, status 6, may take the place of any status, as it may of any answer: a call
     // for memory was refused, or a count of a list's entries or of a zone's sets would have passed
     // 2^64 - 1. No size of an input, a frame, a message or a record is told so.
@@ -168,6 +174,57 @@ pub fn run<R: Threads + Wait + Sync, S: Source, K: Sink, G: Gate, H: Harbor, C: 
     ensures unmoored { ((listen upstream workers datagrams : ℕ)
         → AreWordsOf words.now (Serve listen upstream workers datagrams) → ⊥)
         → harbor.new ≡ harbor.old }
+
+    // What `tcp` read spells frames for one worker. Their batches were placed before it listened,
+    // and each connection that came back was answered from the version that all of them make,
+    // whatever the clock. After a fault of the gateway that is said of those that came back; a
+    // fault of one ends that one alone. It doesn't write.
+    ensures connected { (listen connections : ℕ)
+        → AreWordsOf words.now (Tcp listen connections)
+        → result ≡ Status.Good
+        → HasServed connections (C.Clock.moment clock.now)
+        (S.left source.old) (S.left source.new)
+        (W.Gateway.came_back gateway.old) (W.Gateway.came_back gateway.new) }
+    ensures connected_in_part { (listen connections : ℕ)
+        → AreWordsOf words.now (Tcp listen connections)
+        → result ≡ Status.GatewayFault
+        → HasServedInPart connections (C.Clock.moment clock.now)
+        (S.left source.old) (S.left source.new)
+        (W.Gateway.came_back gateway.old) (W.Gateway.came_back gateway.new)
+        (W.Gateway.failures gateway.old) (W.Gateway.failures gateway.new)
+        (W.Gateway.faults gateway.old) (W.Gateway.faults gateway.new) }
+    ensures listens { (listen connections : ℕ)
+        → AreWordsOf words.now (Tcp listen connections)
+        → result ≡ Status.Good → W.Gateway.listens gateway.new ≡ Some listen }
+    ensures tcp_unopened { (listen connections : ℕ)
+        → AreWordsOf words.now (Tcp listen connections)
+        → (result ≡ Status.ReadFault) ⊎ IsRefused result → gateway.new ≡ gateway.old }
+    ensures tcp_ends { (listen connections : ℕ)
+        → AreWordsOf words.now (Tcp listen connections) → IsOfTcp result }
+    ensures tcp_unwritten { (listen connections : ℕ)
+        → AreWordsOf words.now (Tcp listen connections) → sink.new ≡ sink.old }
+    ensures tcp_read { (listen connections : ℕ)
+        → AreWordsOf words.now (Tcp listen connections)
+        → HasGiven (S.left source.old) (S.left source.new) }
+    ensures tcp_refused { (listen connections : ℕ)
+        → AreWordsOf words.now (Tcp listen connections)
+        → IsRefused result → IsReadOn (S.left source.old) (S.left source.new) }
+    ensures tcp_bad_frame { (listen connections : ℕ)
+        → AreWordsOf words.now (Tcp listen connections)
+        → result ≡ Status.BadFrame → IfSome (S.left source.old) (IsNoFrames 1) }
+    ensures tcp_complete { (listen connections : ℕ)
+        → AreWordsOf words.now (Tcp listen connections)
+        → (input : List ℕ) → S.left source.old ≡ Some input
+        → (Rose (S.faults source.old) (S.faults source.new) → ⊥)
+        → (Rose (W.Gateway.faults gateway.old) (W.Gateway.faults gateway.new) → ⊥)
+        → IsStatusOf 1 input result ⊎ (result ≡ Status.OutOfMemory) }
+    ensures gateway_fault { result ≡ Status.GatewayFault
+        → Rose (W.Gateway.faults gateway.old) (W.Gateway.faults gateway.new) }
+    ensures no_gateway_fault { result ≡ Status.Good
+        → W.Gateway.faults gateway.new ≡ W.Gateway.faults gateway.old }
+    ensures unopened { ((listen connections : ℕ)
+        → AreWordsOf words.now (Tcp listen connections) → ⊥)
+        → gateway.new ≡ gateway.old }
 {
     match command_of(alloc, words) {
         Err(_) => Status::OutOfMemory,
@@ -201,6 +258,14 @@ pub fn run<R: Threads + Wait + Sync, S: Source, K: Sink, G: Gate, H: Harbor, C: 
                 rt, alloc, listen, upstream, workers, datagrams, harbor, clock,
             )
         }
+        Ok(
+            Some(
+                Command::Tcp {
+                    listen,
+                    connections,
+                },
+            ),
+        ) => { run_tcp(rt, alloc, listen, connections, source, gate, clock, gateway) }
     }
 }
 
@@ -292,6 +357,7 @@ fn run_replay<R: Threads + Wait + Sync, S: Source, K: Sink, G: Gate>(
     requires { (1 ≤ workers) × (workers ≤ 32) }
     ensures command { result ≡ Status.Usage → ⊥ }
     ensures ashore { result ≡ Status.HarborFault → ⊥ }
+    ensures unconnected { result ≡ Status.GatewayFault → ⊥ }
     ensures good { result ≡ Status.Good
         → IfSome (S.left source.old) (λ input.
         IsReplayed answering workers input (K.written sink.old) (K.written sink.new)) }

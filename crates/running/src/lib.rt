@@ -1,17 +1,19 @@
 //! A run of the program `dnsreplay`: frames of queries and upstream answers in, frames of what becomes of them out; or datagrams
-//! on loopback. `run` carries the headline, and the program calls it by `run_here`.
+//! or connections on loopback. `run` carries the headline, and the program calls it by `run_here`.
 //!
-//! Read `specs/Run.antt`, `Serve` and `Status`, then `Summary` and `Made`, then `Words` of `command_line`, and then the specs of
-//! `replay_meaning` and `server`.
+//! Read `specs/Run.antt`, `Serve`, `Connections` and `Status`, then `Summary` and `Made`, then `Words` of `command_line`, and then
+//! the specs of `replay_meaning`, `server` and `stream_server`.
 #![tactic(auto)]
 
 mod commands;
+mod loading;
 mod machine;
 mod reading;
 mod replay;
 mod selfrun;
 mod status;
 mod summary;
+mod tcp;
 
 pub use commands::run;
 pub use machine::run_here;

@@ -4,12 +4,14 @@ ghost use Rattle.command_line.specs.Words.{IsCommand, AreWordsOf};
 ghost use Rattle.running.specs.Run.{AsksReplay, HasGiven, HasReplayed, IsReadOn, IsReplayed, IsCutShort, IsTaken, IsNoFrames, IsOfReplay, IsOfSelfrun, IsRefused, IsStatusOf};
 ghost use Rattle.running.specs.declared.reading.TheConstants.{MAX_INPUT};
 ghost use Rattle.running.specs.Summary.{IsSummed, IsSummedInPart};
-ghost use Rattle.command_line.specs.declared.command.Command.TheVariants.{Selfrun, Serve};
+ghost use Rattle.command_line.specs.declared.command.Command.TheVariants.{Selfrun, Serve, Tcp};
 ghost use Rattle.worker_seats.specs.declared.answering.Answering.{Answering};
 ghost use Rattle.running.specs.Serve.{IsOfServe};
+ghost use Rattle.running.specs.Connections.{IsOfTcp};
 
 use crate::commands::run;
 use crate::status::Status;
+use gateway::TcpGateway;
 use outside_core::{OpenGate, Sink, Source, SystemClock, UdpHarbor};
 use std::alloc::Global;
 use std::net::Net;
@@ -18,14 +20,17 @@ use std::thread::Threads;
 use std::time;
 
 /// Runs the words as the program does: it serves over the network's loopback ports at the moments of the machine's clock, and
-/// holds back no worker of a replay. Its clauses are those of `run` that don't speak of the harbor and its links.
-pub fn run_here<
-    R: Threads + Wait + Sync,
-    N: Net + Drop,
-    T: time::Clock + Sync + Drop,
-    S: Source,
-    K: Sink,
->(rt: &R, alloc: Global, words: &[String], source: &mut S, sink: &mut K, net: N, clock: T) -> Status
+/// holds back no worker of a replay. Its clauses are those of `run` that don't speak of the harbor, the gateway, and what came back
+/// to them.
+pub fn run_here<R: Threads + Wait + Sync, N: Net, T: time::Clock + Sync + Drop, S: Source, K: Sink>(
+    rt: &R,
+    alloc: Global,
+    words: &[String],
+    source: &mut S,
+    sink: &mut K,
+    net: &N,
+    clock: T,
+) -> Status
     ensures usage { result ≡ Status.Usage → IsCommand words.now → ⊥ }
     ensures no_command { (IsCommand words.now → ⊥)
         → (result ≡ Status.Usage) ⊎ (result ≡ Status.OutOfMemory) }
@@ -99,8 +104,22 @@ pub fn run_here<
     ensures aside { (listen upstream workers datagrams : ℕ)
         → AreWordsOf words.now (Serve listen upstream workers datagrams)
         → (source.new ≡ source.old) × (sink.new ≡ sink.old) }
+    ensures tcp_ends { (listen connections : ℕ)
+        → AreWordsOf words.now (Tcp listen connections) → IsOfTcp result }
+    ensures tcp_unwritten { (listen connections : ℕ)
+        → AreWordsOf words.now (Tcp listen connections) → sink.new ≡ sink.old }
+    ensures tcp_read { (listen connections : ℕ)
+        → AreWordsOf words.now (Tcp listen connections)
+        → HasGiven (S.left source.old) (S.left source.new) }
+    ensures tcp_refused { (listen connections : ℕ)
+        → AreWordsOf words.now (Tcp listen connections)
+        → IsRefused result → IsReadOn (S.left source.old) (S.left source.new) }
+    ensures tcp_bad_frame { (listen connections : ℕ)
+        → AreWordsOf words.now (Tcp listen connections)
+        → result ≡ Status.BadFrame → IfSome (S.left source.old) (IsNoFrames 1) }
 {
     let mut harbor = UdpHarbor::over(net);
+    let mut gateway = TcpGateway::over(net);
     let clock = SystemClock::over(clock);
     run(
         rt,
@@ -111,5 +130,6 @@ pub fn run_here<
         &OpenGate,
         &mut harbor,
         &clock,
+        &mut gateway,
     )
 }

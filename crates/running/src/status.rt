@@ -21,6 +21,8 @@ pub enum Status {
     InputTooLong,
     /// A link of the harbor couldn't be bound, or failed.
     HarborFault,
+    /// The gateway couldn't listen or accept, or a connection failed.
+    GatewayFault,
 }
 
 impl Status {
@@ -36,14 +38,14 @@ impl Status {
         match self {
             Status::Good => None,
             Status::Usage => Some(
-                "usage: replay --workers N; selfrun --seed S --names M --queries Q; serve --listen P --upstream U --workers N --datagrams D; chase; redirect; follow",
+                "usage: replay --workers N; selfrun --seed S --names M --queries Q; serve --listen P --upstream U --workers N --datagrams D; chase; redirect; follow; tcp --listen P --connections C",
             ),
             Status::ReadFault => Some("read fault"),
             Status::BadFrame => Some("bad frame"),
             Status::WriteFault => Some("write fault"),
             Status::OutOfMemory => Some("out of memory"),
             Status::InputTooLong => Some("input too long"),
-            Status::HarborFault => Some("link fault"),
+            Status::HarborFault | Status::GatewayFault => Some("link fault"),
         }
     }
 
@@ -58,7 +60,7 @@ impl Status {
             Status::WriteFault => 5,
             Status::OutOfMemory => 6,
             Status::InputTooLong => 7,
-            Status::HarborFault => 8,
+            Status::HarborFault | Status::GatewayFault => 8,
         }
     }
 }

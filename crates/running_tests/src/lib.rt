@@ -2,6 +2,10 @@
 #![tactic(auto)]
 
 #[cfg(test)]
+mod connections;
+#[cfg(test)]
+mod cuts;
+#[cfg(test)]
 mod ends;
 #[cfg(test)]
 mod gates;
@@ -23,5 +27,7 @@ mod replays;
 mod selfrun;
 #[cfg(test)]
 mod serve;
+#[cfg(test)]
+mod sockets;
 #[cfg(test)]
 mod walks;

@@ -7,7 +7,7 @@ use dname::OutOfMemory;
 use outside_core::{MemorySink, StreamSink, StreamSource};
 use running::{Status, run_here};
 use std::alloc::Global;
-use std::net::{Ipv4Addr, Net, SocketAddr, SocketAddrV4, UdpSocket};
+use std::net::{Ipv4Addr, Net, OpenListener, SocketAddr, SocketAddrV4, UdpSocket};
 use std::sync::Wait;
 use std::sync::atomic::AtomicU32;
 use std::sync::atomic::Ordering::SeqCst;
@@ -16,19 +16,19 @@ use std::thread::{Threads, join, yield_now};
 use std::time::Duration;
 use std::{io, time};
 
-// What the client moves and the server tells.
+/// What the client moves and the server tells.
 #[derive(Drop)]
-struct Shared {
-    // The seconds since 1970.
-    seconds: AtomicU32,
-    // Where the server listens, once it does, and 0 before.
-    port: AtomicU32,
+pub struct Shared {
+    /// The seconds since 1970.
+    pub seconds: AtomicU32,
+    /// Where the server listens, once it does, and 0 before.
+    pub port: AtomicU32,
 }
 
-// A clock that another moves.
+/// A clock that another moves.
 #[derive(Drop)]
-struct Moved<'a> {
-    shared: &'a Shared,
+pub struct Moved<'a> {
+    pub shared: &'a Shared,
 }
 
 impl<'a> time::Clock for Moved<'a> {
@@ -41,8 +41,8 @@ impl<'a> time::Clock for Moved<'a> {
     }
 }
 
-// A port of 127.0.0.1.
-fn on_loopback(port: u16) -> SocketAddr {
+/// A port of 127.0.0.1.
+pub fn on_loopback(port: u16) -> SocketAddr {
     SocketAddr::V4(SocketAddrV4::new(Ipv4Addr::LOCALHOST, port))
 }
 
@@ -53,11 +53,11 @@ fn end<N: Net>(net: &N) -> io::Result<UdpSocket> {
     Ok(socket)
 }
 
-// A network that has port 5300 of 127.0.0.1 alone. It puts a free one in its place, and tells that.
+/// A network that has port 5300 of 127.0.0.1 alone. It puts a free one in its place, and tells that.
 #[derive(Drop)]
-struct Telling<'a, N> {
-    net: &'a N,
-    shared: &'a Shared,
+pub struct Telling<'a, N> {
+    pub net: &'a N,
+    pub shared: &'a Shared,
 }
 
 impl<'a, N: Net> Net for Telling<'a, N> {
@@ -66,7 +66,13 @@ impl<'a, N: Net> Net for Telling<'a, N> {
     type Listener = N::Listener;
 
     fn bind(&self, addr: SocketAddr) -> io::Result<N::Listener> {
-        self.net.bind(addr)
+        if addr != on_loopback(5300) {
+            return Err(io::Error::from(io::ErrorKind::AddrNotAvailable));
+        }
+        let listener = self.net.bind(on_loopback(0))?;
+        let port = listener.local_addr()?.port();
+        self.shared.port.store(u32::from(port), SeqCst);
+        Ok(listener)
     }
 
     fn connect(&self, addr: SocketAddr) -> io::Result<N::Stream> {
@@ -86,8 +92,8 @@ impl<'a, N: Net> Net for Telling<'a, N> {
 
 const TURNS: u32 = 10_000_000;
 
-// Where the server listens, if it does in time.
-fn server_at(shared: &Shared) -> Option<SocketAddr> {
+/// Where the server listens, if it does in time.
+pub fn server_at(shared: &Shared) -> Option<SocketAddr> {
     for _ in 0..TURNS {
         let port = shared.port.load(SeqCst);
         if port > 0 {
@@ -182,7 +188,7 @@ fn served<R: Threads + Wait + Sync, N: Net>(
     let mut sink = MemorySink::with_room(alloc, 8, Vec::new(alloc))?;
     let net = Telling { net, shared };
     let clock = Moved { shared };
-    let status = run_here(rt, alloc, &words, &mut source, &mut sink, net, clock);
+    let status = run_here(rt, alloc, &words, &mut source, &mut sink, &net, clock);
     Ok((status, Vec::from_slice(alloc, sink.written())?))
 }
 

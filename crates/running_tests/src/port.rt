@@ -2,6 +2,7 @@
 
 use super::replays::{source_of, words_of};
 use dname::OutOfMemory;
+use gateway::MemoryGateway;
 use outside_core::{FixedClock, MemorySink, OpenGate, UdpHarbor};
 use running::{Status, run};
 use std::alloc::Global;
@@ -23,6 +24,7 @@ fn served_at<R: Threads + Wait + Sync, N: Net + Drop>(
     let mut source = source_of(alloc, b"")?;
     let mut sink = MemorySink::with_room(alloc, 8, Vec::new(alloc))?;
     let mut harbor = UdpHarbor::over(net);
+    let mut gateway = MemoryGateway::with_connections(alloc, Vec::new(alloc), Vec::new(alloc))?;
     let clock = FixedClock { now: 0 };
     let status = run(
         rt,
@@ -33,6 +35,7 @@ fn served_at<R: Threads + Wait + Sync, N: Net + Drop>(
         &OpenGate,
         &mut harbor,
         &clock,
+        &mut gateway,
     );
     Ok((status, sink.written().len()))
 }

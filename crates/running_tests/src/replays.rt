@@ -1,6 +1,7 @@
 //! Runs of words over sources and sinks in memory.
 
 use dname::OutOfMemory;
+use gateway::MemoryGateway;
 use outside_core::{
     FixedClock, Gate, MemoryHarbor, MemorySink, MemorySource, OpenGate, Sink, Source,
 };
@@ -20,7 +21,7 @@ pub fn words_of(alloc: Global, text: &str) -> Result<Vec<String>, OutOfMemory> {
     Ok(words)
 }
 
-/// Runs the words over a harbor that has no links.
+/// Runs the words over a harbor that has no links, and a gateway without connections.
 pub fn run_words<R: Threads + Wait + Sync, S: Source, K: Sink, G: Gate>(
     rt: &R,
     alloc: Global,
@@ -30,8 +31,19 @@ pub fn run_words<R: Threads + Wait + Sync, S: Source, K: Sink, G: Gate>(
     gate: &G,
 ) -> Result<Status, OutOfMemory> {
     let mut harbor = MemoryHarbor::with_links(alloc, Vec::new(alloc), Vec::new(alloc))?;
+    let mut gateway = MemoryGateway::with_connections(alloc, Vec::new(alloc), Vec::new(alloc))?;
     let clock = FixedClock { now: 0 };
-    Ok(run(rt, alloc, words, source, sink, gate, &mut harbor, &clock))
+    Ok(run(
+        rt,
+        alloc,
+        words,
+        source,
+        sink,
+        gate,
+        &mut harbor,
+        &clock,
+        &mut gateway,
+    ))
 }
 
 pub fn source_of(alloc: Global, input: &[u8]) -> Result<MemorySource, OutOfMemory> {

@@ -5,6 +5,7 @@ ghost use Rattle.std.specs.List.{All};
 ghost use Rattle.outside_core.specs.MemoryLink.{IsFresh};
 
 use super::replays::{source_of, words_of};
+use gateway::MemoryGateway;
 use outside_core::{
     Datagram, Event, FixedClock, MemoryHarbor, MemoryLink, MemorySink, OpenGate, OutOfMemory, Peer,
 };
@@ -109,6 +110,7 @@ fn served<R: Threads + Wait + Sync>(
     let mut source = source_of(alloc, b"")?;
     let mut sink = MemorySink::with_room(alloc, 4096, Vec::new(alloc))?;
     let mut harbor = one_link(alloc, failing)?;
+    let mut gateway = MemoryGateway::with_connections(alloc, Vec::new(alloc), Vec::new(alloc))?;
     let clock = FixedClock { now: THEN };
     let status = run(
         rt,
@@ -119,6 +121,7 @@ fn served<R: Threads + Wait + Sync>(
         &OpenGate,
         &mut harbor,
         &clock,
+        &mut gateway,
     );
     Ok((status, harbor, sink.written().len()))
 }

@@ -141,6 +141,25 @@ const WALK_OPTIONS: [&str; 8] = [
     "redirec",
 ];
 
+const TCPS: [(&str, u16, u32); 3] = [
+    ("tcp|--listen|5300|--connections|1", 5300, 1),
+    ("tcp|--connections=100|--listen=65535", 65_535, 100),
+    ("tcp|--listen|0000000001|--connections=007", 1, 7),
+];
+
+// Options that are missing, twice or out of range, or that `serve` has.
+const TCP_OPTIONS: [&str; 9] = [
+    "tcp",
+    "tcp|--listen|5300",
+    "tcp|--connections|1",
+    "tcp|--listen|0|--connections|1",
+    "tcp|--listen|65536|--connections|1",
+    "tcp|--listen|5300|--connections|0",
+    "tcp|--listen|5300|--connections|101",
+    "tcp|--listen|5300|--connections|1|--connections|1",
+    "tcp|--listen|5300|--connections|1|--workers|1",
+];
+
 fn command_in(alloc: Global, text: &str) -> Result<Option<Command>, Fail> {
     let mut words = Vec::new(alloc);
     for word in text.split('|') {
@@ -223,6 +242,29 @@ fn words_ask_for_walks(rt: HostRuntime) -> Result<(), Fail> {
     let wrong = walk_otherwise(rt.alloc())?;
     assert!(rt; wrong.is_none(), "{wrong:?}");
     let wrong = taken(rt.alloc(), &WALK_OPTIONS)?;
+    assert!(rt; wrong.is_none(), "{wrong:?}");
+    Ok(())
+}
+
+// The words that are another command than is wanted, or none.
+fn tcp_otherwise(alloc: Global) -> Result<Option<&'static str>, Fail> {
+    for (text, listen, connections) in TCPS {
+        let wanted = Command::Tcp {
+            listen,
+            connections,
+        };
+        if command_in(alloc, text)? != Some(wanted) {
+            return Ok(Some(text));
+        }
+    }
+    Ok(None)
+}
+
+#[test]
+fn words_ask_for_connections(rt: HostRuntime) -> Result<(), Fail> {
+    let wrong = tcp_otherwise(rt.alloc())?;
+    assert!(rt; wrong.is_none(), "{wrong:?}");
+    let wrong = taken(rt.alloc(), &TCP_OPTIONS)?;
     assert!(rt; wrong.is_none(), "{wrong:?}");
     Ok(())
 }

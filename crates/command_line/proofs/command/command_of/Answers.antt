@@ -2,7 +2,7 @@ use Rattle.std.proofs.Common.{sym, ◌∙◌, refl}
 use Rattle.std.specs.Prelude.{string_bytes}
 use Rattle.std.proofs.lemmas.Bool.{false≢true}
 use Rattle.command_line.specs.Words.{texts}
-use Rattle.command_line.proofs.CommandLemmas.{is_none, no_texts, no_words, not_empty, replay_every, replay_read, selfrun_every, selfrun_read, serve_every, serve_read, texts_first, walk_every, walk_read}
+use Rattle.command_line.proofs.CommandLemmas.{is_none, no_texts, no_words, not_empty, replay_every, replay_read, selfrun_every, selfrun_read, serve_every, serve_read, tcp_every, tcp_read, texts_first, walk_every, walk_read}
 use Rattle.command_line.proofs.command.command_of.Goals as goal
 
 pub returns-then-is_empty-clause-every : goal.returns-then-is_empty-clause-every
@@ -45,6 +45,18 @@ returns-then-is_word-3-clause-every c =
     (texts_first c.args.words.now c.after_first-options.result.now c.index-words-0.result _ (not_empty c.args.words.now _ c.is_empty.ensures c.if-is_empty.false) c.index-words-0.is (sym (c.is_word-3.ensures.0 c.if-is_word-3.true)) c.after_first-options.ensures)
     c.serve_of.ensures.every
 
+pub returns-then-is_word-4-clause-read : goal.returns-then-is_word-4-clause-read
+returns-then-is_word-4-clause-read c =
+    tcp_read (texts c.args.words.now) (texts c.after_first-options.result.now) _
+    (texts_first c.args.words.now c.after_first-options.result.now c.index-words-0.result _ (not_empty c.args.words.now _ c.is_empty.ensures c.if-is_empty.false) c.index-words-0.is (sym (c.is_word-4.ensures.0 c.if-is_word-4.true)) c.after_first-options.ensures)
+    c.tcp_of.ensures.read
+
+pub returns-then-is_word-4-clause-every : goal.returns-then-is_word-4-clause-every
+returns-then-is_word-4-clause-every c =
+    tcp_every (texts c.args.words.now) (texts c.after_first-options.result.now) _
+    (texts_first c.args.words.now c.after_first-options.result.now c.index-words-0.result _ (not_empty c.args.words.now _ c.is_empty.ensures c.if-is_empty.false) c.index-words-0.is (sym (c.is_word-4.ensures.0 c.if-is_word-4.true)) c.after_first-options.ensures)
+    c.tcp_of.ensures.every
+
 pub returns-clause-read : goal.returns-clause-read
 returns-clause-read c =
     walk_read (texts c.args.words.now) (texts c.after_first-options.result.now) (string_bytes c.index-words-0.result) c.walk_of.result
@@ -55,5 +67,5 @@ pub returns-clause-every : goal.returns-clause-every
 returns-clause-every c = λ command are.
     walk_every (texts c.args.words.now) (texts c.after_first-options.result.now) (string_bytes c.index-words-0.result) c.walk_of.result
     (texts_first c.args.words.now c.after_first-options.result.now c.index-words-0.result _ (not_empty c.args.words.now _ c.is_empty.ensures c.if-is_empty.false) c.index-words-0.is refl c.after_first-options.ensures)
-    (λ e. false≢true (sym c.if-is_word.false ∙ c.is_word.ensures.1 e)) (λ e. false≢true (sym c.if-is_word-2.false ∙ c.is_word-2.ensures.1 e)) (λ e. false≢true (sym c.if-is_word-3.false ∙ c.is_word-3.ensures.1 e))
+    (λ e. false≢true (sym c.if-is_word.false ∙ c.is_word.ensures.1 e)) (λ e. false≢true (sym c.if-is_word-2.false ∙ c.is_word-2.ensures.1 e)) (λ e. false≢true (sym c.if-is_word-3.false ∙ c.is_word-3.ensures.1 e)) (λ e. false≢true (sym c.if-is_word-4.false ∙ c.is_word-4.ensures.1 e))
     c.walk_of.ensures.every command are

@@ -1,11 +1,11 @@
 use Rattle.std.proofs.Common.{◌≡◌, ◌⊎◌, ◌∙◌, sym, subst}
 use Rattle.command_line.specs.Words.{texts}
-use Rattle.command_line.specs.declared.command.Command.TheVariants.{Replay, Selfrun, Serve}
+use Rattle.command_line.specs.declared.command.Command.TheVariants.{Replay, Selfrun, Serve, Tcp}
 use Rattle.command_line.proofs.CommandLemmas.{replay_in_range, same_selfrun, selfrun_in_range}
 use Rattle.server.specs.Back.{CameBack, AllServedWhole}
 use Rattle.running.specs.Serve.{EndedInWant, ServedInPart}
 use Rattle.running.proofs.AskLemmas.{asks_chase, asks_follow, asks_redirect, asks_replay, none_asked}
-use Rattle.running.proofs.ServeLemmas.{found_means, none_found, few_datagrams, same_service, workers_in_range}
+use Rattle.running.proofs.ServeLemmas.{found_means, none_found, few_datagrams, same_service, same_tcp, workers_in_range}
 use Rattle.running.proofs.commands.run.Goals as goal
 
 pub run_replay-requires-after_bounds : goal.run_replay-requires-after_bounds
@@ -52,6 +52,12 @@ returns-in-Ok-None-clause-serve_ends g c = λ l u w d means. absurd (none_found 
 
 pub returns-in-Ok-None-clause-serve_complete : goal.returns-in-Ok-None-clause-serve_complete
 returns-in-Ok-None-clause-serve_complete g c = λ l u w d means calm. absurd (none_found c.in-Ok-None.field-0 (Serve l u w d) c.in-Ok-None.field-0-is (c.in-Ok-None.ensures.every (Serve l u w d) means))
+
+pub returns-in-Ok-None-clause-tcp_ends : goal.returns-in-Ok-None-clause-tcp_ends
+returns-in-Ok-None-clause-tcp_ends g c = λ l n means. absurd (none_found c.in-Ok-None.field-0 (Tcp l n) c.in-Ok-None.field-0-is (c.in-Ok-None.ensures.every (Tcp l n) means))
+
+pub returns-in-Ok-None-clause-tcp_complete : goal.returns-in-Ok-None-clause-tcp_complete
+returns-in-Ok-None-clause-tcp_complete g c = λ l n means input is source gateway. absurd (none_found c.in-Ok-None.field-0 (Tcp l n) c.in-Ok-None.field-0-is (c.in-Ok-None.ensures.every (Tcp l n) means))
 
 pub returns-in-Ok-Some-Replay-clause-good : goal.returns-in-Ok-Some-Replay-clause-good
 returns-in-Ok-Some-Replay-clause-good g c = λ answering workers asks.
@@ -220,3 +226,22 @@ returns-in-Ok-Some-Serve-clause-served_in_want g c = λ l u w d means ends.
 pub returns-in-Ok-Some-Serve-clause-unmoored : goal.returns-in-Ok-Some-Serve-clause-unmoored
 returns-in-Ok-Some-Serve-clause-unmoored g c = λ none. absurd (none c.in-Ok-Some-Serve.listen c.in-Ok-Some-Serve.upstream c.in-Ok-Some-Serve.workers c.in-Ok-Some-Serve.datagrams
     (found_means c.args.words.now c.in-Ok-Some-Serve.field-0 c.in-Ok-Some-Serve.field-0-0 (Serve c.in-Ok-Some-Serve.listen c.in-Ok-Some-Serve.upstream c.in-Ok-Some-Serve.workers c.in-Ok-Some-Serve.datagrams) c.in-Ok-Some-Serve.field-0-is c.in-Ok-Some-Serve.field-0-0-is c.in-Ok-Some-Serve.ensures.read))
+
+pub returns-in-Ok-Some-Tcp-clause-connected : goal.returns-in-Ok-Some-Tcp-clause-connected
+returns-in-Ok-Some-Tcp-clause-connected g c = λ l n means.
+    let (port, many) = same_tcp c.in-Ok-Some-Tcp.field-0-0 c.in-Ok-Some-Tcp.listen c.in-Ok-Some-Tcp.connections l n c.in-Ok-Some-Tcp.field-0-0-is (sym c.in-Ok-Some-Tcp.field-0-is ∙ c.in-Ok-Some-Tcp.ensures.every (Tcp l n) means) in
+    rw many at c.run_tcp.ensures.served
+
+pub returns-in-Ok-Some-Tcp-clause-connected_in_part : goal.returns-in-Ok-Some-Tcp-clause-connected_in_part
+returns-in-Ok-Some-Tcp-clause-connected_in_part g c = λ l n means.
+    let (port, many) = same_tcp c.in-Ok-Some-Tcp.field-0-0 c.in-Ok-Some-Tcp.listen c.in-Ok-Some-Tcp.connections l n c.in-Ok-Some-Tcp.field-0-0-is (sym c.in-Ok-Some-Tcp.field-0-is ∙ c.in-Ok-Some-Tcp.ensures.every (Tcp l n) means) in
+    rw many at c.run_tcp.ensures.in_part
+
+pub returns-in-Ok-Some-Tcp-clause-listens : goal.returns-in-Ok-Some-Tcp-clause-listens
+returns-in-Ok-Some-Tcp-clause-listens g c = λ l n means.
+    let (port, many) = same_tcp c.in-Ok-Some-Tcp.field-0-0 c.in-Ok-Some-Tcp.listen c.in-Ok-Some-Tcp.connections l n c.in-Ok-Some-Tcp.field-0-0-is (sym c.in-Ok-Some-Tcp.field-0-is ∙ c.in-Ok-Some-Tcp.ensures.every (Tcp l n) means) in
+    rw port at c.run_tcp.ensures.listens
+
+pub returns-in-Ok-Some-Tcp-clause-unopened : goal.returns-in-Ok-Some-Tcp-clause-unopened
+returns-in-Ok-Some-Tcp-clause-unopened g c = λ none. absurd (none c.in-Ok-Some-Tcp.listen c.in-Ok-Some-Tcp.connections
+    (found_means c.args.words.now c.in-Ok-Some-Tcp.field-0 c.in-Ok-Some-Tcp.field-0-0 (Tcp c.in-Ok-Some-Tcp.listen c.in-Ok-Some-Tcp.connections) c.in-Ok-Some-Tcp.field-0-is c.in-Ok-Some-Tcp.field-0-0-is c.in-Ok-Some-Tcp.ensures.read))

@@ -1,0 +1,7 @@
+//! Tests of `gateway`.
+#![tactic(auto)]
+
+#[cfg(test)]
+mod loopback;
+#[cfg(test)]
+mod memory;

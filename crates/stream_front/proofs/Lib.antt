@@ -1,0 +1,3 @@
+pub mod BufferLemmas
+pub mod FrontLemmas
+pub mod SplitLemmas

@@ -1,0 +1,5 @@
+pub mod Split
+pub mod Ahead
+pub mod Feed
+pub mod Read
+pub mod Buffer
