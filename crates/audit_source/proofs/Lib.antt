@@ -1,0 +1,5 @@
+pub mod SpellingLemmas
+pub mod PieceLemmas
+pub mod SourceLemmas
+pub mod TakingLemmas
+pub mod ReadingLemmas

@@ -1,0 +1,12 @@
+pub mod RowLemmas
+pub mod ReadingLemmas
+pub mod FitLemmas
+pub mod PairLemmas
+pub mod OrderLemmas
+pub mod FaultLemmas
+pub mod ClearLemmas
+pub mod CheckLemmas
+pub mod AnswerLemmas
+pub mod FirstLemmas
+pub mod FindLemmas
+pub mod UpheldLemmas

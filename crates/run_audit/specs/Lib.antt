@@ -1,0 +1,11 @@
+pub mod Spelled
+pub mod Clauses
+pub mod Replies
+pub mod Findings
+pub mod Upheld
+pub mod Version
+pub mod Pairs
+pub mod Order
+pub mod Faults
+pub mod Answering
+pub mod First

@@ -1,0 +1,27 @@
+//! An audit of a recorded run: whether its output fits its input, if not, by which clause, and whether a zone is as each record
+//! says that a reply uses.
+//!
+//! Of this crate's specs read `Spelled`, `Clauses`, `Replies`, `Findings` and `Upheld`, in this order; the others serve the
+//! inner steps.
+#![tactic(auto)]
+
+mod answering;
+mod audit_fault;
+mod auditing;
+mod checked;
+mod clause;
+mod fault;
+mod fault_at;
+mod finding;
+mod laws;
+mod order;
+mod pair;
+mod pair_check;
+mod reading;
+mod turns;
+
+pub use audit_fault::AuditFault;
+pub use auditing::audit;
+pub use clause::Clause;
+pub use finding::Finding;
+pub use laws::{clauses_say_fit, yes_is_upheld};

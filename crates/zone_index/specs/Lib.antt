@@ -1,0 +1,4 @@
+pub mod Entries
+pub mod Live
+pub mod Hashes
+pub mod Truth

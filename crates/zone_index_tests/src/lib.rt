@@ -1,0 +1,5 @@
+//! Tests of `zone_index`.
+#![tactic(auto)]
+
+#[cfg(test)]
+mod worked_zones;
