@@ -2,8 +2,6 @@
 #![tactic(auto)]
 
 #[cfg(test)]
-mod connections;
-#[cfg(test)]
 mod cuts;
 #[cfg(test)]
 mod ends;
@@ -27,7 +25,5 @@ mod replays;
 mod selfrun;
 #[cfg(test)]
 mod serve;
-#[cfg(test)]
-mod sockets;
 #[cfg(test)]
 mod walks;
