@@ -1,39 +1,15 @@
 //! Connections whose query comes in two pieces, cut in every place, and octet by octet.
 ghost use Rattle.std.specs.Prelude.{None};
 
-use super::replays::{source_of, words_of};
+use super::connections::{ANSWER, DENIED, QUERY, run_over};
 use dname::OutOfMemory;
 use gateway::Gateway;
-use outside_core::{Failed, FixedClock, MemoryHarbor, MemorySink, OpenGate, Sink, Source};
-use running::{Status, run};
+use outside_core::{Failed, Sink, Source};
+use running::Status;
 use std::alloc::Global;
 use std::sync::Wait;
 use std::test::Fail;
 use std::thread::Threads;
-
-const THEN: u32 = 1_000_000_010;
-
-// A frame with the SOA and the NSEC of a.example, which has A alone, and their signatures.
-const ANSWER: &[u8] = b"\
-    \x02\x00;\x9a\xca\x00\x00\xd2\
-    \x00\x01\x81\xa0\x00\x01\x00\x00\x00\x04\x00\x00\
-    \x01a\x07example\x00\x00\x10\x00\x01\
-    \x07example\x00\x00\x06\x00\x01\x00\x00\x0e\x10\x00\x16\x00\x00\x00\x00\x00\x01\x00\x00\x0e\x10\x00\x00\x02X\x00\x01Q\x80\x00\x00\x01,\
-    \x07example\x00\x00.\x00\x01\x00\x00\x0e\x10\x00\x1f\x00\x06\x0d\x01\x00\x00\x0e\x10w5\x94\x005\xa4\xe9\x00\x00\x01\x07example\x00ZZZZ\
-    \x01a\x07example\x00\x00/\x00\x01\x00\x00\x0e\x10\x00\x13\x01b\x07example\x00\x00\x06@\x00\x00\x00\x00\x03\
-    \x01a\x07example\x00\x00.\x00\x01\x00\x00\x0e\x10\x00\x1f\x00/\x0d\x02\x00\x00\x0e\x10w5\x94\x005\xa4\xe9\x00\x00\x01\x07example\x00ZZZZ";
-
-// A query for A.Example TXT, after its length.
-const QUERY: &[u8] = b"\x00\x1b\
-    \x124\x01\x00\x00\x01\x00\x00\x00\x00\x00\x00\
-    \x01A\x07Example\x00\x00\x10\x00\x01";
-
-// There is no data, after the reply's length: the SOA, with its MINIMUM as TTL (RFC 2308, section 5).
-const DENIED: &[u8] = b"\x00D\
-    \x124\x81\x80\x00\x01\x00\x00\x00\x01\x00\x00\
-    \x01A\x07Example\x00\x00\x10\x00\x01\
-    \x07example\x00\x00\x06\x00\x01\x00\x00\x01,\
-    \x00\x16\x00\x00\x00\x00\x00\x01\x00\x00\x0e\x10\x00\x00\x02X\x00\x01Q\x80\x00\x00\x01,";
 
 // Gives the query up to the cut and then the rest, so many octets a call at most.
 #[derive(Debug, Drop)]
@@ -147,27 +123,12 @@ fn served<R: Threads + Wait + Sync>(
     rt: &R,
     alloc: Global,
 ) -> Result<(Status, usize, Option<usize>), OutOfMemory> {
-    let words = words_of(alloc, "tcp --listen 53 --connections 30")?;
-    let mut source = source_of(alloc, ANSWER)?;
-    let mut sink = MemorySink::with_room(alloc, 0, Vec::new(alloc))?;
-    let mut harbor = MemoryHarbor::with_links(alloc, Vec::new(alloc), Vec::new(alloc))?;
     let mut gateway = Cuts {
         port: None,
         next: 0,
         wrong: None,
     };
-    let clock = FixedClock { now: THEN };
-    let status = run(
-        rt,
-        alloc,
-        &words,
-        &mut source,
-        &mut sink,
-        &OpenGate,
-        &mut harbor,
-        &clock,
-        &mut gateway,
-    );
+    let status = run_over(rt, alloc, ANSWER, 30, &mut gateway)?;
     Ok((status, gateway.next, gateway.wrong))
 }
 

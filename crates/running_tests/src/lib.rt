@@ -2,6 +2,8 @@
 #![tactic(auto)]
 
 #[cfg(test)]
+mod connections;
+#[cfg(test)]
 mod cuts;
 #[cfg(test)]
 mod ends;
@@ -25,5 +27,7 @@ mod replays;
 mod selfrun;
 #[cfg(test)]
 mod serve;
+#[cfg(test)]
+mod sockets;
 #[cfg(test)]
 mod walks;
