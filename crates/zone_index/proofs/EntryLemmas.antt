@@ -2,8 +2,8 @@
 use Rattle.std.proofs.Common.{◌≡◌, ℕ, ◌↔◌, ◌≤◌, ◌-◌, ◌==◌, List, [], ◌∷◌, length, map, take, drop, get_or, refl, sym, ◌∙◌, ap, subst, arith, ⊎_elim, ◌+◌, Bool, false, true}
 use Rattle.std.specs.Prelude.{not}
 use Rattle.std.specs.List.{Contains}
-use Rattle.std.specs.List.Sorted.{IsSorted, IsNonDecreasingBy}
-use Rattle.std.specs.Ordering.{nat_cmp, is_lt, ordering_then, ordering_index}
+use Rattle.std.specs.List.Sorted.{IsSorted}
+use Rattle.std.specs.Ordering.{nat_cmp, is_lt, ordering_then}
 use Rattle.std.specs.declared.cmp.Ordering.{Ordering}
 use Rattle.std.specs.declared.cmp.Ordering.TheVariants.{Less, Equal, Greater}
 use Rattle.std.specs.Cmp.{IsTotalOrder}
@@ -22,8 +22,8 @@ use Rattle.std.specs.List.{All}
 use Rattle.std.specs.Prelude.{IsTrue, ◌<◌, ◌++◌}
 use Rattle.std.proofs.lemmas.Bool.{false≢true, cases_lt}
 use Rattle.std.proofs.lemmas.Bool.Decides.{Decides-eqb, Decides-not}
-use Rattle.std.proofs.lemmas.List.{map-append, length-append, length-drop}
-use Rattle.std.proofs.lemmas.List.Elements.{All-push}
+use Rattle.std.proofs.lemmas.List.{map-append, length-append, length-drop, length-take, get_or-take, get_or-drop}
+use Rattle.std.proofs.lemmas.List.Elements.{All-push, Contains-get_or}
 use Rattle.std.proofs.lemmas.List.Prefix.{end_rest}
 use Rattle.dname.proofs.UnderLemmas.{under_drop, under_is_longer}
 use Rattle.zone_index.specs.Live.{IsBarred}
@@ -38,11 +38,11 @@ use Rattle.zone_meaning.proofs.BarLemmas.{bar_owner}
 use Rattle.zone_meaning.proofs.UnbarredLemmas.{owner_under}
 use Rattle.zone_meaning.proofs.SameRecords.{same_zone}
 use Rattle.zone_meaning.proofs.ZoneTests.{record_at}
-use Rattle.zone_index.specs.Entries.{record_of, record_cmp, entry_cmp, versus, zone_in, AreIndexed, IsSought, IsRun}
+use Rattle.zone_index.specs.Entries.{record_of, record_cmp, entry_cmp, versus, zone_in, AreIndexed, AreOwners, IsSought, IsRun, Rises}
 use Rattle.zone_index.specs.declared.entry.Entry.{Entry}
 use Rattle.zone_index.specs.declared.sought.Sought.{Sought}
 use Rattle.zone_index.specs.declared.sought.Sought.TheVariants.{AtOwner, OfType, WithData}
-use Rattle.zone_index.proofs.SearchLemmas.{Keeps, keeps, front_keeps, then_keeps, total_carries, IsBefore, IsUpto, in_order, run_has}
+use Rattle.zone_index.proofs.SearchLemmas.{keeps, front_keeps, then_keeps, total_carries, IsBefore, IsUpto, in_order, run_has}
 
 pub record_total : IsTotalOrder record_cmp
 record_total = then_total (on_total (λ (r : ZoneRecord). r.owner) canonical_total)
@@ -51,21 +51,32 @@ record_total = then_total (on_total (λ (r : ZoneRecord). r.owner) canonical_tot
 pub entry_total : IsTotalOrder entry_cmp
 entry_total = on_total record_of record_total
 
--- a later record doesn't compare lower with those that are looked for
-later_keeps : (sought : Sought) (earlier later : ZoneRecord) → Keeps (record_cmp later earlier) (versus sought earlier) (versus sought later)
-later_keeps (AtOwner owner) earlier later =
-    front_keeps _ _ _ _ (total_carries canonical_cmp canonical_total earlier.owner later.owner owner.now)
-later_keeps (OfType owner rtype) earlier later =
-    then_keeps _ _ _ _ _ _ (total_carries canonical_cmp canonical_total earlier.owner later.owner owner.now)
-    (front_keeps _ _ _ _ (total_carries nat_cmp nat_cmp_total earlier.rtype later.rtype rtype))
-later_keeps (WithData owner rtype octets) earlier later =
-    then_keeps _ _ _ _ _ _ (total_carries canonical_cmp canonical_total earlier.owner later.owner owner.now)
-    (then_keeps _ _ _ _ _ _ (total_carries nat_cmp nat_cmp_total earlier.rtype later.rtype rtype)
-    (keeps _ _ _ (total_carries (slice_cmp nat_cmp) nat_list_cmp_total earlier.octets later.octets octets.now)))
+-- along entries in order, a later one doesn't compare lower with an owner's
+pub owners_rise : (owner : Bor (List Label)) (entries : List Entry) → IsSorted entry_cmp entries → Rises (AtOwner owner) entries
+owners_rise owner entries sorted i j d le lt =
+    front_keeps _ _ _ _ (total_carries canonical_cmp canonical_total (get_or entries i d).owner (get_or entries j d).owner owner.now)
+    (sorted_far (λ x y. is_lt (entry_cmp x y)) (ranks_by entry_total (λ y. y)) entries sorted i j d le lt)
 
-pub entries_rise : (sought : Sought) (entries : List Entry) → IsSorted entry_cmp entries → IsNonDecreasingBy (λ e. ordering_index (versus sought (record_of e))) entries
-entries_rise sought entries sorted i j d le lt =
-    later_keeps sought (record_of (get_or entries i d)) (record_of (get_or entries j d)) (sorted_far (λ x y. is_lt (entry_cmp x y)) (ranks_by entry_total (λ y. y)) entries sorted i j d le lt)
+-- along one owner's, with those of a type, and with one of it
+module _ (zone : Zone) (owner : List Label) (entries : List Entry) (all : AreOwners zone owner entries) where
+  owned : (i : ℕ) (d : Entry) → i < length entries → (get_or entries i d).owner ≡ owner
+  owned i d lt = ((all.finds (record_of (get_or entries i d))).0 (into_map record_of entries (get_or entries i d) (Contains-get_or entries i d lt))).1
+
+  later : (i j : ℕ) (d : Entry) → i ≤ j → j < length entries → is_lt (ordering_then (nat_cmp (get_or entries j d).rtype (get_or entries i d).rtype) (slice_cmp nat_cmp (get_or entries j d).octets (get_or entries i d).octets)) ≡ false
+  later i j d le lt =
+      subst (λ o. is_lt (ordering_then o (ordering_then (nat_cmp (get_or entries j d).rtype (get_or entries i d).rtype) (slice_cmp nat_cmp (get_or entries j d).octets (get_or entries i d).octets))) ≡ false)
+      (canonical_same (get_or entries j d).owner (get_or entries i d).owner (owned j d lt ∙ sym (owned i d (omega (arith, le, lt)))))
+      (sorted_far (λ x y. is_lt (entry_cmp x y)) (ranks_by entry_total (λ y. y)) entries all.sorted i j d le lt)
+
+  pub types_rise : (rtype : ℕ) → Rises (OfType rtype) entries
+  types_rise rtype i j d le lt =
+      front_keeps _ _ _ _ (total_carries nat_cmp nat_cmp_total (get_or entries i d).rtype (get_or entries j d).rtype rtype) (later i j d le lt)
+
+  pub data_rise : (rtype : ℕ) (octets : Bor (List ℕ)) → Rises (WithData rtype octets) entries
+  data_rise rtype octets i j d le lt =
+      then_keeps _ _ _ _ _ _ (total_carries nat_cmp nat_cmp_total (get_or entries i d).rtype (get_or entries j d).rtype rtype)
+      (keeps _ _ _ (total_carries (slice_cmp nat_cmp) nat_list_cmp_total (get_or entries i d).octets (get_or entries j d).octets octets.now))
+      (later i j d le lt)
 
 both_tie : (a b : Ordering) → a ≡ Equal → b ≡ Equal → ordering_then a b ≡ Equal
 both_tie Less b p q = p
@@ -75,15 +86,14 @@ both_tie Greater b p q = p
 -- those that are looked for are those that tie
 pub sought_ties : (sought : Sought) (r : ZoneRecord) → (versus sought r ≡ Equal) ↔ IsSought sought r
 sought_ties (AtOwner owner) r = (canonical_equal r.owner owner.now, canonical_same r.owner owner.now)
-sought_ties (OfType owner rtype) r = (
-  λ tie. let h = both_equal _ _ tie in (canonical_equal r.owner owner.now h.0, nat_cmp-IsAntisymmetric r.rtype rtype h.1),
-  λ is. both_tie _ _ (canonical_same r.owner owner.now is.0) (subst (λ t. nat_cmp r.rtype t ≡ Equal) is.1 (tied_itself nat_cmp_total r.rtype)),
+sought_ties (OfType rtype) r = (
+  λ tie. nat_cmp-IsAntisymmetric r.rtype rtype tie,
+  λ is. subst (λ t. nat_cmp r.rtype t ≡ Equal) is (tied_itself nat_cmp_total r.rtype),
 )
-sought_ties (WithData owner rtype octets) r = (
-  λ tie. let h = both_equal _ _ tie in let g = both_equal _ _ h.1 in (canonical_equal r.owner owner.now h.0, nat_cmp-IsAntisymmetric r.rtype rtype g.0, slice_cmp-IsAntisymmetric nat_cmp-IsAntisymmetric r.octets octets.now g.1),
-  λ is. both_tie _ _ (canonical_same r.owner owner.now is.0)
-      (both_tie _ _ (subst (λ t. nat_cmp r.rtype t ≡ Equal) is.1 (tied_itself nat_cmp_total r.rtype))
-      (subst (λ (o : List ℕ). slice_cmp nat_cmp r.octets o ≡ Equal) is.2 (tied_itself nat_list_cmp_total r.octets))),
+sought_ties (WithData rtype octets) r = (
+  λ tie. let g = both_equal _ _ tie in (nat_cmp-IsAntisymmetric r.rtype rtype g.0, slice_cmp-IsAntisymmetric nat_cmp-IsAntisymmetric r.octets octets.now g.1),
+  λ is. both_tie _ _ (subst (λ t. nat_cmp r.rtype t ≡ Equal) is.0 (tied_itself nat_cmp_total r.rtype))
+      (subst (λ (o : List ℕ). slice_cmp nat_cmp r.octets o ≡ Equal) is.1 (tied_itself nat_list_cmp_total r.octets)),
 )
 
 -- of a run's entries, the records
@@ -98,7 +108,30 @@ run_records sought zone entries run same is r = (
       subst (Contains (map record_of run)) e.2 (into_map record_of run e.0 ((is e.0).1 (e.1, subst (IsSought sought) (sym e.2) has.1))),
 )
 
+-- the run of an owner
+pub owners_of : (owner : Bor (List Label)) (zone : Zone) (entries run : List Entry) → zone.records ≡ map record_of entries → IsRun (AtOwner owner) entries run → IsSorted entry_cmp run → AreOwners zone owner.now run
+owners_of owner zone entries run same is sorted = record { finds = run_records (AtOwner owner) zone entries run same is; sorted = sorted }
+
+-- a run of an owner's entries has those of the zone's records that are the owner's and are looked for
+pub within_run : (sought : Sought) (zone : Zone) (owner : List Label) (entries run : List Entry) → AreOwners zone owner entries → IsRun sought entries run → (r : ZoneRecord) → Contains (map record_of run) r ↔ (Contains zone.records r × ((r.owner ≡ owner) × IsSought sought r))
+within_run sought zone owner entries run all is r =
+    let found = run_records sought (zone_in [] entries) entries run refl is r in (
+      λ has. let h = found.0 has in let g = (all.finds r).0 h.0 in (g.0, (g.1, h.1)),
+      λ has. found.1 ((all.finds r).1 (has.0, has.1.0), has.1.1),
+    )
+
 -- ---- the places of a run
+
+pub part_sorted : (entries run : List Entry) (from upto : ℕ) → upto ≤ length entries → from ≤ upto → run ≡ take (upto - from) (drop from entries) → IsSorted entry_cmp entries → IsSorted entry_cmp run
+part_sorted entries run from upto bound order is sorted =
+    subst (IsSorted entry_cmp) (sym is) (λ k d low lt.
+    let short : k + 1 < upto - from = omega (arith, lt, length-take (upto - from) (drop from entries), length-drop from entries, bound, order) in
+    subst (λ (e : Entry). is_lt (entry_cmp (get_or (take (upto - from) (drop from entries)) (k + 1) d) e) ≡ false) (sym (at k d (omega (arith, short))))
+    (subst (λ (e : Entry). is_lt (entry_cmp e (get_or entries (from + k) d)) ≡ false) (ap (λ n. get_or entries n d) {x = from + k + 1} {y = from + (k + 1)} (omega arith) ∙ sym (at (k + 1) d short))
+    (sorted (from + k) d (omega arith) (omega (arith, short, bound, order)))))
+  where
+    at : (n : ℕ) (d : Entry) → n < upto - from → get_or (take (upto - from) (drop from entries)) n d ≡ get_or entries (from + n) d
+    at n d lt = get_or-take (upto - from) (drop from entries) n d lt ∙ get_or-drop from entries n d
 
 no_places : (sought : Sought) (from upto : ℕ) → from ≤ 0 → from ≤ upto
 no_places sought from upto bound = omega (arith, bound)
@@ -172,11 +205,11 @@ module _ (zone : Zone) (run : List Entry) (empty : Bool) (told : empty ≡ (leng
         λ has. h.1 (record { owner = owner; rtype = has.0; octets = has.1.0 }, has.1.1, refl),
       )
 
-  pub data_there : (owner : List Label) (rtype : ℕ) (octets : List ℕ) → ((r : ZoneRecord) → Contains (map record_of run) r ↔ (Contains zone.records r × ((r.owner ≡ owner) × (r.rtype ≡ rtype) × (r.octets ≡ octets)))) → (not empty ≡ true) ↔ HasData zone owner rtype octets
+  pub data_there : (owner : List Label) (rtype : ℕ) (octets : List ℕ) → ((r : ZoneRecord) → Contains (map record_of run) r ↔ (Contains zone.records r × ((r.owner ≡ owner) × ((r.rtype ≡ rtype) × (r.octets ≡ octets))))) → (not empty ≡ true) ↔ HasData zone owner rtype octets
   data_there owner rtype octets finds =
-      let h = found (λ r. (r.owner ≡ owner) × (r.rtype ≡ rtype) × (r.octets ≡ octets)) finds in (
-        λ some. let g = h.0 some in subst (Contains zone.records) (record_at g.0 owner rtype g.2.0 g.2.1 ∙ ap (λ (o : List ℕ). let x : ZoneRecord = record { owner = owner; rtype = rtype; octets = o } in x) g.2.2) g.1,
-        λ has. h.1 (record { owner = owner; rtype = rtype; octets = octets }, has, (refl, refl, refl)),
+      let h = found (λ r. (r.owner ≡ owner) × ((r.rtype ≡ rtype) × (r.octets ≡ octets))) finds in (
+        λ some. let g = h.0 some in subst (Contains zone.records) (record_at g.0 owner rtype g.2.0 g.2.1.0 ∙ ap (λ (o : List ℕ). let x : ZoneRecord = record { owner = owner; rtype = rtype; octets = o } in x) g.2.1.1) g.1,
+        λ has. h.1 (record { owner = owner; rtype = rtype; octets = octets }, has, (refl, (refl, refl))),
       )
 
 -- ---- one more record

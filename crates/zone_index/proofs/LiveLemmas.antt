@@ -2,7 +2,7 @@
 use Rattle.std.proofs.Common.{◌≡◌, ℕ, ◌+◌, ◌-◌, ◌<◌, ◌≤◌, ◌↔◌, zero, suc, List, [], ◌∷◌, ◌++◌, length, get_or, refl, sym, ◌∙◌, ap, subst, arith, ⊎_elim, false}
 use Rattle.std.specs.List.{Contains}
 use Rattle.std.proofs.lemmas.Bool.{cases_lt, false≢true}
-use Rattle.std.proofs.lemmas.List.{get_or_default}
+use Rattle.std.proofs.lemmas.List.{get_or_default, get_or_append_left, get_or_push, length-append}
 use Rattle.std.proofs.lemmas.List.Elements.{Contains-push, Contains-push_cases, Contains-append_left}
 use Rattle.std.specs.List.Sorted.{IsSorted, IsPermutation}
 use Rattle.std.specs.Ordering.{is_lt, is_le}
@@ -12,10 +12,14 @@ use Rattle.facts.proofs.Maps.{from_map}
 use Rattle.dname.specs.Name.{Label, canonical_cmp}
 use Rattle.dname.specs.Order.{canonical_total, canonical_equal}
 use Rattle.zone_meaning.specs.Zone.{Zone, ZoneRecord, IsLive, IsOwner}
-use Rattle.zone_index.specs.Entries.{record_of, zone_in, IsRepeated}
-use Rattle.zone_index.specs.Live.{AreLive}
+use Rattle.zone_index.specs.Entries.{record_of, zone_in, AreOwners, AreRuns, IsRepeated}
+use Rattle.zone_index.specs.Live.{AreLive, ArePlaces, IsNextOf}
 use Rattle.zone_index.specs.declared.entry.Entry.{Entry}
 use Rattle.zone_index.proofs.SearchLemmas.{IsUpto, tied_from}
+use Rattle.zone_index.proofs.RingLemmas.{next_at, one_next}
+use Rattle.dname.specs.Arc.{IsInside}
+use Rattle.dname.proofs.SameLemmas.{same_or_not}
+use denote.Ref.{Bor}
 
 -- of the owners of the first entries, the live ones were met, and no other
 pub record HasMet (zone : Zone) (entries : List Entry) (at : ℕ) (names : List (List Label)) : Type 0 where
@@ -102,3 +106,66 @@ live_sorted zone names sorted each moved order = record {
 pub positive : (n : ℕ) → (n ≡ 0 → ⊥) → 0 < n
 positive zero none = absurd (none refl)
 positive (suc n) none = omega arith
+
+-- ---- the places of a name and of the next
+
+pub places_are : (names : List (List Label)) → IsSorted canonical_cmp names → (name : List Label) (upto after : ℕ) → IsUpto (λ n. canonical_cmp n name) names upto → upto ≤ length names → 0 < upto → (last : List Label) → last ≡ get_or names (upto - 1) last → last ≡ name → (upto < length names → after ≡ upto) → (length names ≤ upto → after ≡ 0) → ArePlaces names name (upto - 1) after
+places_are names sorted name upto after point bound some last is same within past = record {
+  within = omega (arith, bound, some);
+  here = λ d. sym (is ∙ get_or_default names (upto - 1) last d (omega (arith, bound, some))) ∙ same;
+  after_within = ⊎_elim (λ (less : upto < length names). omega (arith, within less, less)) (λ (long : length names ≤ upto). omega (arith, past long, bound, some)) (cases_lt upto (length names));
+  next = λ d.
+      let next = next_at canonical_cmp canonical_total canonical_equal (λ (n : List Label). n) names sorted name upto point d after (omega (arith, bound, some)) within past in
+      record { there = subst (Contains names) next.there.2 next.there.1; none = next.none };
+}
+
+-- the name there is the one that ends an arc with none inside
+pub ends_by : (names : List (List Label)) (name next end : List Label) (at after : ℕ) → ArePlaces names name at after → ((d : List Label) → next ≡ get_or names after d) → (next ≡ end) ↔ (Contains names end × ((between : List Label) → Contains names between → IsInside canonical_cmp name end between → ⊥))
+ends_by names name next end at after places here = (
+  λ same. (subst (Contains names) same is.there, λ between has inside. is.none between has (subst (λ n. IsInside canonical_cmp name n between) (sym same) inside)),
+  λ ends. sym (one_next canonical_cmp canonical_total canonical_equal name next end (λ x. same_or_not x next) (is.none end ends.0) (ends.1 next is.there)),
+)
+  where
+    is : IsNextOf names name next
+    is = subst (IsNextOf names name) (sym (here [])) (places.next [])
+
+pub place_there : (names : List (List Label)) (name : List Label) (at after : ℕ) → ArePlaces names name at after → Contains names name
+place_there names name at after places = (at, places.within, places.here name)
+
+-- ---- the entries of each
+
+-- of the first names, each has its entries
+pub record HasRuns (zone : Zone) (names : List (List Label)) (at : ℕ) (runs : List (Bor (List Entry))) : Type 0 where
+  pub long : length runs ≡ at
+  pub each : (k : ℕ) (d : List Label) (e : Bor (List Entry)) → k < at → AreOwners zone (get_or names k d) (get_or runs k e).now
+
+pub runs_none : (zone : Zone) (names : List (List Label)) → HasRuns zone names 0 []
+runs_none zone names = record { long = refl; each = λ k d e lt. absurd (omega (arith, lt)) }
+
+pub runs_more : (zone : Zone) (names : List (List Label)) (at : ℕ) (runs more : List (Bor (List Entry))) (run : Bor (List Entry)) (name : List Label) → HasRuns zone names at runs → ((d : List Label) → name ≡ get_or names at d) → AreOwners zone name run.now → more ≡ runs ++ run ∷ [] → HasRuns zone names (at + 1) more
+runs_more zone names at runs more run name done is owners pushed = record {
+  long = omega (arith, ap length pushed, length-append runs (run ∷ []), done.long);
+  each = λ k d e lt. subst (λ (rs : List (Bor (List Entry))). AreOwners zone (get_or names k d) (get_or rs k e).now) (sym pushed) (⊎_elim
+      (λ (less : k < at). subst (λ (r : Bor (List Entry)). AreOwners zone (get_or names k d) r.now) (sym (get_or_append_left runs (run ∷ []) e k (omega (arith, less, done.long)))) (done.each k d e less))
+      (λ (le : at ≤ k).
+      let same : at ≡ k = omega (arith, le, lt) in
+      subst (λ n. AreOwners zone (get_or names n d) (get_or (runs ++ run ∷ []) n e).now) same
+      (subst (λ (r : Bor (List Entry)). AreOwners zone (get_or names at d) r.now) (sym (last_of e)) (subst (λ (n : List Label). AreOwners zone n run.now) (is d) owners)))
+      (cases_lt k at));
+}
+  where
+    last_of : (e : Bor (List Entry)) → get_or (runs ++ run ∷ []) at e ≡ run
+    last_of e = get_or_push runs run e at done.long
+
+pub runs_all : (zone : Zone) (names : List (List Label)) (at : ℕ) (runs : List (Bor (List Entry))) → HasRuns zone names at runs → at ≤ length names → length names ≤ at → AreRuns zone names runs
+runs_all zone names at runs done end over = record {
+  long = omega (arith, done.long, end, over);
+  each = λ k d e lt. done.each k d e (omega (arith, done.long, lt));
+}
+
+module _ (zone : Zone) (names : List (List Label)) (runs : List (Bor (List Entry))) (name : List Label) (at after : ℕ) (are : AreRuns zone names runs) (places : ArePlaces names name at after) where
+  pub run_there : at < length runs
+  run_there = omega (arith, places.within, are.long)
+
+  pub run_of : (e : Bor (List Entry)) → AreOwners zone name (get_or runs at e).now
+  run_of e = subst (λ (n : List Label). AreOwners zone n (get_or runs at e).now) (places.here []) (are.each at [] e run_there)

@@ -24,6 +24,20 @@ module _ {K : Type 0} (cmp : K → K → Ordering) (total : IsTotalOrder cmp) (t
   next_inside : (a end next value : K) → next ≢ a → IsInside cmp a end value → (IsInside cmp a next value → ⊥) → IsInside cmp a end next
   next_inside a end next value apart inside first = grind (arith, common_steps, total, ties)
 
+  -- another value that isn't before the next one ends an arc that has the next one inside
+  next_within : (a next end : K) → next ≢ a → end ≢ next → (IsInside cmp a next end → ⊥) → IsInside cmp a end next
+  next_within a next end apart other first = grind (arith, common_steps, total, ties)
+
+  -- so only the next one ends an arc that has it not inside
+  pub one_next : (a next end : K) → ((x : K) → (x ≡ next) ⊎ (x ≢ next)) → (IsInside cmp a next end → ⊥) → (IsInside cmp a end next → ⊥) → end ≡ next
+  one_next a next end either first last = ⊎_elim
+      (λ (same : end ≡ next). same)
+      (λ (other : end ≢ next). absurd (⊎_elim
+      (λ (at : a ≡ next). first (subst (λ n. IsInside cmp a n end) at (whole_ring cmp total ties a end (λ e. other (e ∙ at)))))
+      (λ (apart : a ≢ next). last (next_within a next end (λ e. apart (sym e)) other first))
+      (either a)))
+      (either end)
+
   -- behind a, what isn't above the next value isn't inside the arc to it
   none_up_to : (a next value : K) → cmp a next ≡ Less → (cmp a value ≢ Less) ⊎ (cmp value next ≢ Less) → IsInside cmp a next value → ⊥
   none_up_to a next value above out inside = grind (arith, common_steps, total, ties)
@@ -96,13 +110,17 @@ module _ {K : Type 0} (cmp : K → K → Ordering) (total : IsTotalOrder cmp) (t
             (subst (λ y. IsInside cmp a (key (get_or xs 0 d)) (key y)) (sym has.2 ∙ is) inside);
       }
 
+      -- either of them stands where the search tells
+      pub next_at : (d : X) (at : ℕ) → 0 < length xs → (upto < length xs → at ≡ upto) → (length xs ≤ upto → at ≡ 0) → IsNext a (key (get_or xs at d))
+      next_at d at some within past = ⊎_elim
+          (λ (less : upto < length xs). subst (λ n. IsNext a (key (get_or xs n d))) (sym (within less)) (next_behind d less))
+          (λ (long : length xs ≤ upto). subst (λ n. IsNext a (key (get_or xs n d))) (sym (past long)) (next_first d long some))
+          (cases_lt upto (length xs))
+
       -- so an arc from a has none inside where it ends at or before the next
       pub none_inside_by : (d : X) (at : ℕ) (end : K) → 0 < length xs → (upto < length xs → at ≡ upto) → (length xs ≤ upto → at ≡ 0) → (same : Bool) → Decides same (key (get_or xs at d) ≡ a) → (arc : Bool) → arc ≡ arc_has cmp a end (key (get_or xs at d)) → (same || not arc ≡ true) ↔ ((x : X) → Contains xs x → IsInside cmp a end (key x) → ⊥)
       none_inside_by d at end some within past same told arc has =
-          let next : IsNext a (key (get_or xs at d)) = ⊎_elim
-          (λ (less : upto < length xs). subst (λ n. IsNext a (key (get_or xs n d))) (sym (within less)) (next_behind d less))
-          (λ (long : length xs ≤ upto). subst (λ n. IsNext a (key (get_or xs n d))) (sym (past long)) (next_first d long some))
-          (cases_lt upto (length xs)) in
+          let next : IsNext a (key (get_or xs at d)) = next_at d at some within past in
           let tells = none_inside a (key (get_or xs at d)) end next in
           let inside = inside_arc cmp total ties a end (key (get_or xs at d)) in
           let either = Decides-or same (not arc) told (Decides-not {P = arc ≡ true} arc (λ e. e, λ e. e)) in (

@@ -1,10 +1,11 @@
 -- A zone's records in an order in which they are found by search. No public clause cites this module.
-use Rattle.std.specs.Prelude.{◌≡◌, ◌↔◌, ◌<◌, ◌-◌, ℕ, List, get_or, map}
+use Rattle.std.specs.Prelude.{◌≡◌, ◌↔◌, ◌<◌, ◌-◌, ℕ, List, length, get_or, map}
 use Rattle.std.specs.List.{Contains}
-use Rattle.std.specs.List.Sorted.{IsSorted}
-use Rattle.std.specs.Ordering.{nat_cmp, ordering_then}
+use Rattle.std.specs.List.Sorted.{IsSorted, IsNonDecreasingBy}
+use Rattle.std.specs.Ordering.{nat_cmp, ordering_index, ordering_then}
 use Rattle.std.specs.Cmp.Lexicographic.{slice_cmp}
 use Rattle.std.specs.declared.cmp.Ordering.{Ordering}
+use denote.Ref.{Bor}
 use Rattle.dname.specs.Name.{Label, canonical_cmp}
 use Rattle.zone_meaning.specs.Zone.{Zone, ZoneRecord, IsZone, IsProofType, HasType}
 use Rattle.zone_meaning.specs.Consistent.{IsParentType}
@@ -34,19 +35,42 @@ pub record AreIndexed (apex : List Label) (entries : List Entry) : Type 0 where
 -- how a record compares with those that are looked for
 abbrev pub versus : Sought → ZoneRecord → Ordering
 versus (AtOwner owner) r = canonical_cmp r.owner owner.now
-versus (OfType owner rtype) r = ordering_then (canonical_cmp r.owner owner.now) (nat_cmp r.rtype rtype)
-versus (WithData owner rtype octets) r =
-    ordering_then (canonical_cmp r.owner owner.now) (ordering_then (nat_cmp r.rtype rtype) (slice_cmp nat_cmp r.octets octets.now))
+versus (OfType rtype) r = nat_cmp r.rtype rtype
+versus (WithData rtype octets) r = ordering_then (nat_cmp r.rtype rtype) (slice_cmp nat_cmp r.octets octets.now)
 
 -- the record is one of those that are looked for
 abbrev pub IsSought : Sought → ZoneRecord → Type 0
 IsSought (AtOwner owner) r = r.owner ≡ owner.now
-IsSought (OfType owner rtype) r = (r.owner ≡ owner.now) × (r.rtype ≡ rtype)
-IsSought (WithData owner rtype octets) r = (r.owner ≡ owner.now) × (r.rtype ≡ rtype) × (r.octets ≡ octets.now)
+IsSought (OfType rtype) r = r.rtype ≡ rtype
+IsSought (WithData rtype octets) r = (r.rtype ≡ rtype) × (r.octets ≡ octets.now)
+
+-- along the entries no record comes before those that are looked for again
+abbrev pub Rises : Sought → List Entry → Type 0
+Rises sought entries = IsNonDecreasingBy (λ e. ordering_index (versus sought (record_of e))) entries
 
 -- the run is all those entries, and no other
 abbrev pub IsRun : Sought → List Entry → List Entry → Type 0
 IsRun sought entries run = (e : Entry) → Contains run e ↔ (Contains entries e × IsSought sought (record_of e))
+
+-- a zone, and a name for whose records it is asked
+pub record NameInZone : Type 0 where
+  pub zone : Zone
+  pub name : List Label
+
+-- the entries are all of the owner's in the zone, in their order
+pub record AreOwners (zone : Zone) (owner : List Label) (entries : List Entry) : Type 0 where
+  pub finds : (r : ZoneRecord) → Contains (map record_of entries) r ↔ (Contains zone.records r × (r.owner ≡ owner))
+  pub sorted : IsSorted entry_cmp entries
+
+-- at each place stand the entries of the name there
+pub record AreRuns (zone : Zone) (names : List (List Label)) (runs : List (Bor (List Entry))) : Type 0 where
+  pub long : length runs ≡ length names
+  pub each : (at : ℕ) (d : List Label) (e : Bor (List Entry)) → at < length runs → AreOwners zone (get_or names at d) (get_or runs at e).now
+
+-- the records are those of the zone that have the owner and type
+abbrev pub AreOfType : Zone → List Label → ℕ → List Entry → Type 0
+AreOfType zone owner rtype entries =
+    (r : ZoneRecord) → Contains (map record_of entries) r ↔ (Contains zone.records r × ((r.owner ≡ owner) × (r.rtype ≡ rtype)))
 
 -- the entry there has the owner of the one before; d stands for what is beyond the end
 abbrev pub IsRepeated : List Entry → ℕ → Entry → Type 0

@@ -3,12 +3,15 @@ use Rattle.std.specs.Prelude.{◌≡◌, ◌≢◌, ◌≤◌, ◌<◌, ◌↔�
 use Rattle.std.specs.List.{All, Contains}
 use Rattle.std.specs.List.Sorted.{IsSortedBy}
 use Rattle.std.specs.Ordering.{is_lt}
+use denote.Ref.{Bor}
 use Rattle.dname.specs.Name.{Label, IsUnder, asterisk}
 use Rattle.nsec3_hash.specs.IteratedHash.{hash_of}
 use Rattle.zone_meaning.specs.Zone.{Zone, Exists}
 use Rattle.zone_meaning.specs.Hashed.{hash_cmp}
 use Rattle.zone_meaning.specs.Consistent.{TypesAgree}
+use Rattle.zone_index.specs.Entries.{AreRuns}
 use Rattle.zone_index.specs.Live.{AreLive}
+use Rattle.zone_index.specs.declared.entry.Entry.{Entry}
 use Rattle.zone_index.specs.declared.hash_table.HashTable.{HashTable}
 use Rattle.zone_index.specs.declared.hash_table.HashedName.{HashedName}
 
@@ -65,7 +68,8 @@ pub record IsOfChain (salt : List ℕ) (iterations : ℕ) (table : HashTable) : 
 abbrev pub AreTables : Zone → List HashTable → Type 0
 AreTables zone tables = All (λ table. IsTableOf zone table.salt table.iterations table) tables
 
--- what a search has made of the zone: its live names, and tables of its names
-pub record IsSearch (zone : Zone) (live : List (List Label)) (tables : List HashTable) : Type 0 where
+-- what a search has made of the zone: its live names, the entries of each, and tables of its names
+pub record IsSearch (zone : Zone) (live : List (List Label)) (runs : List (Bor (List Entry))) (tables : List HashTable) : Type 0 where
   pub live_is : AreLive zone live
+  pub runs_are : AreRuns zone live runs
   pub tables_are : AreTables zone tables

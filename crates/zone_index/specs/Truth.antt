@@ -6,11 +6,17 @@ use Rattle.std.specs.Cmp.Lexicographic.{slice_cmp}
 use Rattle.std.specs.declared.cmp.Ordering.{Ordering}
 use denote.Ref.{Bor}
 use Rattle.dname.specs.Name.{Label}
-use Rattle.zone_meaning.specs.Zone.{Zone, HasData}
+use Rattle.dname.specs.declared.types.TheConstants.{DS_TYPE}
+use Rattle.zone_meaning.specs.Zone.{Zone, HasData, IsCut}
 
 -- the zone has just these data of the owner and type, and there are some
 abbrev pub HasJust : Zone → List Label → ℕ → List (List ℕ) → Type 0
 HasJust zone owner rtype items = (items ≢ []) × ((octets : List ℕ) → Contains items octets ↔ HasData zone owner rtype octets)
+
+-- the zone has just these data, and speaks for them
+pub record HasSet (zone : Zone) (owner : List Label) (rtype : ℕ) (items : List (List ℕ)) : Type 0 where
+  pub just : HasJust zone owner rtype items
+  pub authority : IsCut zone owner → rtype ≡ DS_TYPE
 
 -- the zone has each of the data
 abbrev pub HasEach : Zone → List Label → ℕ → List (List ℕ) → Type 0

@@ -7,6 +7,7 @@
 mod entry;
 mod hash_table;
 mod live_names;
+mod owner_records;
 mod sought;
 mod truth;
 mod type_bits;

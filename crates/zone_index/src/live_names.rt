@@ -1,12 +1,11 @@
-ghost use Rattle.std.specs.Prelude.{◌≡◌, ◌≤◌, ◌<◌, ◌↔◌, ◌-◌, ◌+◌, true, false, length, get_or, IsTrue, IfOk};
+ghost use Rattle.std.specs.Prelude.{◌≡◌, ◌≤◌, ◌<◌, ◌↔◌, true, false, length, get_or, IfOk, IfSome, IfNone};
 ghost use Rattle.std.specs.List.{Contains};
 ghost use Rattle.std.specs.List.Sorted.{IsSorted, IsPartitionPoint};
 ghost use Rattle.std.specs.Ordering.{is_le};
-ghost use Rattle.dname.specs.Arc.{IsInside, arc_has};
 ghost use Rattle.dname.specs.Name.{canonical_cmp};
 ghost use Rattle.zone_meaning.specs.Zone.{IsLive};
 ghost use Rattle.zone_index.specs.Entries.{IsRepeated};
-ghost use Rattle.zone_index.specs.Live.{AreLive};
+ghost use Rattle.zone_index.specs.Live.{AreLive, ArePlaces};
 ghost use Rattle.zone_index.specs.declared.entry.Entry.{Entry};
 
 use crate::ZoneIndex;
@@ -58,19 +57,12 @@ impl<'a> LiveNames<'a> {
         &self.names[i]
     }
 
-    /// Whether the name is among them.
-    pub fn has(&self, name: &LentName<'_>) -> bool
-        ensures { IsTrue result ↔ Contains self.now name.now }
+    /// Where the name stands among them, and where the next of them does on the ring.
+    pub(crate) fn places_of(&self, name: &LentName<'_>) -> Option<(usize, usize)>
+        ensures some { IfSome result (λ places. ArePlaces self.now name.now places.0 places.1) }
+        ensures none { IfNone result (Contains self.now name.now → ⊥) }
     {
-        has_name(self.names(), name)
-    }
-
-    /// Whether none of them is inside the arc from one name to another.
-    pub fn none_inside(&self, start: &LentName<'_>, end: &LentName<'_>) -> bool
-        ensures { IsTrue result ↔ ((name : _) → Contains self.now name
-            → IsInside canonical_cmp start.now end.now name → ⊥) }
-    {
-        none_inside(self.names(), start, end)
+        places_of(self.names(), name)
     }
 
     fn names(&self) -> &[LentName<'a>]
@@ -81,30 +73,20 @@ impl<'a> LiveNames<'a> {
     }
 }
 
-fn has_name(names: &[LentName<'_>], name: &LentName<'_>) -> bool
+fn places_of(names: &[LentName<'_>], name: &LentName<'_>) -> Option<(usize, usize)>
     requires { IsSorted canonical_cmp names.now }
-    ensures { IsTrue result ↔ Contains names.now name.now }
+    ensures some { IfSome result (λ places. ArePlaces names.now name.now places.0 places.1) }
+    ensures none { IfNone result (Contains names.now name.now → ⊥) }
 {
     let upto = place_behind(names, name);
     if upto == 0 {
-        return false;
+        return None;
     }
-    names[upto - 1] == *name
-}
-
-fn none_inside(names: &[LentName<'_>], start: &LentName<'_>, end: &LentName<'_>) -> bool
-    requires { IsSorted canonical_cmp names.now }
-    ensures { IsTrue result ↔ ((name : _) → Contains names.now name
-        → IsInside canonical_cmp start.now end.now name → ⊥) }
-{
-    if names.is_empty() {
-        return true;
+    let same = names[upto - 1] == *name;
+    if !same {
+        return None;
     }
-    let at = next_place(place_behind(names, start), names.len());
-    let next = &names[at];
-    let same = *next == *start;
-    let has = arc_has(start, end, next);
-    same || !has
+    Some((upto - 1, next_place(upto, names.len())))
 }
 
 // How many of them are the name or before it.
@@ -161,17 +143,4 @@ fn is_repeated(entries: &[Entry], at: usize) -> bool
     ensures { result ≡ true → (d : Entry) → IsRepeated entries.now at d }
 {
     at > 0 && *entries[at - 1].owner.name() == *entries[at].owner.name()
-}
-
-// Whether the arc from one name on and before another has the name.
-fn arc_has(start: &LentName<'_>, end: &LentName<'_>, name: &LentName<'_>) -> bool
-    ensures { result ≡ arc_has canonical_cmp start.now end.now name.now }
-{
-    let after_start = (&*start).cmp(&*name).is_le();
-    let before_end = (&*name).cmp(&*end).is_lt();
-    if (&*start).cmp(&*end).is_lt() {
-        after_start && before_end
-    } else {
-        after_start || before_end
-    }
 }

@@ -12,12 +12,13 @@ ghost use Rattle.zone_meaning.specs.Consistent.{IsConsistentSet, IsConsistentNse
 ghost use Rattle.zone_meaning.specs.Hashed.{IsConsistentNsec3, IsClashFree};
 ghost use Rattle.soundness.specs.True.{set_part, nsec_part, nsec3_part};
 ghost use Rattle.zone_index.specs.Hashes.{AreByHash, IsTableOf, HasTypes, HasNamed, Clashes};
+ghost use Rattle.zone_index.specs.Entries.{AreOwners, AreRuns};
 ghost use Rattle.zone_index.specs.Live.{AreLive};
-ghost use Rattle.zone_index.specs.Truth.{HasJust, HasEach, IsAmong, octets_cmp};
+ghost use Rattle.zone_index.specs.Truth.{HasJust, HasEach, HasSet, IsAmong, octets_cmp};
 
 use crate::entry::Entry;
 use crate::hash_table::{HashTable, HashedName};
-use crate::sought::Sought;
+use crate::owner_records::{OwnerRecords, is_apex};
 use crate::type_bits::types_agree;
 use crate::{LiveNames, ZoneIndex};
 use denial_records::{KeptNsec, KeptNsec3, KeptSet, LentTypes};
@@ -26,30 +27,34 @@ use dname::{LentName, Name, OutOfMemory, Packed};
 use std::alloc::Global;
 
 /// Whether the set is true of the zone.
-pub(crate) fn is_true_set(
+pub(crate) fn is_true_set<'a>(
     alloc: Global,
-    zone: &ZoneIndex,
+    zone: &'a ZoneIndex,
     live: &LiveNames<'_>,
+    runs: &[&'a [Entry]],
     set: &KeptSet,
 ) -> Result<bool, OutOfMemory>
-    requires { AreLive zone.now live.now }
+    requires live { AreLive zone.now live.now }
+    requires runs { AreRuns zone.now live.now runs.now }
     ensures { IfOk result (λ is. IsTrue is ↔ IsConsistentSet zone.now (set_part set.now)) }
 {
     let top = set.zone();
     let owner = set.owner();
-    let is = is_set_of(alloc, zone, live, &top, &owner, set)?;
+    let is = is_set_of(alloc, zone, live, runs, &top, &owner, set)?;
     Ok(is)
 }
 
-fn is_set_of(
+fn is_set_of<'a>(
     alloc: Global,
-    zone: &ZoneIndex,
+    zone: &'a ZoneIndex,
     live: &LiveNames<'_>,
+    runs: &[&'a [Entry]],
     top: &LentName<'_>,
     owner: &LentName<'_>,
     set: &KeptSet,
 ) -> Result<bool, OutOfMemory>
-    requires { AreLive zone.now live.now }
+    requires live { AreLive zone.now live.now }
+    requires runs { AreRuns zone.now live.now runs.now }
     ensures { IfOk result (λ is. IsTrue is ↔ IsConsistentSet zone.now (record {
       zone = top.now;
       owner = owner.now;
@@ -57,79 +62,92 @@ fn is_set_of(
       items = set.now.items;
     })) }
 {
-    if !is_top(zone, top) {
+    if !is_apex(zone, top) {
         return Ok(false);
     }
-    if !live.has(owner) {
+    let Some((at, _)) = live.places_of(owner) else {
+        return Ok(false);
+    };
+    let is = has_set(alloc, &records_at(zone, runs, at, owner), set)?;
+    Ok(is)
+}
+
+// The records of the live name at a place.
+fn records_at<'a>(
+    zone: &'a ZoneIndex,
+    runs: &[&'a [Entry]],
+    at: usize,
+    name: &'a LentName<'a>,
+) -> OwnerRecords<'a>
+    requires within { at < length runs.now }
+    requires owners { (e : _) → AreOwners zone.now name.now (get_or runs.now at e).now }
+    ensures zone { result.zone ≡ zone.now }
+    ensures name { result.name ≡ name.now }
+{
+    OwnerRecords::of(zone, name, runs[at])
+}
+
+// Whether the zone has just the set's data, and speaks for them.
+fn has_set(alloc: Global, records: &OwnerRecords<'_>, set: &KeptSet) -> Result<bool, OutOfMemory>
+    ensures { IfOk result (λ is. IsTrue is ↔ HasSet records.now.zone records.now.name
+        set.now.rtype set.now.items) }
+{
+    if is_beyond(records, set.rtype()) {
         return Ok(false);
     }
-    let owner = owner.name();
-    if is_beyond(zone, &owner, set.rtype()) {
-        return Ok(false);
-    }
-    let just = has_just(alloc, zone, &owner, set)?;
+    let just = has_just(alloc, records, set)?;
     Ok(just)
 }
 
-// Whether the name is the zone's apex.
-fn is_top(zone: &ZoneIndex, name: &LentName<'_>) -> bool
-    ensures { IsTrue result ↔ (zone.now.apex ≡ name.now) }
-{
-    let apex = zone.apex().lent();
-    apex == *name
-}
-
 // Whether the name is a cut and the type another than DS, so that the zone doesn't speak for it.
-fn is_beyond(zone: &ZoneIndex, owner: &Name, rtype: u16) -> bool
-    ensures beyond { result ≡ true → (IsCut zone.now owner.now → rtype ≡ DS_TYPE) → ⊥ }
-    ensures within { result ≡ false → IsCut zone.now owner.now → rtype ≡ DS_TYPE }
+fn is_beyond(records: &OwnerRecords<'_>, rtype: u16) -> bool
+    ensures beyond { result ≡ true
+        → (IsCut records.now.zone records.now.name → rtype ≡ DS_TYPE) → ⊥ }
+    ensures within { result ≡ false
+        → IsCut records.now.zone records.now.name → rtype ≡ DS_TYPE }
 {
     if rtype == DS_TYPE {
         return false;
     }
-    zone.is_cut(owner)
+    records.is_cut()
 }
 
 // Whether the data of the owner and type are just the set's, and there are some.
-fn has_just(
-    alloc: Global,
-    zone: &ZoneIndex,
-    owner: &Name,
-    set: &KeptSet,
-) -> Result<bool, OutOfMemory>
-    ensures { IfOk result (λ is. IsTrue is ↔ HasJust zone.now owner.now set.now.rtype set.now.items) }
+fn has_just(alloc: Global, records: &OwnerRecords<'_>, set: &KeptSet) -> Result<bool, OutOfMemory>
+    ensures { IfOk result (λ is. IsTrue is ↔ HasJust records.now.zone records.now.name
+        set.now.rtype set.now.items) }
 {
-    let just = has_just_items(alloc, zone, owner, set.rtype(), set.items())?;
+    let just = has_just_items(alloc, records, set.rtype(), set.items())?;
     Ok(just)
 }
 
 fn has_just_items(
     alloc: Global,
-    zone: &ZoneIndex,
-    owner: &Name,
+    records: &OwnerRecords<'_>,
     rtype: u16,
     items: Packed<'_>,
 ) -> Result<bool, OutOfMemory>
-    ensures { IfOk result (λ is. IsTrue is ↔ HasJust zone.now owner.now rtype items.entry) }
+    ensures { IfOk result (λ is. IsTrue is ↔ HasJust records.now.zone records.now.name
+        rtype items.entry) }
 {
     if items.is_empty() {
         return Ok(false);
     }
-    if !are_there(zone, owner, rtype, items.again()) {
+    if !are_there(records, rtype, items.again()) {
         return Ok(false);
     }
     let list = sorted(alloc, items)?;
-    let run = zone.run_of(&Sought::OfType(owner, rtype));
+    let run = records.of_type(rtype);
     Ok(are_among(run, list.as_slice()))
 }
 
 // Whether the zone has each of the data.
-fn are_there(zone: &ZoneIndex, owner: &Name, rtype: u16, items: Packed<'_>) -> bool
-    ensures { IsTrue result ↔ HasEach zone.now owner.now rtype items.entry }
+fn are_there(records: &OwnerRecords<'_>, rtype: u16, items: Packed<'_>) -> bool
+    ensures { IsTrue result ↔ HasEach records.now.zone records.now.name rtype items.entry }
 {
     let mut items = items;
     while let Some(item) = items.next() {
-        if !zone.has_data(owner, rtype, item) {
+        if !records.has_data(rtype, item) {
             return false;
         }
     }
@@ -215,26 +233,34 @@ fn listed<'a>(alloc: Global, items: Packed<'a>) -> Result<Vec<&'a [u8]>, OutOfMe
 }
 
 /// Whether the NSEC record is true of the zone.
-pub(crate) fn is_true_nsec(zone: &ZoneIndex, live: &LiveNames<'_>, nsec: &KeptNsec) -> bool
-    requires { AreLive zone.now live.now }
+pub(crate) fn is_true_nsec<'a>(
+    zone: &'a ZoneIndex,
+    live: &LiveNames<'_>,
+    runs: &[&'a [Entry]],
+    nsec: &KeptNsec,
+) -> bool
+    requires live { AreLive zone.now live.now }
+    requires runs { AreRuns zone.now live.now runs.now }
     ensures { IsTrue result ↔ IsConsistentNsec zone.now (nsec_part nsec.now) }
 {
     let top = nsec.zone();
     let owner = nsec.owner();
     let next = nsec.next();
     let types = nsec.types();
-    is_nsec_of(zone, live, &top, &owner, &next, &types)
+    is_nsec_of(zone, live, runs, &top, &owner, &next, &types)
 }
 
-fn is_nsec_of(
-    zone: &ZoneIndex,
+fn is_nsec_of<'a>(
+    zone: &'a ZoneIndex,
     live: &LiveNames<'_>,
+    runs: &[&'a [Entry]],
     top: &LentName<'_>,
     owner: &LentName<'_>,
     next: &LentName<'_>,
     types: &LentTypes<'_>,
 ) -> bool
-    requires { AreLive zone.now live.now }
+    requires live { AreLive zone.now live.now }
+    requires runs { AreRuns zone.now live.now runs.now }
     ensures { IsTrue result ↔ IsConsistentNsec zone.now (record {
       zone = top.now;
       owner = owner.now;
@@ -242,19 +268,17 @@ fn is_nsec_of(
       types = types.now;
     }) }
 {
-    if !is_top(zone, top) {
+    if !is_apex(zone, top) {
         return false;
     }
-    if !live.has(owner) {
+    let Some((at, after)) = live.places_of(owner) else {
+        return false;
+    };
+    let same = *live.get(after) == *next;
+    if !same {
         return false;
     }
-    if !live.has(next) {
-        return false;
-    }
-    if !live.none_inside(owner, next) {
-        return false;
-    }
-    types_agree(zone, &owner.name(), types)
+    types_agree(&records_at(zone, runs, at, owner), types)
 }
 
 /// Whether the NSEC3 record is true of the zone, of which the table has the names by the record's salt and iterations.
@@ -262,7 +286,7 @@ pub(crate) fn is_true_nsec3(zone: &ZoneIndex, table: &HashTable<'_>, nsec3: &Kep
     requires { IsTableOf zone.now nsec3.now.salt nsec3.now.iterations table.now }
     ensures { IsTrue result ↔ IsConsistentNsec3 zone.now (nsec3_part nsec3.now) }
 {
-    if !is_top(zone, &nsec3.zone()) {
+    if !is_apex(zone, &nsec3.zone()) {
         return false;
     }
     if !has_named(zone, table, nsec3) {
@@ -291,7 +315,7 @@ fn any_agrees(zone: &ZoneIndex, names: &[HashedName<'_>], types: &LentTypes<'_>)
 fn agrees(zone: &ZoneIndex, name: &HashedName<'_>, types: &LentTypes<'_>) -> bool
     ensures { IsTrue result ↔ HasTypes zone.now name.now.name types.now }
 {
-    types_agree(zone, &name.name.name(), types)
+    types_agree(&zone.records_of(&name.name), types)
 }
 
 /// Whether no name of the zone is taken by its hash for another of those that a question for the name turns on.

@@ -5,44 +5,43 @@ ghost use Rattle.zone_meaning.specs.Zone.{IsProofType, HasType};
 ghost use Rattle.zone_meaning.specs.Consistent.{TypesAgree};
 ghost use Rattle.zone_index.specs.Entries.{HaveRecords, HasTypesIn, ParentTypesAgree};
 
-use crate::ZoneIndex;
 use crate::entry::Entry;
-use crate::sought::Sought;
+use crate::owner_records::OwnerRecords;
 use denial_records::LentTypes;
-use dname::Name;
 use dname::types::{CNAME_TYPE, DS_TYPE, NS_TYPE, NSEC_TYPE, NSEC3_TYPE, RRSIG_TYPE};
 
 /// Whether the types are those of the name, at a cut of those that the parent's side speaks for.
-pub(crate) fn types_agree(zone: &ZoneIndex, name: &Name, types: &LentTypes<'_>) -> bool
-    ensures { IsTrue result ↔ TypesAgree zone.now name.now types.now }
+pub(crate) fn types_agree(records: &OwnerRecords<'_>, types: &LentTypes<'_>) -> bool
+    ensures { IsTrue result ↔ TypesAgree records.now.zone records.now.name types.now }
 {
-    let _apex = zone.apex();
-    if zone.is_cut(name) {
-        return parent_types_agree(zone, name, types);
+    let _apex = records.zone().apex();
+    if records.is_cut() {
+        return parent_types_agree(records, types);
     }
-    if !has_types_in(zone, name, types) {
+    if !has_types_in(records, types) {
         return false;
     }
-    have_records(zone, name, types)
+    have_records(records, types)
 }
 
-fn parent_types_agree(zone: &ZoneIndex, name: &Name, types: &LentTypes<'_>) -> bool
-    ensures { IsTrue result ↔ ParentTypesAgree zone.now name.now types.now }
+fn parent_types_agree(records: &OwnerRecords<'_>, types: &LentTypes<'_>) -> bool
+    ensures { IsTrue result ↔ ParentTypesAgree records.now.zone records.now.name types.now }
 {
-    if !agrees(zone, name, types, NS_TYPE) {
+    if !agrees(records, types, NS_TYPE) {
         return false;
     }
-    if !agrees(zone, name, types, DS_TYPE) {
+    if !agrees(records, types, DS_TYPE) {
         return false;
     }
-    agrees(zone, name, types, CNAME_TYPE)
+    agrees(records, types, CNAME_TYPE)
 }
 
-fn agrees(zone: &ZoneIndex, name: &Name, types: &LentTypes<'_>, rtype: u16) -> bool
-    ensures { IsTrue result ↔ (HasType zone.now name.now rtype ↔ Contains types.now rtype) }
+fn agrees(records: &OwnerRecords<'_>, types: &LentTypes<'_>, rtype: u16) -> bool
+    ensures { IsTrue result ↔ (HasType records.now.zone records.now.name rtype
+        ↔ Contains types.now rtype) }
 {
     let listed = types.has(rtype);
-    if zone.has_type(name, rtype) {
+    if records.has_type(rtype) {
         listed
     } else {
         !listed
@@ -50,10 +49,10 @@ fn agrees(zone: &ZoneIndex, name: &Name, types: &LentTypes<'_>, rtype: u16) -> b
 }
 
 // Whether each type of the name is among the types.
-fn has_types_in(zone: &ZoneIndex, name: &Name, types: &LentTypes<'_>) -> bool
-    ensures { IsTrue result ↔ HasTypesIn zone.now name.now types.now }
+fn has_types_in(records: &OwnerRecords<'_>, types: &LentTypes<'_>) -> bool
+    ensures { IsTrue result ↔ HasTypesIn records.now.zone records.now.name types.now }
 {
-    are_listed(zone.run_of(&Sought::AtOwner(name)), types)
+    are_listed(records.entries(), types)
 }
 
 fn are_listed(entries: &[Entry], types: &LentTypes<'_>) -> bool
@@ -74,12 +73,12 @@ fn is_listed(entry: &Entry, types: &LentTypes<'_>) -> bool
 }
 
 // Whether the name has a record of each of the types, but of those that prove others.
-fn have_records(zone: &ZoneIndex, name: &Name, types: &LentTypes<'_>) -> bool
-    ensures { IsTrue result ↔ HaveRecords zone.now name.now types.now }
+fn have_records(records: &OwnerRecords<'_>, types: &LentTypes<'_>) -> bool
+    ensures { IsTrue result ↔ HaveRecords records.now.zone records.now.name types.now }
 {
     let mut from: u16 = 0;
     while let Some(rtype) = types.next_from(from) {
-        if is_missing(zone, name, rtype) {
+        if is_missing(records, rtype) {
             return false;
         }
         if rtype == 65_535 {
@@ -90,16 +89,16 @@ fn have_records(zone: &ZoneIndex, name: &Name, types: &LentTypes<'_>) -> bool
     true
 }
 
-fn is_missing(zone: &ZoneIndex, name: &Name, rtype: u16) -> bool
-    ensures missing { result ≡ true
-        → (IsProofType rtype → ⊥) × (HasType zone.now name.now rtype → ⊥) }
-    ensures there { result ≡ false
-        → (IsProofType rtype → ⊥) → HasType zone.now name.now rtype }
+fn is_missing(records: &OwnerRecords<'_>, rtype: u16) -> bool
+    ensures missing { result ≡ true → (IsProofType rtype → ⊥)
+        × (HasType records.now.zone records.now.name rtype → ⊥) }
+    ensures there { result ≡ false → (IsProofType rtype → ⊥)
+        → HasType records.now.zone records.now.name rtype }
 {
     if is_proof_type(rtype) {
         return false;
     }
-    !zone.has_type(name, rtype)
+    !records.has_type(rtype)
 }
 
 fn is_proof_type(rtype: u16) -> bool

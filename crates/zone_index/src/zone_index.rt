@@ -4,13 +4,13 @@ ghost use Rattle.std.specs.List.Sorted.{IsSorted, IsPartitionPoint};
 ghost use Rattle.std.specs.Ordering.{is_lt, is_le};
 ghost use Rattle.dname.specs.Name.{IsUnder};
 ghost use Rattle.zone_meaning.specs.Zone.{IsZone, IsSameZone, HasData, HasType, IsOwner, IsCut, IsBar, IsLive};
-ghost use Rattle.zone_index.specs.Entries.{AreIndexed, IsRun, IsSought, entry_cmp, record_of, versus, zone_in};
+ghost use Rattle.zone_index.specs.Entries.{AreIndexed, AreOwners, IsRun, Rises, entry_cmp, record_of, versus, zone_in};
 ghost use Rattle.zone_index.specs.Live.{IsBarred};
 
 use crate::entry::Entry;
+use crate::owner_records::OwnerRecords;
 use crate::sought::{Sought, versus};
-use dname::types::{DNAME_TYPE, NS_TYPE};
-use dname::{Name, OutOfMemory};
+use dname::{LentName, Name, OutOfMemory};
 use std::cmp::Ordering;
 use std::marker::Model;
 
@@ -55,36 +55,34 @@ impl ZoneIndex {
     pub fn has_type(&self, owner: &Name, rtype: u16) -> bool
         ensures { IsTrue result ↔ HasType self.now owner.now rtype }
     {
-        !self.run_of(&Sought::OfType(owner, rtype)).is_empty()
+        self.records_of(&owner.lent()).has_type(rtype)
     }
 
     /// Whether there is a record of the owner and type with this data.
     pub fn has_data(&self, owner: &Name, rtype: u16, octets: &[u8]) -> bool
         ensures { IsTrue result ↔ HasData self.now owner.now rtype octets.now }
     {
-        !self
-            .run_of(&Sought::WithData(owner, rtype, octets))
-            .is_empty()
+        self.records_of(&owner.lent()).has_data(rtype, octets)
     }
 
     /// Whether there is a record of the owner.
     pub fn is_owner(&self, name: &Name) -> bool
         ensures { IsTrue result ↔ IsOwner self.now name.now }
     {
-        !self.run_of(&Sought::AtOwner(name)).is_empty()
+        self.records_of(&name.lent()).are_some()
     }
 
     /// Whether another zone begins at the name.
     pub fn is_cut(&self, name: &Name) -> bool
         ensures { IsTrue result ↔ IsCut self.now name.now }
     {
-        !is_same(name, &self.apex) && self.has_type(name, NS_TYPE)
+        self.records_of(&name.lent()).is_cut()
     }
 
     fn is_bar(&self, name: &Name) -> bool
         ensures { IsTrue result ↔ IsBar self.now name.now }
     {
-        self.is_cut(name) || self.has_type(name, DNAME_TYPE)
+        self.records_of(&name.lent()).is_bar()
     }
 
     /// Whether a cut or a DNAME is above the name.
@@ -121,19 +119,27 @@ impl ZoneIndex {
         self.entries.as_slice()
     }
 
-    /// The entries that are looked for.
-    pub(crate) fn run_of(&self, sought: &Sought<'_>) -> &[Entry]
-        ensures { (r : _) → Contains (map record_of result.now) r
-            ↔ (Contains self.now.records r × IsSought sought.now r) }
+    /// The records of the name.
+    pub(crate) fn records_of<'a>(&'a self, name: &'a LentName<'a>) -> OwnerRecords<'a>
+        ensures zone { result.zone ≡ self.now }
+        ensures name { result.name ≡ name.now }
     {
-        run_in(self.entries(), sought)
+        OwnerRecords::of(self, name, self.run_of(name))
+    }
+
+    /// The entries of the name.
+    pub(crate) fn run_of(&self, name: &LentName<'_>) -> &[Entry]
+        ensures { AreOwners self.now name.now result.now }
+    {
+        run_in(self.entries(), &Sought::AtOwner(name))
     }
 }
 
-// The entries that are looked for.
-fn run_in<'a>(entries: &'a [Entry], sought: &Sought<'_>) -> &'a [Entry]
-    requires { IsSorted entry_cmp entries.now }
-    ensures { IsRun sought.now entries.now result.now }
+/// The entries that are looked for.
+pub(crate) fn run_in<'a>(entries: &'a [Entry], sought: &Sought<'_>) -> &'a [Entry]
+    requires { Rises sought.now entries.now }
+    ensures run { IsRun sought.now entries.now result.now }
+    ensures sorted { IsSorted entry_cmp entries.now → IsSorted entry_cmp result.now }
 {
     let from = place_before(entries, sought);
     let upto = place_behind(entries, sought);
@@ -142,7 +148,7 @@ fn run_in<'a>(entries: &'a [Entry], sought: &Sought<'_>) -> &'a [Entry]
 
 // How many entries stand before those.
 fn place_before(entries: &[Entry], sought: &Sought<'_>) -> usize
-    requires { IsSorted entry_cmp entries.now }
+    requires { Rises sought.now entries.now }
     ensures bound { result ≤ length entries.now }
     ensures point { IsPartitionPoint
         (λ e. is_lt (versus sought.now (record_of e)) ≡ true)
@@ -153,7 +159,7 @@ fn place_before(entries: &[Entry], sought: &Sought<'_>) -> usize
 
 // How many entries stand before those or are of them.
 fn place_behind(entries: &[Entry], sought: &Sought<'_>) -> usize
-    requires { IsSorted entry_cmp entries.now }
+    requires { Rises sought.now entries.now }
     ensures bound { result ≤ length entries.now }
     ensures point { IsPartitionPoint
         (λ e. is_le (versus sought.now (record_of e)) ≡ true)
@@ -177,10 +183,4 @@ fn order(one: &Entry, other: &Entry) -> Ordering
     let owners = one.owner.name().cmp(other.owner.name());
     let data = one.octets.as_slice().cmp(other.octets.as_slice());
     owners.then(one.rtype.cmp(&other.rtype).then(data))
-}
-
-fn is_same(name: &Name, other: &Name) -> bool
-    ensures { IsTrue result ↔ (name.now ≡ other.now) }
-{
-    *name == *other
 }

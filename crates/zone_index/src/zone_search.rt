@@ -3,9 +3,11 @@ ghost use Rattle.std.specs.List.{All};
 ghost use Rattle.denial_records.specs.Proof.{denied_by};
 ghost use Rattle.denial_records.specs.declared.record.Record.TheVariants.{Set};
 ghost use Rattle.soundness.specs.True.{IsTrueOf, IsClashFreeFor};
+ghost use Rattle.zone_index.specs.Entries.{AreRuns};
 ghost use Rattle.zone_index.specs.Hashes.{AreTables, IsOfChain, IsTableOf};
 ghost use Rattle.zone_index.specs.Live.{AreLive};
 
+use crate::entry::Entry;
 use crate::hash_table::HashTable;
 use crate::truth::{is_clash_free, is_true_nsec, is_true_nsec3, is_true_set};
 use crate::{LiveNames, ZoneIndex};
@@ -21,6 +23,8 @@ pub struct ZoneSearch<'a> {
     alloc: Global,
     zone: &'a ZoneIndex,
     live: LiveNames<'a>,
+    // The entries of each live name.
+    runs: Vec<&'a [Entry]>,
     tables: Vec<HashTable<'a>>,
 }
 
@@ -32,7 +36,7 @@ impl<'a> Model for ZoneSearch<'a> {
 
     ghost view = { λ s. s.zone.now };
 
-    ghost invariant = { λ s. IsSearch s.zone.now s.live s.tables.items };
+    ghost invariant = { λ s. IsSearch s.zone.now s.live s.runs.items s.tables.items };
 }
 
 impl<'a> ZoneSearch<'a> {
@@ -40,10 +44,13 @@ impl<'a> ZoneSearch<'a> {
     pub fn of(alloc: Global, zone: &'a ZoneIndex) -> Result<ZoneSearch<'a>, OutOfMemory>
         ensures { IfOk result (λ search. search ≡ zone.now) }
     {
+        let live = LiveNames::of(alloc, zone)?;
+        let runs = runs_of(alloc, zone, &live)?;
         Ok(ZoneSearch {
             alloc,
             zone,
-            live: LiveNames::of(alloc, zone)?,
+            live,
+            runs,
             tables: Vec::new(alloc),
         })
     }
@@ -52,7 +59,7 @@ impl<'a> ZoneSearch<'a> {
     pub fn is_true_set(&self, set: &KeptSet) -> Result<bool, OutOfMemory>
         ensures { IfOk result (λ is. IsTrue is ↔ IsTrueOf self.now (Set set.now)) }
     {
-        is_true_set(self.alloc, self.zone, &self.live, set)
+        is_true_set(self.alloc, self.zone, &self.live, self.runs.as_slice(), set)
     }
 
     /// Whether the record is true of the zone.
@@ -61,7 +68,12 @@ impl<'a> ZoneSearch<'a> {
         ensures same { self.new ≡ self.old }
     {
         match denial {
-            Denial::Nsec(nsec) => Ok(is_true_nsec(self.zone, &self.live, nsec)),
+            Denial::Nsec(nsec) => Ok(is_true_nsec(
+                self.zone,
+                &self.live,
+                self.runs.as_slice(),
+                nsec,
+            )),
             Denial::Nsec3(nsec3) => {
                 let at = table_for(self.alloc, self.zone, &self.live, &mut self.tables, nsec3)?;
                 Ok(is_true_nsec3(self.zone, &self.tables[at], nsec3))
@@ -83,6 +95,21 @@ impl<'a> ZoneSearch<'a> {
             }
         }
     }
+}
+
+// The entries of each live name.
+fn runs_of<'a>(
+    alloc: Global,
+    zone: &'a ZoneIndex,
+    live: &LiveNames<'a>,
+) -> Result<Vec<&'a [Entry]>, OutOfMemory>
+    ensures { IfOk result (λ runs. AreRuns zone.now live.now runs.items) }
+{
+    let mut runs = Vec::new(alloc);
+    for at in 0..live.len() {
+        runs.push(zone.run_of(live.get(at)))?;
+    }
+    Ok(runs)
 }
 
 // Where the table of the record's salt and iterations stands; it is made where there is none.

@@ -3,3 +3,5 @@
 
 #[cfg(test)]
 mod worked_zones;
+#[cfg(test)]
+mod zone_search;

@@ -12,6 +12,6 @@ returns-then-not-agrees-2 c = (λ e. absurd (false≢true e), λ all. absurd (fa
 
 pub returns : goal.returns
 returns c = (
-  λ t. parent_by c.args.zone.now c.args.name.now c.args.types.now (c.if-not-agrees.ensures.0 refl) (c.if-not-agrees-2.ensures.0 refl) (c.agrees-3.ensures.0 t),
+  λ t. parent_by c.args.records.now.zone c.args.records.now.name c.args.types.now (c.if-not-agrees.ensures.0 refl) (c.if-not-agrees-2.ensures.0 refl) (c.agrees-3.ensures.0 t),
   λ all. c.agrees-3.ensures.1 (all CNAME_TYPE (inr (inr refl))),
 )

@@ -3,11 +3,10 @@ use Rattle.std.specs.Ordering.{is_le}
 use Rattle.std.proofs.lemmas.List.Sorted.{IsPartitionPoint-from_clause}
 use Rattle.zone_index.specs.Entries.{record_of, versus}
 use Rattle.zone_index.proofs.SearchLemmas.{upto_parted}
-use Rattle.zone_index.proofs.EntryLemmas.{entries_rise}
 use Rattle.zone_index.proofs.zone_index.place_behind.Goals as goal
 
 pub returns-clause-point : goal.returns-clause-point
 returns-clause-point c =
     let v = c.args.sought.now in
     let xs = c.args.entries.now in
-    IsPartitionPoint-from_clause (λ e. is_le (versus v (record_of e))) xs _ c.partition_point.ensures.partitioned (upto_parted (λ e. versus v (record_of e)) xs (entries_rise v xs c.requires)) (λ a r q k. search rules)
+    IsPartitionPoint-from_clause (λ e. is_le (versus v (record_of e))) xs _ c.partition_point.ensures.partitioned (upto_parted (λ e. versus v (record_of e)) xs c.requires) (λ a r q k. search rules)
