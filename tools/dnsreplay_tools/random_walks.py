@@ -1,6 +1,6 @@
 """Random zones whose names lead to one another, by aliases and by DNAMEs, for `differential`."""
 from .random_zones import AAAA, LABELS, RESPONSE, TXT, A, Traffic, fits, in_any_case, message
-from .reference_messages import is_under, wire_form
+from .reference_messages import is_below, is_under, wire_form
 from .reference_model import AROUND, CNAME, DNAME, DS, NS, QUERY, SOA, UPSTREAM
 
 APEXES = (), (b"example",), (b"a", b"example"), (b"w", b"a", b"example"), (b"b",), (b"zz", b"b")
@@ -20,6 +20,7 @@ class Paths(Traffic):
     def __init__(self, rng, are_true):
         super().__init__(rng)
         self.are_true, self.made, self.heads, self.begun = are_true, 0, [zone.apex for zone in self.zones], self.now
+        self.dnames = []  # each with where it leads, which is in a zone
         self.briefly = rng.choice([None, rng.choice(self.zones).apex])
         for zone in self.zones:
             if rng.random() < (0.03 if are_true else 0.15): self.put(zone.apex, DNAME, rng.choice(self.names))
@@ -42,8 +43,9 @@ class Paths(Traffic):
         zone.records[owner, rtype] = [wire_form(in_any_case(self.rng, target))]
 
     def fresh(self):
-        """A new name in one of the zones, now and then below another."""
+        """A new name in one of the zones, now and then below another, or where a DNAME leads."""
         self.made += 1
+        if self.dnames and self.rng.random() < 0.2: return (b"n%d" % self.made,) + self.rng.choice(self.dnames)[1]
         front = (b"n%d" % self.made,) if self.rng.random() < 0.8 else (b"n%d" % self.made,) + self.rng.choice(FRONTS)
         return front + self.rng.choice(self.zones).apex
 
@@ -60,14 +62,21 @@ class Paths(Traffic):
         self.heads += names
 
     def before(self, name, share=0.5):
-        """A name that leads to this one: its alias, a wildcard's, or, in that share, one that a DNAME makes."""
+        """A name that leads to this one: its alias, a wildcard's, or, in that share, one that a DNAME makes, which may
+        make others too."""
         rng, owner = self.rng, self.fresh()
+        led = [each for each in self.dnames if is_below(name, each[1]) and rng.random() < share / 2]
+        if led:
+            again, suffix = rng.choice(led)
+            made = name[: len(name) - len(suffix)] + again
+            if fits(made): return made
         cut = rng.randint(1, len(name)) if name and rng.random() < share else 0
         if cut and fits(name[:cut] + owner):
             made = name[:cut] + owner
             lower = made[rng.randrange(cut) :]
             if rng.random() < 0.3: self.put(lower, rng.choice([CNAME, DNAME, DNAME, A]), rng.choice(self.names))
             self.put(owner, DNAME, name[cut:])
+            if any(is_under(name[cut:], zone.apex) for zone in self.zones): self.dnames.append((owner, name[cut:]))
             self.heads.append(owner)
             return made
         is_wildcard = rng.random() < 0.3

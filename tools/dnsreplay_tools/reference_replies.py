@@ -46,8 +46,10 @@ class Walk(namedtuple("Walk", "links name proof")):
         return NAME_ERROR if self.proof.kind == NO_NAME else NO_ERROR
 
     def answers(self):
-        """The sets of the answer, and the name that owns each."""
-        sets = [each for link in self.links for each in link.shown()]
+        """The sets of the answer, and the name that owns each. A DNAME set of two links stands once, at the first of
+        them (RFC 2181, section 5)."""
+        shown = [each for link in self.links for each in link.shown()]
+        sets = list({(owner, held.rtype): (owner, held) for owner, held in shown}.values())
         return sets + [(self.name, self.proof.answer)] if self.proof and self.proof.answer else sets
 
     def soa(self): return [self.proof.soa] if self.proof and self.proof.soa else []

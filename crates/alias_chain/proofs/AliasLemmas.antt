@@ -1,6 +1,5 @@
 -- A CNAME that is looked up leads on every other type, where it stands alone.
-use Rattle.std.proofs.Common.{◌≡◌, ◌≢◌, ℕ, List, [], ◌∷◌, refl, sym, subst, arith, ⊎_elim, inl, inr}
-use Rattle.std.specs.Prelude.{◌↔◌}
+use Rattle.std.proofs.Common.{◌≡◌, ◌≢◌, ℕ, List, [], ◌∷◌, refl, subst, arith, ⊎_elim, inl, inr}
 use Rattle.std.specs.List.{Contains}
 use Rattle.std.specs.declared.cmp.Ordering.{Ordering}
 use Rattle.std.specs.Ordering.{nat_cmp, ordering_reverse}
@@ -8,9 +7,9 @@ use Rattle.std.specs.Cmp.Lexicographic.{slice_cmp, nat_list_cmp_total}
 use Rattle.std.specs.declared.cmp.Ordering.TheVariants.{Less, Equal, Greater}
 use Rattle.std.proofs.lemmas.List.Elements.{Contains-push, Contains-push_cases}
 use Rattle.dname.specs.Name.{Label, asterisk}
-use Rattle.dname.specs.declared.types.TheConstants.{CNAME_TYPE, DS_TYPE}
-use Rattle.zone_meaning.specs.Zone.{Zone, HasType, HasData}
-use Rattle.zone_meaning.specs.Lookup.{Looked, Answer, Alias, NoData, MeetsCut, MeetsDname, Meets, MeetsNothing, AnswersAt, Synthesizes, by_no_source, by_its_ns, by_its_dname, as_itself, Finds, at_a_cut, at_a_dname, at_the_name, by_a_wildcard, with_no_encloser, LooksUp}
+use Rattle.dname.specs.declared.types.TheConstants.{CNAME_TYPE}
+use Rattle.zone_meaning.specs.Zone.{Zone}
+use Rattle.zone_meaning.specs.Lookup.{Looked, Answer, Alias, MeetsCut, MeetsDname, Meets, MeetsNothing, AnswersAt, Synthesizes, by_no_source, by_its_ns, by_its_dname, as_itself, Finds, at_a_cut, at_a_dname, at_the_name, by_a_wildcard, with_no_encloser, LooksUp}
 use Rattle.alias_chain.specs.SoundWalk.{AliasesStandAlone}
 
 -- what is on the way for a type but DS is on the way for a CNAME

@@ -1,5 +1,5 @@
 -- A walk reads a held state by its look-ups alone, so the order of its records means nothing.
-use Rattle.std.proofs.Common.{◌≡◌, ◌∙◌, ℕ, zero, suc, List, [], ◌∷◌, Option, Some, None, refl, sym, ap, subst}
+use Rattle.std.proofs.Common.{◌≡◌, ◌∙◌, ℕ, zero, suc, List, [], ◌∷◌, Option, None, refl, sym, ap, subst}
 use Rattle.std.specs.Prelude.{◌==◌, if◌then◌else◌, IfSome}
 use Rattle.std.specs.Option.{option_or, option_map, option_and_then}
 use Rattle.dname.specs.Name.{Label}
@@ -15,7 +15,7 @@ use Rattle.held_laws.proofs.AnswerLemmas.{proof_alike, same_lookups}
 use Rattle.held_laws.proofs.OrderedLemmas.{all_alike}
 use Rattle.alias_chain.specs.Target.{target_of}
 use Rattle.alias_chain.specs.Dname.{Dname, dname_of, dname_at, topmost_dname, dname_above}
-use Rattle.alias_chain.specs.Walk.{Walk, Step, Proved, ending, alias_step, by_alias, dname_step, by_dname, step_of, takes_aliases, takes_redirections, links_of, proved_at, taken, beyond, walk_of, asks_a_zone}
+use Rattle.alias_chain.specs.Walk.{Walk, Proved, ending, alias_step, by_alias, dname_step, by_dname, step_of, takes_aliases, takes_redirections, links_of, proved_at, taken, beyond, walk_of, asks_a_zone}
 use Rattle.alias_chain.specs.WalkReply.{walk_in, octets_at, walk_reply_in}
 use Rattle.alias_chain.specs.SoundWalk.{IsSoundWalk}
 use Rattle.alias_chain.specs.WalkOutcome.{IsSoundWalkAt}

@@ -1,5 +1,5 @@
 -- The DNAME above a name: what is found, and that each zone says so of which its set is true.
-use Rattle.std.proofs.Common.{◌≡◌, ◌≢◌, ℕ, ◌<◌, ◌≤◌, Bool, true, false, List, [], ◌∷◌, ◌++◌, length, Option, None, Some, inl, inr, ⊎_elim, refl, sym, ◌∙◌, ap, subst, arith}
+use Rattle.std.proofs.Common.{◌≡◌, ◌≢◌, ℕ, ◌<◌, ◌≤◌, List, [], ◌∷◌, ◌++◌, length, Option, None, Some, inl, inr, ⊎_elim, refl, sym, ◌∙◌, ap, subst, arith}
 use Rattle.std.specs.Prelude.{◌⊎◌, nat_le, if◌then◌else◌, MatchOption, IfSome}
 use Rattle.std.specs.List.{Contains}
 use Rattle.std.specs.Option.{option_or}
@@ -12,18 +12,16 @@ use Rattle.dname.specs.declared.types.TheConstants.{DNAME_TYPE, DS_TYPE}
 use Rattle.dname.proofs.NameDataLemmas.{one_item}
 use Rattle.dname.proofs.SameLemmas.{same_or_not}
 use Rattle.dname.proofs.UnderLemmas.{under_itself, under_through, under_is_longer, under_step}
-use Rattle.denial_records.specs.declared.set_rec.SetRec.{SetRec}
-use Rattle.denial_records.specs.declared.record.Record.TheVariants.{Set}
 use Rattle.zone_meaning.specs.Zone.{Zone, IsZone, IsBelow, HasType}
 use Rattle.zone_meaning.specs.Lookup.{LooksUp, Redirect, MeetsCut, MeetsDname, at_a_dname}
 use Rattle.zone_meaning.specs.Consistent.{SetPart, IsConsistentSet}
 use Rattle.zone_meaning.proofs.ZoneLemmas.{live_exists}
 use Rattle.cache_meaning.specs.Held.{Held}
 use Rattle.cache_meaning.specs.Evidence.{usable_set}
-use Rattle.soundness.specs.True.{set_part, IsTrueOf}
+use Rattle.soundness.specs.True.{set_part}
 use Rattle.alias_chain.specs.Target.{replaced, target_of}
 use Rattle.alias_chain.specs.Dname.{Dname, dname_of, dname_at, topmost_dname}
-use Rattle.alias_chain.specs.SoundWalk.{IsTargetOf, IsSoundRedirection}
+use Rattle.alias_chain.specs.SoundWalk.{IsSoundRedirection}
 use Rattle.alias_chain.proofs.ChoiceLemmas.{either_of, mapped, SetFound, set_found}
 use Rattle.alias_chain.proofs.TargetLemmas.{front_taken}
 

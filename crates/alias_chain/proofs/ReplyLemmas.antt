@@ -1,29 +1,34 @@
 -- What is written is the reply of the held records: of what is proved of the question itself, or else of what lies beyond.
-use Rattle.std.proofs.Common.{◌≡◌, ℕ, Bool, true, false, List, [], ◌∷◌, ◌++◌, Option, Some, None, refl, sym, ◌∙◌, ap}
-use Rattle.std.specs.Prelude.{if◌then◌else◌, MatchBool}
+use Rattle.std.proofs.Common.{◌≡◌, ℕ, Bool, true, false, List, [], ◌++◌, Option, Some, None, refl, sym, ◌∙◌, ap, subst}
+use Rattle.std.specs.Prelude.{min, if◌then◌else◌, MatchBool}
 use Rattle.std.specs.List.{flat_map}
 use Rattle.std.specs.Option.{option_map}
-use Rattle.std.proofs.lemmas.Option.{none-some}
+use Rattle.dname.specs.Name.{Label}
+use Rattle.dname.specs.NameData.{one_name_in}
+use Rattle.dname.specs.declared.types.TheConstants.{CNAME_TYPE, DS_TYPE}
 use Rattle.dnswire.specs.declared.question.Question.{Question}
 use Rattle.denial_records.specs.Proof.{Proof}
+use Rattle.denial_records.specs.TimeLeft.{time_left}
+use Rattle.denial_records.specs.declared.set_rec.SetRec.{SetRec}
 use Rattle.denial_records.specs.declared.record.Record.{Record}
+use Rattle.denial_records.specs.declared.verdict.Verdict.{Verdict}
 use Rattle.cache_meaning.specs.Held.{Held}
+use Rattle.cache_meaning.specs.Zones.{zone_for}
+use Rattle.cache_meaning.specs.Evidence.{usable_set}
 use Rattle.cache_meaning.specs.Prove.{proof_of}
 use Rattle.cache_meaning.specs.Ttl.{ttl_of}
-use Rattle.reply_core.specs.Answered.{proof_octets, reply_in}
+use Rattle.reply_core.specs.Answered.{proof_octets}
 use Rattle.reply_core.specs.Kept.{owner_of, listed}
-use Rattle.reply_core.specs.Reply.{wants_dnssec, rcode_of, set_records, proof_records, answer_records}
+use Rattle.reply_core.specs.Reply.{wants_dnssec, rcode_of, set_records, proof_records, answer_records, reply_octets}
 use Rattle.reply_core.specs.Sections.{sent_octets}
-use Rattle.alias_chain.specs.Walk.{Walk, Proved, ending, links_of, beyond, walk_of, asks_a_zone, walk_ttl}
-use Rattle.alias_chain.specs.WalkReply.{are_new, octets_at, walk_octets, walk_reply_in}
+use Rattle.reply_core.specs.Shown.{shown_by}
+use Rattle.alias_chain.specs.Walk.{Walk, Proved, ending, takes_aliases, links_of, beyond, walk_of, asks_a_zone, walk_ttl}
+use Rattle.alias_chain.specs.Lent.{one_alias}
+use Rattle.alias_chain.specs.WalkReply.{octets_at, walk_octets, walk_reply_in}
 use Rattle.alias_chain.specs.declared.rule.Rule.{Rule}
-use Rattle.alias_chain.proofs.ChoiceLemmas.{mapped}
-use Rattle.alias_chain.proofs.WalkLemmas.{beyond_is}
-
--- behind nothing all are new
-all_new : (denials : List Record) → are_new [] denials ≡ denials
-all_new [] = refl
-all_new (denial ∷ denials) = ap (λ them. denial ∷ them) (all_new denials)
+use Rattle.alias_chain.proofs.StepLemmas.{no_visit}
+use Rattle.alias_chain.proofs.WalkLemmas.{Shown, no_walk, beyond_walk, by_own_alias}
+use Rattle.alias_chain.proofs.WritingLemmas.{all_new}
 
 -- a walk without links gives the reply of its proof
 plain : (question : Question) (now : ℕ) (proof : Proof) → octets_at question now (ending question.name (Proved proof)) ≡ proof_octets question now proof
@@ -32,49 +37,67 @@ plain question now proof =
     (flat_map (λ soa. set_records (wants_dnssec question) (owner_of soa) soa) (listed proof.soa) ++ flat_map (proof_records (wants_dnssec question)) them))
     (all_new proof.denials)
 
-none_mapped : {A B : Type 0} (f : A → B) (found : Option A) → option_map f found ≡ None → found ≡ None
-none_mapped f None is = refl
-none_mapped f (Some x) is = absurd (none-some (f x) (sym is))
-
 module _ (rule : Rule) (held : Held) (question : Question) (now : ℕ) where
   proved_walk : (proof : Proof) → proof_of held now question.name question.qtype ≡ Some proof → walk_of rule held now question.name question.qtype ≡ Some (ending question.name (Proved proof))
   unfolding walk_of
   proved_walk proof is = rw is refl
 
-  by_proof : (asked : Bool) (octets : List ℕ) → option_map (proof_octets question now) (if asked then proof_of held now question.name question.qtype else None) ≡ Some octets
-      → option_map (octets_at question now) (if asked then walk_of rule held now question.name question.qtype else None) ≡ Some octets
-  by_proof true octets is =
-      let proved = mapped (proof_octets question now) (proof_of held now question.name question.qtype) octets is in
-      ap (option_map (octets_at question now)) (proved_walk proved.0 proved.1) ∙ ap Some (plain question now proved.0 ∙ proved.2)
-  by_proof false octets is = absurd (none-some octets is)
-
   -- what is proved of the question itself
-  pub proof_replies : (octets : List ℕ) → reply_in held question now ≡ Some octets → walk_reply_in rule held question now ≡ Some octets
-  proof_replies octets is = by_proof (asks_a_zone question.qtype question.qclass) octets is
-
-  by_walk : (asked : Bool) → asked ≡ true → option_map (proof_octets question now) (if asked then proof_of held now question.name question.qtype else None) ≡ None
-      → (if asked then walk_of rule held now question.name question.qtype else None) ≡ beyond (links_of rule) rule held now question.qtype question.name
-  by_walk true asks none = sym (beyond_is rule held now question.qtype question.name (none_mapped (proof_octets question now) (proof_of held now question.name question.qtype) none))
-  by_walk false asks none = cc
+  pub proof_replies : (verdict : Verdict) (octets : List ℕ) → Shown now (proof_of held now question.name question.qtype) verdict → octets ≡ reply_octets question (shown_by verdict) verdict.ttl
+      → option_map (octets_at question now) (walk_of rule held now question.name question.qtype) ≡ Some octets
+  proof_replies verdict octets proved is =
+      ap (option_map (octets_at question now)) (proved_walk (shown_by verdict) proved.proved)
+      ∙ ap Some (plain question now (shown_by verdict) ∙ ap (reply_octets question (shown_by verdict)) (sym proved.lives) ∙ sym is)
 
   -- or what lies beyond
-  pub beyond_replies : (found : Bool) (before octets : List ℕ) → asks_a_zone question.qtype question.qclass ≡ true → (reply_in held question now ≡ None) × (before ≡ [])
+  pub beyond_replies : (found : Bool) (octets : List ℕ) → proof_of held now question.name question.qtype ≡ None
       → MatchBool found (option_map (octets_at question now) (beyond (links_of rule) rule held now question.qtype question.name) ≡ Some octets)
-      ((beyond (links_of rule) rule held now question.qtype question.name ≡ None) × (octets ≡ before))
+      ((beyond (links_of rule) rule held now question.qtype question.name ≡ None) × (octets ≡ []))
+      → MatchBool found (option_map (octets_at question now) (walk_of rule held now question.name question.qtype) ≡ Some octets)
+      ((walk_of rule held now question.name question.qtype ≡ None) × (octets ≡ []))
+  beyond_replies found octets none told =
+      subst (λ (walk : Option Walk). MatchBool found (option_map (octets_at question now) walk ≡ Some octets) ((walk ≡ None) × (octets ≡ [])))
+      (beyond_walk rule held now question.qtype question.name none) told
+
+  -- of a question that asks a zone
+  pub zone_replies : (found : Bool) (octets : List ℕ) → asks_a_zone question.qtype question.qclass ≡ true
+      → MatchBool found (option_map (octets_at question now) (walk_of rule held now question.name question.qtype) ≡ Some octets)
+      ((walk_of rule held now question.name question.qtype ≡ None) × (octets ≡ []))
       → MatchBool found (walk_reply_in rule held question now ≡ Some octets) ((walk_reply_in rule held question now ≡ None) × (octets ≡ []))
-  beyond_replies found before octets asks none told =
-      let same = ap (option_map (octets_at question now)) (by_walk (asks_a_zone question.qtype question.qclass) asks none.0) in
-      by found told same
+  zone_replies found octets asks told = by found (ap (λ (b : Bool). option_map (octets_at question now) (if b then walk_of rule held now question.name question.qtype else None)) asks) told
     where
-      by : (found : Bool)
-          → MatchBool found (option_map (octets_at question now) (beyond (links_of rule) rule held now question.qtype question.name) ≡ Some octets)
-          ((beyond (links_of rule) rule held now question.qtype question.name ≡ None) × (octets ≡ before))
-          → walk_reply_in rule held question now ≡ option_map (octets_at question now) (beyond (links_of rule) rule held now question.qtype question.name)
+      by : (found : Bool) → walk_reply_in rule held question now ≡ option_map (octets_at question now) (walk_of rule held now question.name question.qtype)
+          → MatchBool found (option_map (octets_at question now) (walk_of rule held now question.name question.qtype) ≡ Some octets)
+          ((walk_of rule held now question.name question.qtype ≡ None) × (octets ≡ []))
           → MatchBool found (walk_reply_in rule held question now ≡ Some octets) ((walk_reply_in rule held question now ≡ None) × (octets ≡ []))
-      by true told same = same ∙ told
-      by false told same = (same ∙ ap (option_map (octets_at question now)) told.0, told.1 ∙ none.1)
+      by true same told = same ∙ told
+      by false same told = (same ∙ ap (option_map (octets_at question now)) told.0, told.1)
+
+  -- and of any other
+  pub none_asked : asks_a_zone question.qtype question.qclass ≡ false → walk_reply_in rule held question now ≡ None
+  none_asked asks = ap (λ (b : Bool). option_map (octets_at question now) (if b then walk_of rule held now question.name question.qtype else None)) asks
+
+  pub none_there : zone_for held question.name question.qtype ≡ None → walk_reply_in rule held question now ≡ None
+  none_there none = by (asks_a_zone question.qtype question.qclass)
+    where
+      by : (asked : Bool) → option_map (octets_at question now) (if asked then walk_of rule held now question.name question.qtype else None) ≡ None
+      by true =
+          ap (option_map (octets_at question now))
+          (sym (no_walk rule held now question.qtype question.name (sym (no_visit held now question.qtype question.name rule none))))
+      by false = refl
 
 -- with the TTL that it has
 pub walk_replies : (question : Question) (now ttl : ℕ) (walk : Walk) (octets : List ℕ) → ttl ≡ walk_ttl now walk → octets ≡ walk_octets question walk ttl
     → option_map (octets_at question now) (Some walk) ≡ Some octets
 walk_replies question now ttl walk octets lives is = ap (λ time. Some (walk_octets question walk time)) (sym lives) ∙ ap Some (sym is)
+
+-- by the name's own CNAME set
+pub alias_replies : (held : Held) (now : ℕ) (question : Question) (apex target : List Label) (set : SetRec) (verdict : Verdict) (octets : List ℕ) (ttl : ℕ)
+    → (question.qtype ≡ DS_TYPE → ⊥) → zone_for held question.name question.qtype ≡ Some apex → Some set ≡ usable_set held now apex question.name CNAME_TYPE
+    → Some target ≡ one_name_in set.items → Shown now (proof_of held now target question.qtype) verdict → ttl ≡ min verdict.ttl (time_left set.life set.expiry now)
+    → octets ≡ walk_octets question (one_alias question.name set target (shown_by verdict)) ttl
+    → (rule : Rule) → takes_aliases rule ≡ true → option_map (octets_at question now) (beyond (links_of rule) rule held now question.qtype question.name) ≡ Some octets
+alias_replies held now question apex target set verdict octets ttl apart asked found leads proved lives is rule takes =
+    let walk = one_alias question.name set target (shown_by verdict) in
+    ap (option_map (octets_at question now)) (by_own_alias rule held now question.qtype question.name apex target set (shown_by verdict) takes apart asked found leads proved.proved)
+    ∙ walk_replies question now ttl walk octets (lives ∙ ap (λ least. min least (time_left set.life set.expiry now)) proved.lives) is

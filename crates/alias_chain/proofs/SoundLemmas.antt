@@ -20,7 +20,7 @@ use Rattle.cache_meaning.specs.Prove.{proof_of, is_forwarded, outcome_of}
 use Rattle.soundness.specs.Sound.{IsSound, said_with}
 use Rattle.alias_chain.specs.Target.{target_of}
 use Rattle.alias_chain.specs.Dname.{Dname, topmost_dname, dname_above}
-use Rattle.alias_chain.specs.Walk.{Way, ByAlias, ByDname, Link, End, Proved, Made, TooLong, Walk, Step, Onto, Ends, ending, behind, alias_target, alias_step, by_alias, dname_step, by_dname, step_of, takes_aliases, takes_redirections, links_of, proved_at, taken, beyond, walk_of, asks_a_zone, walk_for}
+use Rattle.alias_chain.specs.Walk.{ByAlias, ByDname, Proved, Made, Walk, Step, Onto, Ends, ending, behind, alias_target, alias_step, by_alias, dname_step, by_dname, step_of, takes_aliases, takes_redirections, links_of, proved_at, taken, beyond, walk_of, asks_a_zone, walk_for}
 use Rattle.alias_chain.specs.SoundWalk.{IsSoundAlias, IsSoundRedirection, IsSoundWay, IsSoundEnd, IsSoundWalk}
 use Rattle.alias_chain.specs.declared.rule.Rule.{Rule}
 use Rattle.alias_chain.proofs.AliasLemmas.{leads_on}

@@ -1,5 +1,5 @@
 -- The DNAME above a name, by what is held at a moment (RFC 6672, sections 2.4 and 3.2).
-use Rattle.std.specs.Prelude.{ℕ, List, [], ◌∷◌, Option, Some, None}
+use Rattle.std.specs.Prelude.{ℕ, List, [], ◌∷◌, Option, None}
 use Rattle.std.specs.Option.{option_or, option_map, option_and_then}
 use Rattle.dname.specs.Name.{Label}
 use Rattle.dname.specs.NameData.{one_name_in}

@@ -1,5 +1,5 @@
--- The reply that a walk gives, with owner names of several records, each denial record once.
-use Rattle.std.specs.Prelude.{ℕ, Bool, false, not, ◌&&◌, List, [], ◌∷◌, ◌++◌, filter, Option, None}
+-- The reply that a walk gives, with owner names of several records, each DNAME set and denial record once.
+use Rattle.std.specs.Prelude.{ℕ, Bool, false, not, ◌&&◌, if◌then◌else◌, List, [], ◌∷◌, ◌++◌, filter, Option, None}
 use Rattle.std.specs.List.{flat_map, list_any}
 use Rattle.std.specs.Option.{option_map}
 use Rattle.std.specs.Str.{bytes_eq}
@@ -18,34 +18,48 @@ use Rattle.reply_core.specs.declared.rcode.TheConstants.{NO_ERROR, YX_DOMAIN}
 use Rattle.alias_chain.specs.Walk.{Way, ByAlias, ByDname, Link, End, Proved, Made, TooLong, Walk, walk_for, walk_ttl}
 use Rattle.alias_chain.specs.declared.rule.Rule.{Rule}
 
--- ---- the answers
+-- ---- the answers, with each DNAME set once
 
 -- the set that answers for a name, with that name as owner
 abbrev pub shown_at : Bool → List Label → Proof → List ReplyRecord
 shown_at dnssec owner proof = flat_map (set_records dnssec owner) (listed proof.answer)
 
--- a DNAME set, with its own owner
-abbrev pub dname_records : Bool → SetRec → List ReplyRecord
-dname_records dnssec set = set_records dnssec set.owner (Set set)
+-- two of one owner name are one set
+abbrev pub same_set : SetRec → SetRec → Bool
+same_set set other = same_name set.owner other.owner
+
+-- a DNAME set, with its own owner, unless it is among the earlier ones: an answer has a record once (RFC 2181, section 5)
+abbrev pub dname_records : Bool → List SetRec → SetRec → List ReplyRecord
+dname_records dnssec earlier set =
+    if list_any (λ each. same_set each set) earlier then [] else set_records dnssec set.owner (Set set)
 
 -- a DNAME set, and the CNAME that it makes (RFC 6672, section 3.1)
-abbrev pub made_records : Bool → List Label → SetRec → List Label → List ReplyRecord
-made_records dnssec name set target = dname_records dnssec set ++ alias_record name target ∷ []
+abbrev pub made_records : Bool → List SetRec → List Label → SetRec → List Label → List ReplyRecord
+made_records dnssec earlier name set target =
+    dname_records dnssec earlier set ++ alias_record name target ∷ []
 
-abbrev pub way_records : Bool → List Label → Way → List ReplyRecord
-way_records dnssec name (ByAlias proof) = shown_at dnssec name proof
-way_records dnssec name (ByDname set target) = made_records dnssec name set target
+abbrev pub way_records : Bool → List SetRec → List Label → Way → List ReplyRecord
+way_records dnssec earlier name (ByAlias proof) = shown_at dnssec name proof
+way_records dnssec earlier name (ByDname set target) = made_records dnssec earlier name set target
 
-abbrev pub end_records : Bool → List Label → End → List ReplyRecord
-end_records dnssec name (Proved proof) = shown_at dnssec name proof
-end_records dnssec name (Made set target) = made_records dnssec name set target
-end_records dnssec name (TooLong set) = dname_records dnssec set
+abbrev pub end_records : Bool → List SetRec → List Label → End → List ReplyRecord
+end_records dnssec earlier name (Proved proof) = shown_at dnssec name proof
+end_records dnssec earlier name (Made set target) = made_records dnssec earlier name set target
+end_records dnssec earlier name (TooLong set) = dname_records dnssec earlier set
+
+abbrev pub way_dnames : Way → List SetRec
+way_dnames (ByAlias proof) = []
+way_dnames (ByDname set target) = set ∷ []
 
 -- the records of each link, and then those of the end
+abbrev pub answers_after : Bool → List SetRec → List Link → List Label → End → List ReplyRecord
+answers_after dnssec earlier [] name end = end_records dnssec earlier name end
+answers_after dnssec earlier (link ∷ links) name end =
+    way_records dnssec earlier link.owner link.way
+    ++ answers_after dnssec (earlier ++ way_dnames link.way) links name end
+
 abbrev pub walk_answers : Bool → Walk → List ReplyRecord
-walk_answers dnssec walk =
-    flat_map (λ (link : Link). way_records dnssec link.owner link.way) walk.links
-    ++ end_records dnssec walk.last_name walk.end
+walk_answers dnssec walk = answers_after dnssec [] walk.links walk.last_name walk.end
 
 -- ---- the denial records, each once
 

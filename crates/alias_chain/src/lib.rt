@@ -8,6 +8,7 @@
 mod answering;
 mod dname_step;
 mod laws;
+mod leading;
 mod lent_dname;
 mod once;
 mod replying;
@@ -27,6 +28,6 @@ pub use laws::{
 };
 pub use replying::reply;
 pub use rule::Rule;
-pub use walk::{End, Link, MAX_LINKS, Walk, Way};
+pub use walk::{End, MAX_LINKS, Walk, Way};
 pub use walking::{follow, synthesise, walk_from};
 pub use writing::{write_redirected, write_trail, write_walk};

@@ -1,22 +1,43 @@
-//! Denial records, each once.
+//! DNAME sets and denial records, each once.
 ghost use Rattle.std.specs.Prelude.{◌≡◌};
 ghost use Rattle.std.specs.List.{list_any};
 ghost use Rattle.denial_records.specs.Proof.{denied_by};
 ghost use Rattle.denial_records.specs.declared.record.Record.TheVariants.{Nsec, Nsec3};
 ghost use Rattle.reply_core.specs.Shown.{shown_by, denial_in};
-ghost use Rattle.alias_chain.specs.WalkReply.{same_denial, way_denials};
-ghost use Rattle.alias_chain.specs.Lent.{way_by, denials_by};
+ghost use Rattle.alias_chain.specs.WalkReply.{same_set, same_denial};
+ghost use Rattle.alias_chain.specs.Lent.{dnames_in, dnames_by, denials_in, denials_by};
 
-use crate::{Link, Way};
-use denial_records::{Denial, KeptNsec, KeptNsec3, Verdict};
+use crate::Way;
+use denial_records::{Denial, KeptNsec, KeptNsec3, KeptSet, Verdict};
+
+/// Whether a link goes by the DNAME set.
+pub(crate) fn go_by(links: &[Way<'_>], set: &KeptSet) -> bool
+    ensures { result ≡ list_any (λ each. same_set each set.now) (dnames_by links.now) }
+{
+    for way in links {
+        if goes_by(way, set) {
+            return true;
+        }
+    }
+    false
+}
+
+fn goes_by(way: &Way<'_>, set: &KeptSet) -> bool
+    ensures { result ≡ list_any (λ each. same_set each set.now) (dnames_in way.now) }
+{
+    match way {
+        Way::Alias { verdict: _ } => false,
+        Way::Dname { set: other } => other.owner() == set.owner(),
+    }
+}
 
 /// Whether the record is among those of the links.
-pub(crate) fn is_among(links: &[Link<'_>], denial: &Denial<'_>) -> bool
+pub(crate) fn is_among(links: &[Way<'_>], denial: &Denial<'_>) -> bool
     ensures { result ≡ list_any (λ each. same_denial each (denied_by denial.now))
         (denials_by links.now) }
 {
-    for link in links {
-        if uses(&link.way, denial) {
+    for way in links {
+        if uses(way, denial) {
             return true;
         }
     }
@@ -25,11 +46,11 @@ pub(crate) fn is_among(links: &[Link<'_>], denial: &Denial<'_>) -> bool
 
 fn uses(way: &Way<'_>, denial: &Denial<'_>) -> bool
     ensures { result ≡ list_any (λ each. same_denial each (denied_by denial.now))
-        (way_denials (way_by way.now)) }
+        (denials_in way.now) }
 {
     match way {
         Way::Alias { verdict } => has(verdict, denial),
-        Way::Dname { set: _, target: _ } => false,
+        Way::Dname { set: _ } => false,
     }
 }
 

@@ -1,8 +1,7 @@
-//! The DNAME above a name.
+//! The DNAME above a name, and what is looked up for it.
 ghost use Rattle.std.specs.Prelude.{◌≡◌};
 ghost use Rattle.std.specs.Option.{option_copied};
 ghost use Rattle.cache_meaning.specs.Evidence.{usable_set};
-ghost use Rattle.dname.specs.declared.types.TheConstants.{DNAME_TYPE};
 ghost use Rattle.alias_chain.specs.Dname.{dname_of, dname_at, topmost_dname};
 
 use crate::lent_dname::LentDname;
@@ -27,15 +26,20 @@ pub(crate) fn topmost_dname<'a>(zone: &ZoneRef<'a>, now: u32, name: &Name) -> Op
 fn dname_at<'a>(zone: &ZoneRef<'a>, now: u32, owner: &Name) -> Option<LentDname<'a>>
     ensures { result ≡ dname_at zone.now.held now zone.now.apex owner.now }
 {
-    let set = usable_dname(zone, now, owner)?;
+    let set = usable_set(zone, now, owner, DNAME_TYPE)?;
     dname_of(set)
 }
 
-fn usable_dname<'a>(zone: &ZoneRef<'a>, now: u32, owner: &Name) -> Option<&'a KeptSet>
-    ensures { option_copied result
-        ≡ usable_set zone.now.held now zone.now.apex owner.now DNAME_TYPE }
+/// The set at the owner name and type that may be used now.
+pub(crate) fn usable_set<'a>(
+    zone: &ZoneRef<'a>,
+    now: u32,
+    owner: &Name,
+    rtype: u16,
+) -> Option<&'a KeptSet>
+    ensures { option_copied result ≡ usable_set zone.now.held now zone.now.apex owner.now rtype }
 {
-    let set = zone.set_at(owner, DNAME_TYPE)?;
+    let set = zone.set_at(owner, rtype)?;
     if u64::from(now) < set.expiry() {
         Some(set)
     } else {

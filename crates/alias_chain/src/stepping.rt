@@ -1,56 +1,67 @@
-//! A step from a name of which nothing is proved.
-ghost use Rattle.std.specs.Prelude.{◌≡◌, ℕ, IfSome};
+//! A step from a name of which nothing is proved, in the zone for the question.
+ghost use Rattle.std.specs.Prelude.{◌≡◌, ℕ, List, Some, IfSome};
 ghost use Rattle.std.specs.Option.{option_map};
+ghost use Rattle.dname.specs.Name.{Label};
 ghost use Rattle.cache_meaning.specs.Ttl.{ttl_of};
+ghost use Rattle.cache_meaning.specs.Zones.{zone_for};
 ghost use Rattle.reply_core.specs.Shown.{shown_by};
-ghost use Rattle.alias_chain.specs.Walk.{by_alias, alias_step, alias_target, step_of};
-ghost use Rattle.alias_chain.specs.Lent.{step_by, TellsStep};
+ghost use Rattle.alias_chain.specs.Walk.{by_alias, alias_step, step_of};
+ghost use Rattle.alias_chain.specs.Lent.{step_by, Leads, TellsStep};
 
 use crate::dname_step::by_dname;
+use crate::leading::alias_target;
 use crate::step::Step;
 use crate::{Rule, Way};
-use denial_records::{Kind, Verdict};
+use denial_records::Verdict;
+use dname::Name;
 use dname::types::{CNAME_TYPE, DS_TYPE};
-use dname::{Name, one_name_in};
-use record_store::Store;
-use resolver::prove;
+use record_store::ZoneRef;
+use resolver::prove_in;
 
 /// The step by the rule: the name's own alias, or else a DNAME above it.
 pub(crate) fn step_of<'a>(
-    store: &'a Store,
+    zone: &ZoneRef<'a>,
     rule: Rule,
     name: &Name,
     qtype: u16,
     now: u32,
 ) -> Option<Step<'a>>
-    ensures step { option_map step_by result ≡ step_of rule store.now now qtype name.now }
+    requires { zone_for zone.now.held name.now qtype ≡ Some zone.now.apex }
+    ensures step { option_map (step_by name.now) result
+        ≡ step_of rule zone.now.held now qtype name.now }
+    ensures leads { IfSome result (Leads name.now) }
     ensures ttl { IfSome result (TellsStep now) }
 {
     if rule.takes_aliases() {
-        if let Some(step) = by_alias(store, name, qtype, now) {
+        if let Some(step) = by_alias(zone, name, qtype, now) {
             return Some(step);
         }
     }
     if rule.takes_redirections() {
-        by_dname(store, name, qtype, now)
+        by_dname(zone, name, qtype, now)
     } else {
         None
     }
 }
 
-fn by_alias<'a>(store: &'a Store, name: &Name, qtype: u16, now: u32) -> Option<Step<'a>>
-    ensures step { option_map step_by result ≡ by_alias store.now now qtype name.now }
+fn by_alias<'a>(zone: &ZoneRef<'a>, name: &Name, qtype: u16, now: u32) -> Option<Step<'a>>
+    requires { zone_for zone.now.held name.now qtype ≡ Some zone.now.apex }
+    ensures step { option_map (step_by name.now) result
+        ≡ by_alias zone.now.held now qtype name.now }
+    ensures leads { IfSome result (Leads name.now) }
     ensures ttl { IfSome result (TellsStep now) }
 {
     if qtype == DS_TYPE {
         return None;
     }
-    let verdict = prove(store, name, CNAME_TYPE, now)?;
+    let verdict = prove_in(zone, name, CNAME_TYPE, now)?;
     alias_step(verdict)
 }
 
 fn alias_step<'a>(verdict: Verdict<'a>) -> Option<Step<'a>>
-    ensures step { option_map step_by result ≡ alias_step (shown_by verdict.entry) }
+    ensures step { (name : List Label)
+        → option_map (step_by name) result ≡ alias_step (shown_by verdict.entry) }
+    ensures leads { (name : List Label) → IfSome result (Leads name) }
     ensures ttl { (now : ℕ) → verdict.entry.ttl ≡ ttl_of now (shown_by verdict.entry)
         → IfSome result (TellsStep now) }
 {
@@ -59,15 +70,4 @@ fn alias_step<'a>(verdict: Verdict<'a>) -> Option<Step<'a>>
         way: Way::Alias { verdict },
         target,
     })
-}
-
-// Where an answer with a CNAME leads.
-fn alias_target(verdict: &Verdict<'_>) -> Option<Name>
-    ensures { result
-        ≡ alias_target (shown_by verdict.now).kind (shown_by verdict.now).answer }
-{
-    match verdict.kind {
-        Kind::Answer => one_name_in(verdict.answer_set?.items()),
-        Kind::NoData | Kind::NxDomain => None,
-    }
 }

@@ -3,9 +3,23 @@ ghost use Rattle.std.specs.Prelude.{◌≡◌, ◌+◌, ◌-◌, ◌≤◌, ◌+
 ghost use Rattle.dname.specs.Name.{IsName, IsUnder};
 ghost use Rattle.dname.specs.Read.{written};
 ghost use Rattle.alias_chain.specs.Target.{target_of};
+ghost use Rattle.alias_chain.specs.Lent.{made_by};
 
 use arrayvec::ArrayVec;
-use dname::{LentName, MAX_WIRE, Name};
+use denial_records::KeptSet;
+use dname::{LentName, MAX_WIRE, Name, one_name_in};
+
+/// What the DNAME set makes of a name below its owner; none where its data isn't one name, or where that would be too long.
+pub(crate) fn made_by(name: &Name, set: &KeptSet) -> Option<Name>
+    ensures { result ≡ made_by name.now set.now }
+{
+    let owner = set.owner();
+    if !name.lent().is_under(&owner) {
+        return None;
+    }
+    let suffix = one_name_in(set.items())?;
+    target_of(name, &owner, &suffix)
+}
 
 /// The name with its end, which is the owner, replaced by the suffix; none where it would have more than 255 octets.
 pub(crate) fn target_of(name: &Name, owner: &LentName<'_>, suffix: &Name) -> Option<Name>

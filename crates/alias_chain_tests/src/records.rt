@@ -1,10 +1,13 @@
-//! Sets of the zone `example`, questions, and what is written of them.
+//! Records, most of the zone `example`, questions, and what is written of them.
 
 use alias_chain::{Rule, reply};
 use arrayvec::ArrayVec;
-use denial_records::{Batch, KeptSet, Record, RecordList, SetRec};
+use denial_records::{
+    Batch, KeptNsec, KeptNsec3, KeptSet, Nsec3Rec, NsecRec, Record, RecordList, SetRec, TypeSet,
+};
 use dname::{Name, NameFault, Octets, OctetsList, OutOfMemory};
 use dnswire::{Edns, Question};
+use nsec3_hash::hash_name;
 use record_store::Store;
 use reply_core::ReplyBuffer;
 use std::alloc::Global;
@@ -37,8 +40,20 @@ fn list(alloc: Global, octets: &[u8]) -> Result<OctetsList, OutOfMemory> {
 
 /// A set of one record, with an hour to live and a signature of three octets.
 pub(crate) fn set(alloc: Global, owner: &[u8], rtype: u16, item: &[u8]) -> Result<Record, Fail> {
+    set_in(alloc, ZONE, owner, rtype, item, 3600)
+}
+
+/// The same of a zone, with so many seconds to live.
+pub(crate) fn set_in(
+    alloc: Global,
+    zone: &[u8],
+    owner: &[u8],
+    rtype: u16,
+    item: &[u8],
+    life: u32,
+) -> Result<Record, Fail> {
     let items = list(alloc, item)?;
-    set_of(alloc, owner, rtype, items)
+    set_of(alloc, zone, owner, rtype, life, items)
 }
 
 /// A set of two records.
@@ -51,20 +66,60 @@ pub(crate) fn set_of_two(
 ) -> Result<Record, Fail> {
     let mut items = list(alloc, item)?;
     items.push(Octets::of(alloc, other)?)?;
-    set_of(alloc, owner, rtype, items)
+    set_of(alloc, ZONE, owner, rtype, 3600, items)
 }
 
-fn set_of(alloc: Global, owner: &[u8], rtype: u16, items: OctetsList) -> Result<Record, Fail> {
+fn set_of(
+    alloc: Global,
+    zone: &[u8],
+    owner: &[u8],
+    rtype: u16,
+    life: u32,
+    items: OctetsList,
+) -> Result<Record, Fail> {
     let set = SetRec {
-        zone: name(ZONE)?,
+        zone: name(zone)?,
         owner: name(owner)?,
         rtype,
-        life: 3600,
-        expiry: HOUR,
+        life,
+        expiry: u64::from(THEN) + u64::from(life),
         items,
         signatures: list(alloc, b"SIG")?,
     };
     Ok(Record::Set(KeptSet::of(alloc, &set)?))
+}
+
+/// An NSEC record whose owner has A, RRSIG and NSEC. Its data is empty, as no proof reads it.
+pub(crate) fn nsec(alloc: Global, owner: &[u8], next: &[u8]) -> Result<Record, Fail> {
+    let nsec = NsecRec {
+        zone: name(ZONE)?,
+        owner: name(owner)?,
+        next: name(next)?,
+        types: TypeSet::read(alloc, b"\x00\x06\x40\x00\x00\x00\x00\x03")?,
+        life: 3600,
+        expiry: HOUR,
+        image: Octets::of(alloc, b"")?,
+        signatures: list(alloc, b"SIG")?,
+    };
+    Ok(Record::Nsec(KeptNsec::of(alloc, &nsec)?))
+}
+
+/// The NSEC3 record of a zone that has no name but its apex, with NS, SOA, RRSIG and NSEC3PARAM there.
+pub(crate) fn nsec3(alloc: Global, zone: &[u8], opt_out: bool) -> Result<Record, Fail> {
+    let nsec3 = Nsec3Rec {
+        zone: name(zone)?,
+        hash: hash_name(&name(zone)?, b"", 0),
+        next: hash_name(&name(zone)?, b"", 0),
+        salt: Octets::of(alloc, b"")?,
+        iterations: 0,
+        opt_out,
+        types: TypeSet::read(alloc, b"\x00\x07\x22\x00\x00\x00\x00\x02\x10")?,
+        life: 3600,
+        expiry: HOUR,
+        image: Octets::of(alloc, b"")?,
+        signatures: list(alloc, b"SIG")?,
+    };
+    Ok(Record::Nsec3(KeptNsec3::of(alloc, &nsec3)?))
 }
 
 pub(crate) fn store_of(alloc: Global, records: RecordList) -> Result<Store, Fail> {
@@ -98,5 +153,16 @@ pub(crate) fn replied(
     question: &Question,
     out: &mut ReplyBuffer,
 ) -> bool {
-    reply(store, rule, question, THEN + 10, out)
+    replied_after(store, rule, question, 10, out)
+}
+
+/// The same at so many seconds later, fewer than 3,600.
+pub(crate) fn replied_after(
+    store: &Store,
+    rule: Rule,
+    question: &Question,
+    seconds: u16,
+    out: &mut ReplyBuffer,
+) -> bool {
+    reply(store, rule, question, THEN + u32::from(seconds), out)
 }

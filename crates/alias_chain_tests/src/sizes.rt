@@ -103,11 +103,29 @@ fn put_dnames(alloc: Global, records: &mut RecordList) -> Result<(), Fail> {
     Ok(())
 }
 
+// A name that the upper DNAME makes of one below it, and that leads back below it; and a DNAME that leads there too.
+fn put_back(alloc: Global, records: &mut RecordList) -> Result<(), Fail> {
+    records.push(set(
+        alloc,
+        b"\x01t\x03new\x07example\x00",
+        CNAME,
+        b"\x01x\x03old\x07example\x00",
+    )?)?;
+    records.push(set(
+        alloc,
+        b"\x01p\x07example\x00",
+        DNAME,
+        b"\x03old\x07example\x00",
+    )?)?;
+    Ok(())
+}
+
 fn store(alloc: Global) -> Result<Store, Fail> {
     let mut records = RecordList::empty(alloc);
     put_aliases(alloc, &mut records)?;
     put_faulty(alloc, &mut records)?;
     put_dnames(alloc, &mut records)?;
+    put_back(alloc, &mut records)?;
     store_of(alloc, records)
 }
 
@@ -122,11 +140,12 @@ fn sized(rule: Rule, asked: &'static [u8], qtype: u16, octets: usize) -> Row {
 
 // 12 octets and the question; an alias of one letter to another 32, to a name of 15 octets 36, an address of a letter 25, of a name of 15
 // octets 29; the DNAME 36, the CNAME that it makes of a name of 15 octets 40, of one of 17 octets 44.
-fn rows() -> [Row; 24] {
+fn rows() -> [Row; 27] {
     let a = b"\x01a\x07example\x00".as_slice();
     let x = b"\x01x\x03old\x07example\x00".as_slice();
     let v = b"\x01v\x03old\x07example\x00".as_slice();
     let y = b"\x01y\x07example\x00".as_slice();
+    let t = b"\x01t\x03old\x07example\x00".as_slice();
     [
         sized(Rule::Aliases, b"\x01i\x07example\x00", A, 52),
         sized(Rule::Aliases, a, A, 308),
@@ -157,6 +176,20 @@ fn rows() -> [Row; 24] {
         sized(Rule::Redirection, y, A, 0),
         sized(Rule::Aliases, y, A, 0),
         sized(Rule::Both, y, A, 12 + 15 + 36 + 36 + 40 + 29),
+        // A DNAME by which two links go stands once, and two that differ stand both.
+        sized(Rule::Both, t, A, 12 + 19 + 36 + 40 + 40 + 40 + 29),
+        sized(
+            Rule::Both,
+            b"\x01x\x01p\x07example\x00",
+            A,
+            12 + 17 + 34 + 38 + 36 + 40 + 29,
+        ),
+        sized(
+            Rule::Both,
+            b"\x01x\x01p\x07example\x00",
+            CNAME,
+            12 + 17 + 34 + 38,
+        ),
     ]
 }
 

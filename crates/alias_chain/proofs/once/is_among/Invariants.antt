@@ -5,5 +5,5 @@ use Rattle.alias_chain.specs.WalkReply.{same_denial}
 use Rattle.alias_chain.specs.Lent.{denials_by}
 use Rattle.alias_chain.proofs.once.is_among.Given as goal
 
-abbrev pub invariant-loop-link : goal.invariant-loop-link
-invariant-loop-link l = list_any (λ each. same_denial each (denied_by l.denial)) (denials_by (take l.link-index l.links)) ≡ false
+abbrev pub invariant-loop-way : goal.invariant-loop-way
+invariant-loop-way l = list_any (λ each. same_denial each (denied_by l.denial)) (denials_by (take l.way-index l.links)) ≡ false

@@ -1,11 +1,20 @@
 use Rattle.std.proofs.Common.{◌∙◌, sym}
-use Rattle.alias_chain.proofs.ReplyLemmas.{proof_replies, beyond_replies}
+use Rattle.cache_meaning.specs.Zones.{zone_for}
+use Rattle.alias_chain.proofs.ReplyLemmas.{zone_replies, none_asked, none_there}
+use Rattle.alias_chain.proofs.StepLemmas.{no_zone}
 use Rattle.alias_chain.proofs.replying.reply.Goals as goal
 
-pub returns-then-reply-clause-reply : goal.returns-then-reply-clause-reply
-returns-then-reply-clause-reply c = proof_replies c.args.rule c.args.store.now c.args.question.now c.args.now c.reply.new.out c.if-reply.ensures.reply
+pub returns-then-not-asks_a_zone-clause-reply : goal.returns-then-not-asks_a_zone-clause-reply
+returns-then-not-asks_a_zone-clause-reply c =
+    (none_asked c.args.rule c.args.store.now c.args.question.now c.args.now (sym c.asks_a_zone.ensures ∙ c.if-not-asks_a_zone.true), c.clear.ensures)
+
+pub returns-in_default-clause-reply : goal.returns-in_default-clause-reply
+returns-in_default-clause-reply c =
+    let held = c.args.store.now in
+    let question = c.args.question.now in
+    (none_there c.args.rule held question c.args.now (no_zone held (zone_for held question.name question.qtype) c.in_default.ensures), c.clear-in_default.ensures)
 
 pub returns-clause-reply : goal.returns-clause-reply
 returns-clause-reply c =
-    beyond_replies c.args.rule c.args.store.now c.args.question.now c.args.now c.reply_beyond.result c.reply.new.out c.reply_beyond.new.out
-    (sym c.asks_a_zone.ensures ∙ c.if-not-asks_a_zone.false) c.if-reply.ensures.reply c.reply_beyond.ensures
+    zone_replies c.args.rule c.args.store.now c.args.question.now c.args.now c.reply_from.result c.reply_from.new.out
+    (sym c.asks_a_zone.ensures ∙ c.if-not-asks_a_zone.false) c.reply_from.ensures

@@ -1,8 +1,8 @@
 use Rattle.std.proofs.Common.{◌≡◌, take}
 use Rattle.std.specs.Prelude.{fold, min}
 use Rattle.alias_chain.specs.Lent.{told_by_way}
-use Rattle.alias_chain.specs.declared.walk.Link.{Link}
+use Rattle.alias_chain.specs.declared.walk.Way.{Way}
 use Rattle.alias_chain.proofs.walking.least_ttl.Given as goal
 
-abbrev pub invariant-loop-link : goal.invariant-loop-link
-invariant-loop-link l = l.least ≡ fold (λ ttl (link : Link). min ttl (told_by_way l.now link.way)) l.last (take l.link-index l.links)
+abbrev pub invariant-loop-way : goal.invariant-loop-way
+invariant-loop-way l = l.least ≡ fold (λ ttl (way : Way). min ttl (told_by_way l.now way)) l.last (take l.way-index l.links)

@@ -1,25 +1,45 @@
-use Rattle.std.proofs.Common.{◌≡◌, ◌<◌, ◌≤◌, List, [], ◌++◌, length, get_or, subst, arith}
-use Rattle.reply_core.specs.Reply.{ReplyRecord, wants_dnssec}
+use Rattle.std.proofs.Common.{◌≡◌, ◌<◌, ◌≤◌, List, [], ◌++◌, length, take, get_or, subst, sym, ◌∙◌, ap, arith}
+use Rattle.reply_core.specs.Reply.{wants_dnssec}
 use Rattle.reply_core.specs.Sections.{HasWritten}
-use Rattle.alias_chain.specs.Walk.{Link}
 use Rattle.alias_chain.specs.WalkReply.{way_records, end_records}
-use Rattle.alias_chain.specs.Lent.{end_by}
-use Rattle.alias_chain.proofs.WritingLemmas.{answers_more, answers_all}
+use Rattle.alias_chain.specs.Lent.{next_by, way_by, end_by, dnames_by}
+use Rattle.alias_chain.specs.declared.walk.Way.{Way}
+use Rattle.alias_chain.proofs.WritingLemmas.{led_so_far, answered_none, answered_more, answered_all}
 use Rattle.alias_chain.proofs.writing.put_answers.Goals as goal
 
-pub loop-link-preserved : goal.loop-link-preserved
-loop-link-preserved c question rcode ttl was =
-    let links = c.args.walk.now.links.items in
-    let inside : c.loop-link.link-index < length links = rw (← c.as_slice-link-items.ensures.value) c.loop-link-test.true in
-    let at : c.link-item.result ≡ get_or links c.loop-link.link-index c.link-item.result = rw (← c.as_slice-link-items.ensures.value) c.link-item.is in
-    subst (λ them. HasWritten question rcode ttl them [] c.put_way.new.sections)
-    (answers_more (λ (link : Link). way_records (wants_dnssec question) link.owner link.way) links c.loop-link.link-index c.link-item.result inside at)
-    (c.put_way.ensures question rcode ttl _ (c.loop-link.invariant question rcode ttl was))
+pub loop-place-init : goal.loop-place-init
+loop-place-init c =
+    let walk = c.args.walk.now in
+    record {
+      at = c.copy-owner.ensures;
+      answered = λ question rcode ttl was. answered_none walk.name walk.links.items walk.last_name (end_by walk.last_name walk.end) question rcode ttl c.args.sections.now was;
+    }
+
+pub loop-place-preserved : goal.loop-place-preserved
+loop-place-preserved c =
+    let walk = c.args.walk.now in
+    let links = walk.links.items in
+    let way = c.index-links-place.result in
+    let inside : c.loop-place.place < length links = rw (← c.as_slice-links.ensures.value) (omega (arith, c.loop-place-test.true)) in
+    let at : way ≡ get_or links c.loop-place.place way = rw (← c.as_slice-links.ensures.value) c.index-links-place.is in
+    record {
+      at =
+          c.next_name-owner.ensures
+          ∙ ap (λ name. next_by name way) c.loop-place.invariant.at
+          ∙ sym (led_so_far links c.loop-place.place way inside at walk.name);
+      answered = λ question rcode ttl was.
+          answered_more walk.name links walk.last_name (end_by walk.last_name walk.end) question rcode ttl c.loop-place.place way c.loop-place.owner c.loop-place.sections c.put_way.new.sections inside at c.loop-place.invariant.at
+          (c.loop-place.invariant.answered question rcode ttl was)
+          (λ answers here. subst (λ earlier. HasWritten question rcode ttl (answers ++ way_records (wants_dnssec question) (dnames_by earlier) c.loop-place.owner (way_by way (next_by c.loop-place.owner way))) [] c.put_way.new.sections)
+          (c.first_of.ensures ∙ ap (take c.loop-place.place) c.as_slice-links.ensures.value) (c.put_way.ensures question rcode ttl answers here));
+    }
 
 pub returns : goal.returns
-returns c question rcode ttl was =
-    let links = c.args.walk.now.links.items in
-    let all_done : length links ≤ c.loop-link.link-index = rw (← c.as_slice-link-items.ensures.value) (omega (arith, c.loop-link-test.false)) in
-    subst (λ (them : List ReplyRecord). HasWritten question rcode ttl (them ++ end_records (wants_dnssec question) c.args.walk.now.last_name (end_by c.args.walk.now.end)) [] c.put_end.new.sections)
-    (answers_all (λ (link : Link). way_records (wants_dnssec question) link.owner link.way) links c.loop-link.link-index all_done)
-    (c.put_end.ensures question rcode ttl _ (c.loop-link.invariant question rcode ttl was))
+returns c = λ question rcode ttl was.
+    let walk = c.args.walk.now in
+    let links = walk.links.items in
+    let all_done : length links ≤ c.loop-place.place = rw (← c.as_slice-links.ensures.value) (omega (arith, c.loop-place-test.false)) in
+    answered_all walk.name links walk.last_name (end_by walk.last_name walk.end) question rcode ttl c.loop-place.place c.loop-place.sections c.put_end.new.sections all_done
+    (c.loop-place.invariant.answered question rcode ttl was)
+    (λ answers here. subst (λ (them : List Way). HasWritten question rcode ttl (answers ++ end_records (wants_dnssec question) (dnames_by them) walk.last_name (end_by walk.last_name walk.end)) [] c.put_end.new.sections)
+    c.as_slice-links.ensures.value (c.put_end.ensures question rcode ttl answers here))

@@ -9,6 +9,6 @@ use Rattle.alias_chain.specs.declared.walk.End.{End}
 use Rattle.alias_chain.proofs.writing.put_soa.Goals as goal
 
 pub returns-in-Proved : goal.returns-in-Proved
-returns-in-Proved c = λ question rcode ttl answers was.
-    subst (λ (end : End). HasWritten question rcode ttl answers (flat_map (λ soa. set_records (wants_dnssec question) (owner_of soa) soa) (listed (end_soa (end_by end)))) c.put_soa.new.self)
+returns-in-Proved c = λ name question rcode ttl answers was.
+    subst (λ (end : End). HasWritten question rcode ttl answers (flat_map (λ soa. set_records (wants_dnssec question) (owner_of soa) soa) (listed (end_soa (end_by name end)))) c.put_soa.new.self)
     (sym c.in-Proved.is) (c.put_soa.ensures question rcode ttl answers [] was)

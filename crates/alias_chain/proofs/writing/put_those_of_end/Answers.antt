@@ -8,6 +8,6 @@ use Rattle.alias_chain.specs.declared.walk.End.{End}
 use Rattle.alias_chain.proofs.writing.put_those_of_end.Goals as goal
 
 pub returns-in-Proved : goal.returns-in-Proved
-returns-in-Proved c = λ question rcode ttl answers authorities was.
-    subst (λ (end : End). HasWritten question rcode ttl answers (authorities ++ flat_map (proof_records (wants_dnssec question)) (are_new (denials_by c.args.earlier.now) (end_denials (end_by end)))) c.put_new_denials.new.sections)
+returns-in-Proved c = λ name question rcode ttl answers authorities was.
+    subst (λ (end : End). HasWritten question rcode ttl answers (authorities ++ flat_map (proof_records (wants_dnssec question)) (are_new (denials_by c.args.earlier.now) (end_denials (end_by name end)))) c.put_new_denials.new.sections)
     (sym c.in-Proved.is) (c.put_new_denials.ensures question rcode ttl answers authorities was)

@@ -3,7 +3,7 @@ use Rattle.std.specs.Option.{option_map}
 use Rattle.alias_chain.specs.Lent.{walk_by}
 use Rattle.alias_chain.specs.WalkReply.{octets_at}
 use Rattle.alias_chain.proofs.ReplyLemmas.{walk_replies}
-use Rattle.alias_chain.proofs.replying.reply_beyond.Goals as goal
+use Rattle.alias_chain.proofs.replying.reply_by_walk.Goals as goal
 
 pub returns : goal.returns
 returns c =
