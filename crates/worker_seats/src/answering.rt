@@ -83,12 +83,12 @@ fn query_frame(
         seat.old seat.new (input_of frame.entry.now) out.old.items out.new.items) }
     ensures kept { OnErr result (out.new.items ≡ out.old.items) }
 {
-    match read_query(frame.message) {
+    match &read_query(frame.message) {
         QueryRead::Dropped => write_output(frame, OutKind::Dropped, 0, &[], out),
-        QueryRead::NotImp(head) => write_error_output(frame, &head, NOT_IMPLEMENTED, reply, out),
-        QueryRead::FormErr(head) => write_error_output(frame, &head, FORMAT_ERROR, reply, out),
-        QueryRead::BadVers(question) => write_bad_version_output(frame, &question, reply, out),
-        QueryRead::Query(question) => ask(cache, seat, answering, frame, &question, reply, out),
+        QueryRead::NotImp(head) => write_error_output(frame, head, NOT_IMPLEMENTED, reply, out),
+        QueryRead::FormErr(head) => write_error_output(frame, head, FORMAT_ERROR, reply, out),
+        QueryRead::BadVers(question) => write_bad_version_output(frame, question, reply, out),
+        QueryRead::Query(question) => ask(cache, seat, answering, frame, question, reply, out),
     }
 }
 
