@@ -45,16 +45,16 @@ fn take_record(
     refused: Option<SourceFault>,
     owner: Name,
     rtype: u16,
-    data: &[u8],
+    rdata: &[u8],
 ) -> Result<Option<SourceFault>, OutOfMemory>
     ensures { IfOk result (λ now. (apex : List Label) (records : List ZoneRecord)
         → AreTaken apex records zone.old refused
-        → AreTaken apex (records ++ zone_record owner rtype data.now ∷ []) zone.new now) }
+        → AreTaken apex (records ++ zone_record owner rtype rdata.now ∷ []) zone.new now) }
 {
     if refused.is_some() {
         return Ok(refused);
     }
-    let octets = Octets::of(alloc, data)?;
+    let octets = Octets::of(alloc, rdata)?;
     match zone.add(owner, rtype, octets) {
         Ok(()) => Ok(None),
         Err(AddFault::Outside) => Ok(Some(SourceFault::Outside)),

@@ -7,9 +7,9 @@ use Rattle.std.proofs.lemmas.Bool.{eqb-true, eqb-false}
 use Rattle.std.proofs.lemmas.Option.{same_Some}
 use Rattle.std.proofs.lemmas.List.Elements.{All-nil, All-cons, All-head, All-tail, All-same}
 use Rattle.command_line.specs.Words.{Word, Setting, Sets, two, one, Gives, nothing, first, Means, texts, workers_setting, seed_setting, names_setting, queries_setting, HasPorts, listen_setting, upstream_setting, datagrams_setting, connections_setting}
-use Rattle.command_line.specs.Options.{IsWalkNamed}
+use Rattle.command_line.specs.Options.{IsBareNamed}
 use Rattle.command_line.specs.declared.command.Command.{Command}
-use Rattle.command_line.specs.declared.command.Command.TheVariants.{Replay, Selfrun, Serve, Chase, Redirect, Follow, Tcp}
+use Rattle.command_line.specs.declared.command.Command.TheVariants.{Replay, Selfrun, Serve, Chase, Redirect, Follow, Tcp, Audit}
 
 -- ---- the first word
 
@@ -74,6 +74,7 @@ serve_every words options r is every Chase is' = absurd (differ (codes "serve") 
 serve_every words options r is every Redirect is' = absurd (differ (codes "serve") (codes "redirect") options [] refl (sym is ∙ is'))
 serve_every words options r is every Follow is' = absurd (differ (codes "serve") (codes "follow") options [] refl (sym is ∙ is'))
 serve_every words options r is every (Tcp listen connections) (rest, is', gives) = absurd (differ (codes "serve") (codes "tcp") options rest refl (sym is ∙ is'))
+serve_every words options r is every Audit is' = absurd (differ (codes "serve") (codes "audit") options [] refl (sym is ∙ is'))
 
 pub replay_read : {E : Type 0} (words options : List Word) (r : Answer E) → words ≡ codes "replay" ∷ options → IfOk r (λ found. IfSome found (λ command. (workers : ℕ) × (command ≡ Replay workers) × OfReplay workers options)) → IfOk r (λ found. IfSome found (Means words))
 replay_read words options (Err e) is read = tt
@@ -88,6 +89,7 @@ replay_every words options r is every Chase is' = absurd (differ (codes "replay"
 replay_every words options r is every Redirect is' = absurd (differ (codes "replay") (codes "redirect") options [] refl (sym is ∙ is'))
 replay_every words options r is every Follow is' = absurd (differ (codes "replay") (codes "follow") options [] refl (sym is ∙ is'))
 replay_every words options r is every (Tcp listen connections) (rest, is', gives) = absurd (differ (codes "replay") (codes "tcp") options rest refl (sym is ∙ is'))
+replay_every words options r is every Audit is' = absurd (differ (codes "replay") (codes "audit") options [] refl (sym is ∙ is'))
 
 pub tcp_read : {E : Type 0} (words options : List Word) (r : Answer E) → words ≡ codes "tcp" ∷ options → IfOk r (λ found. IfSome found (λ command. (listen connections : ℕ) × (command ≡ Tcp listen connections) × OfTcp listen connections options)) → IfOk r (λ found. IfSome found (Means words))
 tcp_read words options (Err e) is read = tt
@@ -102,6 +104,7 @@ tcp_every words options r is every Chase is' = absurd (differ (codes "tcp") (cod
 tcp_every words options r is every Redirect is' = absurd (differ (codes "tcp") (codes "redirect") options [] refl (sym is ∙ is'))
 tcp_every words options r is every Follow is' = absurd (differ (codes "tcp") (codes "follow") options [] refl (sym is ∙ is'))
 tcp_every words options r is every (Tcp listen connections) (rest, is', gives) = every listen connections (subst (OfTcp listen connections) (ap (drop 1) (sym is' ∙ is)) gives)
+tcp_every words options r is every Audit is' = absurd (differ (codes "tcp") (codes "audit") options [] refl (sym is ∙ is'))
 
 pub selfrun_read : {E : Type 0} (words options : List Word) (r : Answer E) → words ≡ codes "selfrun" ∷ options → IfOk r (λ found. IfSome found (λ command. (seed names queries : ℕ) × (command ≡ Selfrun seed names queries) × OfSelfrun seed names queries options)) → IfOk r (λ found. IfSome found (Means words))
 selfrun_read words options (Err e) is read = tt
@@ -116,16 +119,18 @@ selfrun_every words options r is every Chase is' = absurd (differ (codes "selfru
 selfrun_every words options r is every Redirect is' = absurd (differ (codes "selfrun") (codes "redirect") options [] refl (sym is ∙ is'))
 selfrun_every words options r is every Follow is' = absurd (differ (codes "selfrun") (codes "follow") options [] refl (sym is ∙ is'))
 selfrun_every words options r is every (Tcp listen connections) (rest, is', gives) = absurd (differ (codes "selfrun") (codes "tcp") options rest refl (sym is ∙ is'))
+selfrun_every words options r is every Audit is' = absurd (differ (codes "selfrun") (codes "audit") options [] refl (sym is ∙ is'))
 
-pub walk_read : (words options : List Word) (front : Word) (r : Option Command) → words ≡ front ∷ options → IfSome r (λ command. (options ≡ []) × IsWalkNamed front command) → IfSome r (Means words)
-walk_read words options front None is read = tt
-walk_read words options front (Some (Replay workers)) is (none, named) = absurd named
-walk_read words options front (Some (Selfrun seed names queries)) is (none, named) = absurd named
-walk_read words options front (Some (Serve listen upstream workers datagrams)) is (none, named) = absurd named
-walk_read words options front (Some Chase) is (none, named) = is ∙ (λ i. named i ∷ none i)
-walk_read words options front (Some Redirect) is (none, named) = is ∙ (λ i. named i ∷ none i)
-walk_read words options front (Some Follow) is (none, named) = is ∙ (λ i. named i ∷ none i)
-walk_read words options front (Some (Tcp listen connections)) is (none, named) = absurd named
+pub bare_read : (words options : List Word) (front : Word) (r : Option Command) → words ≡ front ∷ options → IfSome r (λ command. (options ≡ []) × IsBareNamed front command) → IfSome r (Means words)
+bare_read words options front None is read = tt
+bare_read words options front (Some (Replay workers)) is (none, named) = absurd named
+bare_read words options front (Some (Selfrun seed names queries)) is (none, named) = absurd named
+bare_read words options front (Some (Serve listen upstream workers datagrams)) is (none, named) = absurd named
+bare_read words options front (Some Chase) is (none, named) = is ∙ (λ i. named i ∷ none i)
+bare_read words options front (Some Redirect) is (none, named) = is ∙ (λ i. named i ∷ none i)
+bare_read words options front (Some Follow) is (none, named) = is ∙ (λ i. named i ∷ none i)
+bare_read words options front (Some (Tcp listen connections)) is (none, named) = absurd named
+bare_read words options front (Some Audit) is (none, named) = is ∙ (λ i. named i ∷ none i)
 
 -- the first word, and those behind it
 first_is : (words options rest : List Word) (front front' : Word) → words ≡ front ∷ options → words ≡ front' ∷ rest → front ≡ front'
@@ -134,15 +139,16 @@ first_is words options rest front front' is is' = ap (λ l. get_or l 0 []) (sym 
 rest_is : (words options rest : List Word) (front front' : Word) → words ≡ front ∷ options → words ≡ front' ∷ rest → options ≡ rest
 rest_is words options rest front front' is is' = ap (drop 1) (sym is ∙ is')
 
-pub walk_every : (words options : List Word) (front : Word) (r : Option Command) → words ≡ front ∷ options → (front ≡ codes "replay" → ⊥) → (front ≡ codes "selfrun" → ⊥) → (front ≡ codes "serve" → ⊥) → (front ≡ codes "tcp" → ⊥)
-    → ((command : Command) → options ≡ [] → IsWalkNamed front command → r ≡ Some command) → (command : Command) → Means words command → r ≡ Some command
-walk_every words options front r is replay selfrun serve tcp every (Replay workers) (rest, is', gives) = absurd (replay (first_is words options rest front (codes "replay") is is'))
-walk_every words options front r is replay selfrun serve tcp every (Selfrun seed names queries) (rest, is', gives) = absurd (selfrun (first_is words options rest front (codes "selfrun") is is'))
-walk_every words options front r is replay selfrun serve tcp every (Serve listen upstream workers datagrams) (rest, is', gives, ports) = absurd (serve (first_is words options rest front (codes "serve") is is'))
-walk_every words options front r is replay selfrun serve tcp every Chase is' = every Chase (rest_is words options [] front (codes "chase") is is') (first_is words options [] front (codes "chase") is is')
-walk_every words options front r is replay selfrun serve tcp every Redirect is' = every Redirect (rest_is words options [] front (codes "redirect") is is') (first_is words options [] front (codes "redirect") is is')
-walk_every words options front r is replay selfrun serve tcp every Follow is' = every Follow (rest_is words options [] front (codes "follow") is is') (first_is words options [] front (codes "follow") is is')
-walk_every words options front r is replay selfrun serve tcp every (Tcp listen connections) (rest, is', gives) = absurd (tcp (first_is words options rest front (codes "tcp") is is'))
+pub bare_every : (words options : List Word) (front : Word) (r : Option Command) → words ≡ front ∷ options → (front ≡ codes "replay" → ⊥) → (front ≡ codes "selfrun" → ⊥) → (front ≡ codes "serve" → ⊥) → (front ≡ codes "tcp" → ⊥)
+    → ((command : Command) → options ≡ [] → IsBareNamed front command → r ≡ Some command) → (command : Command) → Means words command → r ≡ Some command
+bare_every words options front r is replay selfrun serve tcp every (Replay workers) (rest, is', gives) = absurd (replay (first_is words options rest front (codes "replay") is is'))
+bare_every words options front r is replay selfrun serve tcp every (Selfrun seed names queries) (rest, is', gives) = absurd (selfrun (first_is words options rest front (codes "selfrun") is is'))
+bare_every words options front r is replay selfrun serve tcp every (Serve listen upstream workers datagrams) (rest, is', gives, ports) = absurd (serve (first_is words options rest front (codes "serve") is is'))
+bare_every words options front r is replay selfrun serve tcp every Chase is' = every Chase (rest_is words options [] front (codes "chase") is is') (first_is words options [] front (codes "chase") is is')
+bare_every words options front r is replay selfrun serve tcp every Redirect is' = every Redirect (rest_is words options [] front (codes "redirect") is is') (first_is words options [] front (codes "redirect") is is')
+bare_every words options front r is replay selfrun serve tcp every Follow is' = every Follow (rest_is words options [] front (codes "follow") is is') (first_is words options [] front (codes "follow") is is')
+bare_every words options front r is replay selfrun serve tcp every (Tcp listen connections) (rest, is', gives) = absurd (tcp (first_is words options rest front (codes "tcp") is is'))
+bare_every words options front r is replay selfrun serve tcp every Audit is' = every Audit (rest_is words options [] front (codes "audit") is is') (first_is words options [] front (codes "audit") is is')
 
 pub no_words : (words : List Word) → words ≡ [] → (command : Command) → Means words command → ⊥
 no_words words none (Replay workers) (rest, is, gives) = absurd (omega (arith, ap length (sym none ∙ is)))
@@ -152,6 +158,7 @@ no_words words none Chase is = absurd (omega (arith, ap length (sym none ∙ is)
 no_words words none Redirect is = absurd (omega (arith, ap length (sym none ∙ is)))
 no_words words none Follow is = absurd (omega (arith, ap length (sym none ∙ is)))
 no_words words none (Tcp listen connections) (rest, is, gives) = absurd (omega (arith, ap length (sym none ∙ is)))
+no_words words none Audit is = absurd (omega (arith, ap length (sym none ∙ is)))
 
 -- ---- the values lie in their ranges
 
@@ -218,6 +225,7 @@ seed_of Chase = 0
 seed_of Redirect = 0
 seed_of Follow = 0
 seed_of (Tcp listen connections) = 0
+seed_of Audit = 0
 
 names_of : Command → ℕ
 names_of (Replay workers) = 0
@@ -227,6 +235,7 @@ names_of Chase = 0
 names_of Redirect = 0
 names_of Follow = 0
 names_of (Tcp listen connections) = 0
+names_of Audit = 0
 
 queries_of : Command → ℕ
 queries_of (Replay workers) = 0
@@ -236,6 +245,7 @@ queries_of Chase = 0
 queries_of Redirect = 0
 queries_of Follow = 0
 queries_of (Tcp listen connections) = 0
+queries_of Audit = 0
 
 workers_of : Command → ℕ
 workers_of (Replay workers) = workers
@@ -245,6 +255,7 @@ workers_of Chase = 0
 workers_of Redirect = 0
 workers_of Follow = 0
 workers_of (Tcp listen connections) = 0
+workers_of Audit = 0
 
 pub same_workers : (command : Command) (workers asked : ℕ) → command ≡ Replay workers → Some command ≡ Some (Replay asked) → workers ≡ asked
 unfolding workers_of

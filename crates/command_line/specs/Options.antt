@@ -7,7 +7,7 @@ use Rattle.clap.specs.Words.{App, Rule, first_value, found_of, new_app, new_rule
 use Rattle.clap.specs.declared.parser.matches.ArgMatches.{ArgMatches}
 use Rattle.command_line.specs.Words.{Word, Setting, IsValue}
 use Rattle.command_line.specs.declared.command.Command.{Command}
-use Rattle.command_line.specs.declared.command.Command.TheVariants.{Replay, Selfrun, Serve, Chase, Redirect, Follow, Tcp}
+use Rattle.command_line.specs.declared.command.Command.TheVariants.{Replay, Selfrun, Serve, Chase, Redirect, Follow, Tcp, Audit}
 use Rattle.command_line.specs.declared.setting.Setting as program
 
 -- the option's name in a word: two hyphens stand before it
@@ -65,11 +65,12 @@ AreRead matches [] = Unit {0}
 AreRead matches (given ∷ others) = IsValue given.0 (text_of matches given.0) given.1 × AreRead matches others
 
 -- the command, which has no options, has this name
-abbrev pub IsWalkNamed : Word → Command → Type 0
-IsWalkNamed name (Replay workers) = ⊥
-IsWalkNamed name (Selfrun seed names queries) = ⊥
-IsWalkNamed name (Serve listen upstream workers datagrams) = ⊥
-IsWalkNamed name Chase = name ≡ codes "chase"
-IsWalkNamed name Redirect = name ≡ codes "redirect"
-IsWalkNamed name Follow = name ≡ codes "follow"
-IsWalkNamed name (Tcp listen connections) = ⊥
+abbrev pub IsBareNamed : Word → Command → Type 0
+IsBareNamed name (Replay workers) = ⊥
+IsBareNamed name (Selfrun seed names queries) = ⊥
+IsBareNamed name (Serve listen upstream workers datagrams) = ⊥
+IsBareNamed name Chase = name ≡ codes "chase"
+IsBareNamed name Redirect = name ≡ codes "redirect"
+IsBareNamed name Follow = name ≡ codes "follow"
+IsBareNamed name (Tcp listen connections) = ⊥
+IsBareNamed name Audit = name ≡ codes "audit"

@@ -3,7 +3,7 @@ use Rattle.std.specs.Prelude.{◌≡◌, ◌⊎◌, ℕ, ◌+◌, ◌-◌, ◌<�
 use Rattle.std.specs.Str.Parse.{IsNumeral, digits_value}
 use Rattle.std.specs.declared.alloc.Global.{Global}
 use Rattle.command_line.specs.declared.command.Command.{Command}
-use Rattle.command_line.specs.declared.command.Command.TheVariants.{Replay, Selfrun, Serve, Chase, Redirect, Follow, Tcp}
+use Rattle.command_line.specs.declared.command.Command.TheVariants.{Replay, Selfrun, Serve, Chase, Redirect, Follow, Tcp, Audit}
 
 -- a word, octet by octet
 abbrev pub Word : Type 0
@@ -67,7 +67,7 @@ pub record HasPorts (listen upstream workers : ℕ) : Type 0 where
   pub last : listen + workers - 1 ≤ 65535
   pub apart : (upstream < listen) ⊎ (listen + workers ≤ upstream)
 
--- the words after a command's name are its options; `chase`, `redirect` and `follow` have none
+-- the words after a command's name are its options; `chase`, `redirect`, `follow` and `audit` have none
 abbrev pub Means : List Word → Command → Type 0
 Means words (Replay workers) =
     (options : List Word) × (words ≡ codes "replay" ∷ options) × Gives ((workers_setting, workers) ∷ []) options
@@ -85,6 +85,7 @@ Means words Follow = words ≡ codes "follow" ∷ []
 Means words (Tcp listen connections) =
     (options : List Word) × (words ≡ codes "tcp" ∷ options)
     × Gives ((listen_setting, listen) ∷ (connections_setting, connections) ∷ []) options
+Means words Audit = words ≡ codes "audit" ∷ []
 
 abbrev pub texts : List (String Global) → List Word
 texts words = map string_bytes words

@@ -1,7 +1,7 @@
 ghost use Rattle.std.specs.Prelude.{◌≡◌, ◌↔◌, ◌≤◌, ℕ, [], ◌∷◌, drop, length, IfOk, IfSome, IsTrue, Some};
 ghost use Rattle.std.specs.String.{string_bytes};
 ghost use Rattle.command_line.specs.Words.{AreWordsOf, Gives, texts, workers_setting, seed_setting, names_setting, queries_setting, listen_setting, upstream_setting, datagrams_setting, connections_setting, HasPorts};
-ghost use Rattle.command_line.specs.Options.{IsWalkNamed};
+ghost use Rattle.command_line.specs.Options.{IsBareNamed};
 ghost use Rattle.command_line.specs.declared.command.Command.TheVariants.{Replay, Selfrun, Serve, Tcp};
 
 use crate::matching::{matches_of, value_in};
@@ -92,6 +92,8 @@ pub enum Command {
         listen: u16,
         connections: u32,
     },
+    /// A recorded run is audited against a zone.
+    Audit,
 }
 
 /// The command that the words after the program's name are, if they are one. Each of its options
@@ -119,7 +121,7 @@ pub fn command_of(alloc: Global, words: &[String]) -> Result<Option<Command>, Ou
     if is_word(first, "tcp") {
         return tcp_of(alloc, options);
     }
-    Ok(walk_of(first, options))
+    Ok(bare_of(first, options))
 }
 
 fn replay_of(alloc: Global, options: &[String]) -> Result<Option<Command>, OutOfMemory>
@@ -256,21 +258,21 @@ fn tcp_of(alloc: Global, options: &[String]) -> Result<Option<Command>, OutOfMem
 }
 
 // The command that has no options, if the first word is its name, and the only word.
-fn walk_of(first: &String, options: &[String]) -> Option<Command>
+fn bare_of(first: &String, options: &[String]) -> Option<Command>
     ensures read { IfSome result (λ command. (texts options.now ≡ [])
-        × IsWalkNamed (string_bytes first.now) command) }
+        × IsBareNamed (string_bytes first.now) command) }
     ensures every { (command : _) → texts options.now ≡ []
-        → IsWalkNamed (string_bytes first.now) command → result ≡ Some command }
+        → IsBareNamed (string_bytes first.now) command → result ≡ Some command }
 {
     if options.is_empty() {
-        return walk_named(first);
+        return bare_named(first);
     }
     None
 }
 
-fn walk_named(name: &String) -> Option<Command>
-    ensures read { IfSome result (IsWalkNamed (string_bytes name.now)) }
-    ensures every { (command : _) → IsWalkNamed (string_bytes name.now) command
+fn bare_named(name: &String) -> Option<Command>
+    ensures read { IfSome result (IsBareNamed (string_bytes name.now)) }
+    ensures every { (command : _) → IsBareNamed (string_bytes name.now) command
         → result ≡ Some command }
 {
     if is_word(name, "chase") {
@@ -281,6 +283,9 @@ fn walk_named(name: &String) -> Option<Command>
     }
     if is_word(name, "follow") {
         return Some(Command::Follow);
+    }
+    if is_word(name, "audit") {
+        return Some(Command::Audit);
     }
     None
 }

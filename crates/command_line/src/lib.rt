@@ -1,4 +1,4 @@
-//! The words of the command line, those after the program's name, read with `clap`: which of the seven commands they are, with
+//! The words of the command line, those after the program's name, read with `clap`: which of the eight commands they are, with
 //! which values, or that they are none.
 //!
 //! Of this crate's specs read `specs/Words.antt`, which the contract of `command_of` cites; `Options` serves the inner steps.

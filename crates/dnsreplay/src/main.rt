@@ -1,5 +1,5 @@
-//! `dnsreplay`: frames of queries and upstream answers in, frames of what becomes of them out; or datagrams on loopback. `run_here`
-//! of `running`, which `main` calls, carries the headline.
+//! `dnsreplay`: frames of queries and upstream answers in, frames of what becomes of them out; or datagrams or connections on
+//! loopback; or an audit of a recorded run. `run_here` of `running`, which `main` calls, carries the headline.
 #![tactic(auto)]
 
 use outside_core::{StreamSink, StreamSource};

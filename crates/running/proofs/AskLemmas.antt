@@ -1,5 +1,5 @@
 -- Which replay the words ask for.
-use Rattle.std.proofs.Common.{◌≡◌, ℕ, List, Option, None, Some, refl, sym, ◌∙◌, ap, subst}
+use Rattle.std.proofs.Common.{◌≡◌, ℕ, List, Option, None, Some, refl, sym, ◌∙◌, ap}
 use Rattle.std.specs.Prelude.{String}
 use Rattle.std.specs.declared.alloc.Global.{Global}
 use Rattle.std.proofs.lemmas.Option.{none-some, same_Some}
@@ -8,7 +8,7 @@ use Rattle.worker_seats.specs.declared.answering.Answering.{Answering}
 use Rattle.worker_seats.specs.declared.answering.Answering.TheVariants.{ByProof, ByWalk}
 use Rattle.command_line.specs.Words.{AreWordsOf}
 use Rattle.command_line.specs.declared.command.Command.{Command}
-use Rattle.command_line.specs.declared.command.Command.TheVariants.{Replay, Selfrun, Serve, Chase, Redirect, Follow, Tcp}
+use Rattle.command_line.specs.declared.command.Command.TheVariants.{Replay, Selfrun, Serve, Chase, Redirect, Follow, Tcp, Audit}
 use Rattle.running.specs.Run.{AsksReplay}
 
 answering_of : Command → Answering
@@ -19,6 +19,7 @@ answering_of Chase = ByWalk Aliases
 answering_of Redirect = ByWalk Redirection
 answering_of Follow = ByWalk Both
 answering_of (Tcp listen connections) = ByProof
+answering_of Audit = ByProof
 
 workers_of : Command → ℕ
 workers_of (Replay workers) = workers
@@ -28,6 +29,7 @@ workers_of Chase = 1
 workers_of Redirect = 1
 workers_of Follow = 1
 workers_of (Tcp listen connections) = 0
+workers_of Audit = 0
 
 -- the words are a command that replays so
 record Asked (words : List (String Global)) (answering : Answering) (workers : ℕ) : Type 0 where
@@ -60,18 +62,6 @@ module _ (words : List (String Global)) (found : Option Command) (command : Comm
   pub asks_replay : (all : ℕ) → command ≡ Replay all → (answering ≡ ByProof) × (workers ≡ all)
   unfolding answering_of workers_of
   asks_replay all same = let it = asked_is words found command (Replay all) is same every answering workers asks in (it.by, it.for_all)
-
-  pub asks_chase : command ≡ Chase → (answering ≡ ByWalk Aliases) × (workers ≡ 1)
-  unfolding answering_of workers_of
-  asks_chase same = let it = asked_is words found command Chase is same every answering workers asks in (it.by, it.for_all)
-
-  pub asks_redirect : command ≡ Redirect → (answering ≡ ByWalk Redirection) × (workers ≡ 1)
-  unfolding answering_of workers_of
-  asks_redirect same = let it = asked_is words found command Redirect is same every answering workers asks in (it.by, it.for_all)
-
-  pub asks_follow : command ≡ Follow → (answering ≡ ByWalk Both) × (workers ≡ 1)
-  unfolding answering_of workers_of
-  asks_follow same = let it = asked_is words found command Follow is same every answering workers asks in (it.by, it.for_all)
 
 -- where none was found, they ask for none
 pub none_asked : (words : List (String Global)) (found : Option Command) → found ≡ None → ((command : Command) → AreWordsOf words command → found ≡ Some command) → (answering : Answering) (workers : ℕ) → AsksReplay words answering workers → ⊥

@@ -1,4 +1,5 @@
 pub mod AskLemmas
+pub mod AuditLemmas
 pub mod ConnectionLemmas
 pub mod CountLemmas
 pub mod GivenLemmas

@@ -1,3 +1,4 @@
+pub mod Audit
 pub mod Connections
 pub mod Made
 pub mod Run

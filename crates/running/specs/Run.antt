@@ -20,11 +20,15 @@ AsksReplay words (ByWalk Aliases) workers = AreWordsOf words Chase × (workers �
 AsksReplay words (ByWalk Redirection) workers = AreWordsOf words Redirect × (workers ≡ 1)
 AsksReplay words (ByWalk Both) workers = AreWordsOf words Follow × (workers ≡ 1)
 
--- the source was read to its end, or to one octet more than the longest input
-pub record IsReadOn (before after : Option (List ℕ)) : Type 0 where
+-- the source was read to its end, or to one octet more than so many
+pub record IsReadTo (most : ℕ) (before after : Option (List ℕ)) : Type 0 where
   pub octets : List ℕ
   pub given : before ≡ prepend_told octets after
-  pub until : (length octets ≡ MAX_INPUT + 1) ⊎ IfSome after (λ left. left ≡ [])
+  pub until : (length octets ≡ most + 1) ⊎ IfSome after (λ left. left ≡ [])
+
+-- or to one more than the longest input has
+abbrev pub IsReadOn : Option (List ℕ) → Option (List ℕ) → Type 0
+IsReadOn before after = IsReadTo MAX_INPUT before after
 
 -- the source gave some octets, and has left what came after them
 pub record HasGiven (before after : Option (List ℕ)) : Type 0 where

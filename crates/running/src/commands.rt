@@ -1,15 +1,19 @@
-ghost use Rattle.std.specs.Prelude.{◌≡◌, ◌⊎◌, ℕ, ◌+◌, ◌<◌, ◌≤◌, List, [], length, IfSome, None, Some};
+ghost use Rattle.std.specs.Prelude.{◌≡◌, ◌⊎◌, ℕ, ◌+◌, ◌<◌, ◌≤◌, List, [], ◌++◌, length, IfSome, None, Some};
 ghost use Rattle.outside_core.specs.Fault.{Rose};
 ghost use Rattle.command_line.specs.Words.{IsCommand, AreWordsOf};
-ghost use Rattle.running.specs.Run.{AsksReplay, HasGiven, HasReplayed, IsReadOn, IsReplayed, IsCutShort, IsTaken, IsNoFrames, IsOfReplay, IsOfSelfrun, IsRefused, IsStatusOf};
-ghost use Rattle.running.specs.declared.reading.TheConstants.{MAX_INPUT};
+ghost use Rattle.running.specs.Run.{AsksReplay, HasGiven, HasReplayed, IsReadOn, IsReadTo, IsReplayed, IsCutShort, IsTaken, IsNoFrames, IsOfReplay, IsOfSelfrun, IsRefused, IsStatusOf};
+ghost use Rattle.running.specs.declared.reading.TheConstants.{MAX_INPUT, MAX_SOURCE};
 ghost use Rattle.running.specs.Summary.{IsSummed, IsSummedInPart};
-ghost use Rattle.command_line.specs.declared.command.Command.TheVariants.{Selfrun, Serve, Tcp};
+ghost use Rattle.command_line.specs.declared.command.Command.TheVariants.{Selfrun, Serve, Tcp, Audit};
 ghost use Rattle.worker_seats.specs.declared.answering.Answering.{Answering};
 ghost use Rattle.server.specs.Back.{CameBack, AllServedWhole};
 ghost use Rattle.running.specs.Serve.{service_of, EndedInWant, IsOfServe, ServedInPart};
 ghost use Rattle.running.specs.Connections.{HasServed, HasServedInPart, IsOfTcp};
+ghost use Rattle.run_audit.specs.declared.finding.Finding.TheVariants.{Yes};
+ghost use Rattle.audit_source.specs.Line.{finding_line};
+ghost use Rattle.running.specs.Audit.{AreUpheld, HasAudited, HasAuditedInPart, IsAuditStatusOf, IsOfAudit, IsTooLong, IsUnaudited};
 
+use crate::audit::run_the_audit;
 use crate::reading::{MAX_INPUT, ReadError, read_whole};
 use crate::replay::replay;
 use crate::selfrun::selfrun;
@@ -35,8 +39,8 @@ const BY_REDIRECTION: Answering = Answering::ByWalk {
 
 const BY_BOTH: Answering = Answering::ByWalk { rule: Rule::Both };
 
-/// Runs the words, those after the program's name: replays over the source and the sink, and serves over the harbor, or the gateway,
-/// at the moments that the clock tells. Workers of a replay pass the gate.
+/// Runs the words, those after the program's name: replays or audits over the source and the sink, and serves over the harbor, or
+/// the gateway, at the moments that the clock tells. Workers of a replay pass the gate.
 pub fn run<R: Threads + Wait + Sync, S: Source, K: Sink, G: Gate, H: Harbor, C: Clock, W: Gateway>(
     rt: &R,
     alloc: Global,
@@ -225,47 +229,64 @@ pub fn run<R: Threads + Wait + Sync, S: Source, K: Sink, G: Gate, H: Harbor, C: 
     ensures unopened { ((listen connections : ℕ)
         → AreWordsOf words.now (Tcp listen connections) → ⊥)
         → gateway.new ≡ gateway.old }
+
+    // What `audit` wrote is the line of what is found of the zone and the recorded run that it
+    // read. Where that is yes, the zone looks up what each reply of the run says.
+    ensures audited { AreWordsOf words.now Audit → result ≡ Status.Good
+        → HasAudited (S.left source.old) (S.left source.new)
+        (K.written sink.old) (K.written sink.new) }
+    ensures audited_in_part { AreWordsOf words.now Audit → result ≡ Status.WriteFault
+        → HasAuditedInPart (S.left source.old) (S.left source.new)
+        (K.written sink.old) (K.written sink.new) }
+    ensures upheld { AreWordsOf words.now Audit → result ≡ Status.Good
+        → (before : List ℕ) (replies : ℕ) → K.written sink.old ≡ Some before
+        → K.written sink.new ≡ Some (before ++ finding_line (Yes replies))
+        → IfSome (S.left source.old) AreUpheld }
+    ensures audit_ends { AreWordsOf words.now Audit → IsOfAudit result }
+    ensures audit_read { AreWordsOf words.now Audit
+        → HasGiven (S.left source.old) (S.left source.new) }
+    ensures audit_refused { AreWordsOf words.now Audit → IsRefused result
+        → IsReadTo MAX_SOURCE (S.left source.old) (S.left source.new) }
+    ensures audit_too_long { AreWordsOf words.now Audit → result ≡ Status.InputTooLong
+        → IfSome (S.left source.old) IsTooLong }
+    ensures unaudited { AreWordsOf words.now Audit → result ≡ Status.BadFrame
+        → IfSome (S.left source.old) IsUnaudited }
+    ensures audit_complete { AreWordsOf words.now Audit
+        → (octets : List ℕ) → S.left source.old ≡ Some octets
+        → (Rose (S.faults source.old) (S.faults source.new) → ⊥)
+        → (Rose (K.faults sink.old) (K.faults sink.new) → ⊥)
+        → IsAuditStatusOf octets result ⊎ (result ≡ Status.OutOfMemory) }
 {
-    match command_of(alloc, words) {
-        Err(_) => Status::OutOfMemory,
-        Ok(None) => Status::Usage,
-        Ok(Some(Command::Replay { workers })) => {
+    let command = match command_of(alloc, words) {
+        Ok(Some(command)) => command,
+        Ok(None) => return Status::Usage,
+        Err(_) => return Status::OutOfMemory,
+    };
+    match command {
+        Command::Replay { workers } => {
             run_replay(rt, alloc, Answering::ByProof, workers, source, sink, gate)
         }
-        Ok(Some(Command::Chase)) => run_replay(rt, alloc, BY_ALIASES, 1, source, sink, gate),
-        Ok(Some(Command::Redirect)) => run_replay(rt, alloc, BY_REDIRECTION, 1, source, sink, gate),
-        Ok(Some(Command::Follow)) => run_replay(rt, alloc, BY_BOTH, 1, source, sink, gate),
-        Ok(
-            Some(
-                Command::Selfrun {
-                    seed,
-                    names,
-                    queries,
-                },
-            ),
-        ) => { run_selfrun(rt, alloc, seed, names, queries, sink, gate) }
-        Ok(
-            Some(
-                Command::Serve {
-                    listen,
-                    upstream,
-                    workers,
-                    datagrams,
-                },
-            ),
-        ) => {
-            run_serve(
-                rt, alloc, listen, upstream, workers, datagrams, harbor, clock,
-            )
-        }
-        Ok(
-            Some(
-                Command::Tcp {
-                    listen,
-                    connections,
-                },
-            ),
-        ) => { run_tcp(rt, alloc, listen, connections, source, gate, clock, gateway) }
+        Command::Chase => run_replay(rt, alloc, BY_ALIASES, 1, source, sink, gate),
+        Command::Redirect => run_replay(rt, alloc, BY_REDIRECTION, 1, source, sink, gate),
+        Command::Follow => run_replay(rt, alloc, BY_BOTH, 1, source, sink, gate),
+        Command::Audit => run_the_audit(alloc, source, sink),
+        Command::Selfrun {
+            seed,
+            names,
+            queries,
+        } => { run_selfrun(rt, alloc, seed, names, queries, sink, gate) }
+        Command::Serve {
+            listen,
+            upstream,
+            workers,
+            datagrams,
+        } => run_serve(
+            rt, alloc, listen, upstream, workers, datagrams, harbor, clock,
+        ),
+        Command::Tcp {
+            listen,
+            connections,
+        } => { run_tcp(rt, alloc, listen, connections, source, gate, clock, gateway) }
     }
 }
 
@@ -392,7 +413,7 @@ fn run_replay<R: Threads + Wait + Sync, S: Source, K: Sink, G: Gate>(
         → (Rose (K.faults sink.old) (K.faults sink.new) → ⊥)
         → IsStatusOf workers input result ⊎ (result ≡ Status.OutOfMemory) }
 {
-    let input = match read_whole(alloc, source) {
+    let input = match read_whole(alloc, source, MAX_INPUT) {
         Ok(input) => input,
         Err(ReadError::Failed) => return Status::ReadFault,
         Err(ReadError::OutOfMemory) => return Status::OutOfMemory,

@@ -1,10 +1,11 @@
 //! A run of the program `dnsreplay`: frames of queries and upstream answers in, frames of what becomes of them out; or datagrams
-//! or connections on loopback. `run` carries the headline, and the program calls it by `run_here`.
+//! or connections on loopback; or an audit of a recorded run. `run` carries the headline, and the program calls it by `run_here`.
 //!
-//! Read `specs/Run.antt`, `Serve`, `Connections` and `Status`, then `Summary` and `Made`, then `Words` of `command_line`, and then
-//! the specs of `replay_meaning`, `server` and `stream_server`.
+//! Read `specs/Run.antt`, `Serve`, `Connections`, `Audit` and `Status`, then `Summary` and `Made`, then `Words` of `command_line`,
+//! and then the specs of `replay_meaning`, `server`, `stream_server`, `run_audit` and `audit_source`.
 #![tactic(auto)]
 
+mod audit;
 mod commands;
 mod loading;
 mod machine;

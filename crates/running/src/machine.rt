@@ -1,13 +1,16 @@
-ghost use Rattle.std.specs.Prelude.{◌≡◌, ◌⊎◌, ℕ, ◌<◌, List, [], length, IfSome, Some};
+ghost use Rattle.std.specs.Prelude.{◌≡◌, ◌⊎◌, ℕ, ◌<◌, List, [], ◌++◌, length, IfSome, Some};
 ghost use Rattle.outside_core.specs.Fault.{Rose};
 ghost use Rattle.command_line.specs.Words.{IsCommand, AreWordsOf};
-ghost use Rattle.running.specs.Run.{AsksReplay, HasGiven, HasReplayed, IsReadOn, IsReplayed, IsCutShort, IsTaken, IsNoFrames, IsOfReplay, IsOfSelfrun, IsRefused, IsStatusOf};
-ghost use Rattle.running.specs.declared.reading.TheConstants.{MAX_INPUT};
+ghost use Rattle.running.specs.Run.{AsksReplay, HasGiven, HasReplayed, IsReadOn, IsReadTo, IsReplayed, IsCutShort, IsTaken, IsNoFrames, IsOfReplay, IsOfSelfrun, IsRefused, IsStatusOf};
+ghost use Rattle.running.specs.declared.reading.TheConstants.{MAX_INPUT, MAX_SOURCE};
 ghost use Rattle.running.specs.Summary.{IsSummed, IsSummedInPart};
-ghost use Rattle.command_line.specs.declared.command.Command.TheVariants.{Selfrun, Serve, Tcp};
+ghost use Rattle.command_line.specs.declared.command.Command.TheVariants.{Selfrun, Serve, Tcp, Audit};
 ghost use Rattle.worker_seats.specs.declared.answering.Answering.{Answering};
 ghost use Rattle.running.specs.Serve.{IsOfServe};
 ghost use Rattle.running.specs.Connections.{IsOfTcp};
+ghost use Rattle.run_audit.specs.declared.finding.Finding.TheVariants.{Yes};
+ghost use Rattle.audit_source.specs.Line.{finding_line};
+ghost use Rattle.running.specs.Audit.{AreUpheld, HasAudited, HasAuditedInPart, IsAuditStatusOf, IsOfAudit, IsTooLong, IsUnaudited};
 
 use crate::commands::run;
 use crate::status::Status;
@@ -117,6 +120,30 @@ pub fn run_here<R: Threads + Wait + Sync, N: Net, T: time::Clock + Sync + Drop, 
     ensures tcp_bad_frame { (listen connections : ℕ)
         → AreWordsOf words.now (Tcp listen connections)
         → result ≡ Status.BadFrame → IfSome (S.left source.old) (IsNoFrames 1) }
+    ensures audited { AreWordsOf words.now Audit → result ≡ Status.Good
+        → HasAudited (S.left source.old) (S.left source.new)
+        (K.written sink.old) (K.written sink.new) }
+    ensures audited_in_part { AreWordsOf words.now Audit → result ≡ Status.WriteFault
+        → HasAuditedInPart (S.left source.old) (S.left source.new)
+        (K.written sink.old) (K.written sink.new) }
+    ensures upheld { AreWordsOf words.now Audit → result ≡ Status.Good
+        → (before : List ℕ) (replies : ℕ) → K.written sink.old ≡ Some before
+        → K.written sink.new ≡ Some (before ++ finding_line (Yes replies))
+        → IfSome (S.left source.old) AreUpheld }
+    ensures audit_ends { AreWordsOf words.now Audit → IsOfAudit result }
+    ensures audit_read { AreWordsOf words.now Audit
+        → HasGiven (S.left source.old) (S.left source.new) }
+    ensures audit_refused { AreWordsOf words.now Audit → IsRefused result
+        → IsReadTo MAX_SOURCE (S.left source.old) (S.left source.new) }
+    ensures audit_too_long { AreWordsOf words.now Audit → result ≡ Status.InputTooLong
+        → IfSome (S.left source.old) IsTooLong }
+    ensures unaudited { AreWordsOf words.now Audit → result ≡ Status.BadFrame
+        → IfSome (S.left source.old) IsUnaudited }
+    ensures audit_complete { AreWordsOf words.now Audit
+        → (octets : List ℕ) → S.left source.old ≡ Some octets
+        → (Rose (S.faults source.old) (S.faults source.new) → ⊥)
+        → (Rose (K.faults sink.old) (K.faults sink.new) → ⊥)
+        → IsAuditStatusOf octets result ⊎ (result ≡ Status.OutOfMemory) }
 {
     let mut harbor = UdpHarbor::over(net);
     let mut gateway = TcpGateway::over(net);

@@ -38,7 +38,7 @@ impl Status {
         match self {
             Status::Good => None,
             Status::Usage => Some(
-                "usage: replay --workers N; selfrun --seed S --names M --queries Q; serve --listen P --upstream U --workers N --datagrams D; chase; redirect; follow; tcp --listen P --connections C",
+                "usage: replay --workers N; selfrun --seed S --names M --queries Q; serve --listen P --upstream U --workers N --datagrams D; chase; redirect; follow; tcp --listen P --connections C; audit",
             ),
             Status::ReadFault => Some("read fault"),
             Status::BadFrame => Some("bad frame"),

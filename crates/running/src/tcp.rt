@@ -61,7 +61,7 @@ pub fn run_tcp<R: Threads + Wait + Sync, S: Source, G: Gate, C: Clock, W: Gatewa
         → (Rose (W.Gateway.faults gateway.old) (W.Gateway.faults gateway.new) → ⊥)
         → IsStatusOf 1 input result ⊎ (result ≡ Status.OutOfMemory) }
 {
-    let input = match read_whole(alloc, source) {
+    let input = match read_whole(alloc, source, MAX_INPUT) {
         Ok(input) => input,
         Err(ReadError::Failed) => return Status::ReadFault,
         Err(ReadError::OutOfMemory) => return Status::OutOfMemory,

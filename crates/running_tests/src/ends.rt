@@ -106,7 +106,7 @@ const LINES: [Line; 8] = [
         Status::Usage,
         2,
         Some(
-            "usage: replay --workers N; selfrun --seed S --names M --queries Q; serve --listen P --upstream U --workers N --datagrams D; chase; redirect; follow; tcp --listen P --connections C",
+            "usage: replay --workers N; selfrun --seed S --names M --queries Q; serve --listen P --upstream U --workers N --datagrams D; chase; redirect; follow; tcp --listen P --connections C; audit",
         ),
     ),
     (Status::ReadFault, 3, Some("read fault")),

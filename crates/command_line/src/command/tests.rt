@@ -123,14 +123,15 @@ const SERVE_OPTIONS: [&str; 8] = [
     "serve|--listen|9|--upstream|12|--workers|4|--datagrams|1",
 ];
 
-const WALKS: [(&str, Command); 3] = [
+const BARE: [(&str, Command); 4] = [
     ("chase", Command::Chase),
     ("redirect", Command::Redirect),
     ("follow", Command::Follow),
+    ("audit", Command::Audit),
 ];
 
 // They have no options, and no other names.
-const WALK_OPTIONS: [&str; 8] = [
+const BARE_OPTIONS: [&str; 10] = [
     "chase|--workers|1",
     "chase|",
     "chase|--",
@@ -139,6 +140,8 @@ const WALK_OPTIONS: [&str; 8] = [
     "follow|1",
     "Chase",
     "redirec",
+    "audit|--workers|1",
+    "audits",
 ];
 
 const TCPS: [(&str, u16, u32); 3] = [
@@ -218,8 +221,8 @@ fn words_ask_for_a_server(rt: HostRuntime) -> Result<(), Fail> {
 }
 
 // The words that are another command than is wanted, or none.
-fn walk_otherwise(alloc: Global) -> Result<Option<&'static str>, Fail> {
-    for (text, wanted) in WALKS {
+fn bare_otherwise(alloc: Global) -> Result<Option<&'static str>, Fail> {
+    for (text, wanted) in BARE {
         if command_in(alloc, text)? != Some(wanted) {
             return Ok(Some(text));
         }
@@ -238,10 +241,10 @@ fn taken(alloc: Global, texts: &[&'static str]) -> Result<Option<&'static str>, 
 }
 
 #[test]
-fn words_ask_for_walks(rt: HostRuntime) -> Result<(), Fail> {
-    let wrong = walk_otherwise(rt.alloc())?;
+fn words_ask_for_walks_and_audits(rt: HostRuntime) -> Result<(), Fail> {
+    let wrong = bare_otherwise(rt.alloc())?;
     assert!(rt; wrong.is_none(), "{wrong:?}");
-    let wrong = taken(rt.alloc(), &WALK_OPTIONS)?;
+    let wrong = taken(rt.alloc(), &BARE_OPTIONS)?;
     assert!(rt; wrong.is_none(), "{wrong:?}");
     Ok(())
 }

@@ -2,7 +2,7 @@ use Rattle.std.proofs.Common.{sym, ◌∙◌, refl}
 use Rattle.std.specs.Prelude.{string_bytes}
 use Rattle.std.proofs.lemmas.Bool.{false≢true}
 use Rattle.command_line.specs.Words.{texts}
-use Rattle.command_line.proofs.CommandLemmas.{is_none, no_texts, no_words, not_empty, replay_every, replay_read, selfrun_every, selfrun_read, serve_every, serve_read, tcp_every, tcp_read, texts_first, walk_every, walk_read}
+use Rattle.command_line.proofs.CommandLemmas.{is_none, no_texts, no_words, not_empty, replay_every, replay_read, selfrun_every, selfrun_read, serve_every, serve_read, tcp_every, tcp_read, texts_first, bare_every, bare_read}
 use Rattle.command_line.proofs.command.command_of.Goals as goal
 
 pub returns-then-is_empty-clause-every : goal.returns-then-is_empty-clause-every
@@ -59,13 +59,13 @@ returns-then-is_word-4-clause-every c =
 
 pub returns-clause-read : goal.returns-clause-read
 returns-clause-read c =
-    walk_read (texts c.args.words.now) (texts c.after_first-options.result.now) (string_bytes c.index-words-0.result) c.walk_of.result
+    bare_read (texts c.args.words.now) (texts c.after_first-options.result.now) (string_bytes c.index-words-0.result) c.bare_of.result
     (texts_first c.args.words.now c.after_first-options.result.now c.index-words-0.result _ (not_empty c.args.words.now _ c.is_empty.ensures c.if-is_empty.false) c.index-words-0.is refl c.after_first-options.ensures)
-    c.walk_of.ensures.read
+    c.bare_of.ensures.read
 
 pub returns-clause-every : goal.returns-clause-every
 returns-clause-every c = λ command are.
-    walk_every (texts c.args.words.now) (texts c.after_first-options.result.now) (string_bytes c.index-words-0.result) c.walk_of.result
+    bare_every (texts c.args.words.now) (texts c.after_first-options.result.now) (string_bytes c.index-words-0.result) c.bare_of.result
     (texts_first c.args.words.now c.after_first-options.result.now c.index-words-0.result _ (not_empty c.args.words.now _ c.is_empty.ensures c.if-is_empty.false) c.index-words-0.is refl c.after_first-options.ensures)
     (λ e. false≢true (sym c.if-is_word.false ∙ c.is_word.ensures.1 e)) (λ e. false≢true (sym c.if-is_word-2.false ∙ c.is_word-2.ensures.1 e)) (λ e. false≢true (sym c.if-is_word-3.false ∙ c.is_word-3.ensures.1 e)) (λ e. false≢true (sym c.if-is_word-4.false ∙ c.is_word-4.ensures.1 e))
-    c.walk_of.ensures.every command are
+    c.bare_of.ensures.every command are

@@ -1,0 +1,5 @@
+//! Tests of `run_audit`.
+#![tactic(auto)]
+
+#[cfg(test)]
+mod runs;
