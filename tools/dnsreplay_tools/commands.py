@@ -1,9 +1,11 @@
 """Makes, measures, attacks and compares what dnsreplay reads and writes; `COMMAND --help` tells more."""
 import argparse, os, signal, sys
-from . import bench, differential, fits, frames, hostile, try_serve, try_tcp, twice
+from . import audit_explain, audit_input, bench, differential, fits, frames, hostile, try_serve, try_tcp, twice
 from .wire import Fault, Unreadable
 
 MODULES = (bench, hostile, try_serve, try_tcp, frames, fits, differential, twice)
+COMMANDS = {each.__name__.rpartition(".")[2]: each for each in MODULES}
+COMMANDS |= {"audit-input": audit_input, "audit-explain": audit_explain}
 
 def add(parsers, module, name):
     """A module's command: its `words` say what it takes and `run` does it, or it has `COMMANDS` below it."""
@@ -23,7 +25,7 @@ def main():
     parser = argparse.ArgumentParser(prog="dnsreplay-tools", description=__doc__)
     parser.set_defaults(unreadable=1)
     parsers = parser.add_subparsers(required=True, metavar="COMMAND")
-    for module in MODULES: add(parsers, module, module.__name__.rpartition(".")[2])
+    for name, module in COMMANDS.items(): add(parsers, module, name)
     args = parser.parse_args()
     try:
         status = args.run(args)

@@ -4,17 +4,20 @@ Each scenario, of which there are so many of each kind, is one run of each comma
 drawn from the seed, its kind and its number. Of `zones` and half of `walks` each reply is also compared with what the
 zones themselves answer, link by link. Of `replay` alone are `full`, which fills the cache (one such run stands for a
 hundred scenarios, and takes half a minute), and `workers`, run with 2 workers and with 32, whose output has to be a
-legal history: the calls in order of version are what one worker does.
+legal history: the calls in order of version are what one worker does. Of `audit` each scenario is a zone and a run over
+it, audited as it is and with something changed in its zone, its frames or its octets.
 
 Nothing differed: status 0, and a line that says what was compared. At the first difference: status 1, the scenario's
-input in the folder where it runs, as differential-SEED-KIND-NUMBER.frames, and on standard error what differs. Status 2
+input in the folder where it runs, as differential-SEED-KIND-NUMBER.in, and on standard error what differs. Status 2
 for words that aren't those above, and for a program that can't be run or whose output isn't frames.
 """
-import random
+import collections, random, re
 from pathlib import Path
 from . import run as runs
 from .fits import in_order, look_at_frames
+from .random_audits import sources
 from .random_scenarios import KINDS, OF_REPLAY
+from .reference_audits import audit
 from .reference_messages import read_query
 from .reference_model import ANSWER, CNAME, DNAME, HEAD, NO_DATA, NO_NAME, REPLY
 from .reference_replies import RULES, Model
@@ -23,6 +26,10 @@ from .wire import Fault, Frame, frames
 MANY = 100  # scenarios of other kinds to one of a full cache
 MOST_SECONDS = 1_800
 NUMBERS_OF_WORKERS = 2, 32
+AUDIT = "audit"
+COMPARED = *RULES, AUDIT
+NO_SOURCE = 4  # the status of what an audit can't read
+FOUND = re.compile(r"yes|no unfit \d|no [a-z]+")
 
 def spelled(inputs):
     return b"".join(HEAD.pack(kind, worker, now, len(octets)) + octets for kind, worker, now, octets in inputs)
@@ -75,12 +82,45 @@ def one_scenario(args, command, kind, number):
         try:
             replies = compared(args.program, command, inputs, most, zones)
         except Fault as why:
-            path = Path(f"differential-{args.seed}-{kind}-{number}.frames")
-            path.write_bytes(spelled(inputs))
-            what = f"{command}, seed {args.seed}, {kind} {number}, {most} workers, input in {path}"
-            raise type(why)(f"{what}: {why}") from why
+            raise kept(f"{args.seed}-{kind}-{number}", spelled(inputs), f"{command} with {most} workers", why) from why
         counts = [counts[0] + len(inputs), counts[1] + replies]
     return counts
+
+def kept(name, octets, what, why):
+    """The fault of a run, that tells where its input is kept."""
+    path = Path(f"differential-{name}.in")
+    path.write_bytes(octets)
+    return type(why)(f"{what}, input in {path}: {why}")
+
+def scenarios(args, command):
+    for kind in args.kinds:
+        if kind in OF_REPLAY and command != "replay": continue
+        count = -(-args.scenarios // MANY) if kind == "full" else args.scenarios
+        total, replies = map(sum, zip(*(one_scenario(args, command, kind, number) for number in range(count))))
+        yield f"{kind} {count:,} scenarios, {total:,} frames, {replies:,} replies"
+
+def compared_audit(program, octets):
+    """What both find, in few words."""
+    line = audit(octets)
+    wanted = (NO_SOURCE, "") if line is None else (0, line + "\n")
+    done = runs.ended([program, AUDIT], octets, MOST_SECONDS)
+    got = done.returncode, done.stdout.decode(errors="replace")
+    if got != wanted: raise Fault(f"wanted {wanted}, got {got}")
+    return "no source" if line is None else FOUND.match(line)[0]
+
+def one_audit(args, number):
+    """Audits a run and its changes; of each audit, how many frames went into the run, and what is found."""
+    for count, octets in sources(random.Random(f"{args.seed} {AUDIT} {number}")):
+        try:
+            yield count, compared_audit(args.program, octets)
+        except Fault as why:
+            raise kept(f"{args.seed}-{AUDIT}-{number}", octets, AUDIT, why) from why
+
+def audits(args):
+    told = [each for number in range(args.scenarios) for each in one_audit(args, number)]
+    found = sorted(collections.Counter(what for _, what in told).items())
+    yield f"{len(told):,} audits of {sum(count for count, _ in told):,} frames"
+    yield ", ".join(f"{count:,} {what}" for what, count in found)
 
 def words(parser):
     parser.set_defaults(unreadable=2)
@@ -88,13 +128,10 @@ def words(parser):
     parser.add_argument("--seed", type=runs.number(0), default=1, metavar="S")
     runs.takes_numbers(parser, 1, scenarios=100)
     parser.add_argument("--kinds", nargs="+", choices=KINDS, default=KINDS, metavar="KIND", help=", ".join(KINDS))
-    parser.add_argument("--commands", nargs="+", choices=RULES, default=RULES, metavar="C", help=", ".join(RULES))
+    text = ", ".join(COMPARED)
+    parser.add_argument("--commands", nargs="+", choices=COMPARED, default=COMPARED, metavar="COMMAND", help=text)
 
 def run(args):
     for command in args.commands:
-        told = []
-        for kind in args.kinds if command == "replay" else [each for each in args.kinds if each not in OF_REPLAY]:
-            count = -(-args.scenarios // MANY) if kind == "full" else args.scenarios
-            total, replies = map(sum, zip(*(one_scenario(args, command, kind, number) for number in range(count))))
-            told.append(f"{kind} {count:,} scenarios, {total:,} frames, {replies:,} replies")
-        print(f"differential: {command}: nothing differed: {'; '.join(told)}", flush=True)
+        told = "; ".join(audits(args) if command == AUDIT else scenarios(args, command))
+        print(f"differential: {command}: nothing differed: {told}", flush=True)

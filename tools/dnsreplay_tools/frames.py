@@ -119,13 +119,16 @@ def pcap(args):
 
 def show(args):
     octets = sys.stdin.buffer.read()
-    kinds, word = (INPUT_KINDS, "at") if args.input else (OUTPUT_KINDS, "version")
     if dns is None and octets: tell("python3-dnspython would show messages as text")
-    for at, (kind, worker, count, body) in enumerate(frames_of(octets), 1):
-        print(f"{at} {kinds.get(kind, f'unknown kind {kind}')}, worker {worker}, {word} {count}, length {len(body)}")
-        if kind in ((QUERY, UPSTREAM) if args.input else (REPLY, ERROR)): show_message(body)
-        else: show_numbers(None if args.input else kind, body)
-        print()
+    for at, each in enumerate(frames_of(octets), 1): show_frame(at, each, args.input)
+
+def show_frame(at, each, is_input):
+    kind, worker, count, body = each
+    kinds, word = (INPUT_KINDS, "at") if is_input else (OUTPUT_KINDS, "version")
+    print(f"{at} {kinds.get(kind, f'unknown kind {kind}')}, worker {worker}, {word} {count}, length {len(body)}")
+    if kind in ((QUERY, UPSTREAM) if is_input else (REPLY, ERROR)): show_message(body)
+    else: show_numbers(None if is_input else kind, body)
+    print()
 
 def show_message(octets):
     if dns is None: return show_octets(octets)

@@ -187,6 +187,7 @@ class Traffic:
     """Some zones below one another, each with one to four chains, and answers and queries that speak of them."""
     TTLS, ORIGINALS = [3600] * 6 + [300, 60, 5, 100000], [3600] * 6 + [7200, 30]
     AHEAD = [100000] * 6 + [50, 3600, 0x7FFFFFFF]  # the seconds that signatures have left
+    SHARE = 0.25  # of sets that are loaded
     ASKED_TYPES = (A, A, A, TXT, TXT, MX, AAAA, DS, DS, CNAME, DNAME, NS, SOA, 257, 65280, 99, 12)
 
     def __init__(self, rng, faults=0.0):
@@ -405,7 +406,7 @@ class Traffic:
             for _ in range(rng.randint(1, 5)):
                 zone.add_some(rng.choice([1, 1, 2, 3]), (b"a", b"b", b"w", b"*", b"*", b"x", b"(x"))
         self.find_names()
-        frames = [frame for zone in self.zones for frame in self.load(zone, zone.own_sets(), 0.25)]
+        frames = [frame for zone in self.zones for frame in self.load(zone, zone.own_sets(), self.SHARE)]
         for _ in range(count):
             self.pass_time([0] * 10 + [1, 7, 40, 300 if rng.random() < 0.1 else 0])
             frames.append((QUERY, self.now, self.query()))

@@ -51,26 +51,30 @@ def checked(path, status, said=b""):
         told = said.decode(errors="replace").strip()[-500:]
         raise Fault(f"{path} ended with status {status}" + f": {told}" * bool(told))
 
-def ran(words, octets, seconds=None):
-    """Standard output and standard error of a program that is given the octets."""
+def ended(words, octets, seconds=None):
+    """How a program ends that is given the octets, with what it wrote."""
     with given(octets) as file:
         try:
-            done = subprocess.run(words, stdin=file, capture_output=True, check=False, timeout=seconds)
+            return subprocess.run(words, stdin=file, capture_output=True, check=False, timeout=seconds)
         except subprocess.TimeoutExpired as late:
             raise Fault(f"{words[0]} hasn't ended after {seconds} seconds") from late
+
+def ran(words, octets, seconds=None):
+    """Standard output and standard error of a program that has to do it."""
+    done = ended(words, octets, seconds)
     checked(words[0], done.returncode, done.stderr)
     return done.stdout, done.stderr
 
 def of_replay(workers=1): return ["replay", "--workers", str(workers)]
 
-def replay(path, octets, workers=1, tool=()):
+def replay(path, octets, workers=1):
     """Standard output and standard error of a replay."""
-    return ran([*tool, path, *of_replay(workers)], octets)
+    return ran([path, *of_replay(workers)], octets)
 
-def counted(path, octets):
-    """The instructions of a whole replay by one worker, and its output."""
+def counted(path, octets, words=None):
+    """The instructions of a whole run, that of a replay by one worker where no words are given, and its output."""
     need("valgrind", "valgrind")
-    output, said = replay(path, octets, tool=COUNTER)
+    output, said = ran([*COUNTER, path, *(words or of_replay())], octets)
     found = re.search(rb"I +refs: +([\d,]+)", said)
     if not found: raise Fault(f"valgrind told no count: {said.decode(errors='replace')}")
     return int(found[1].replace(b",", b"")), output

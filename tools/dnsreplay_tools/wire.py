@@ -96,6 +96,14 @@ def frame(kind, moment, body, worker=0):
     check(len(body) <= 0xFFFF, f"a message of {len(body)} octets is too long for a frame")
     return HEAD.pack(kind, worker, moment, len(body)) + body
 
+def audit_source(apex, records, recorded_input, recorded_output):
+    """What an audit reads: a zone's records by owner name, type and data, and the frames of a run."""
+    parts = [counted(">H", apex), struct.pack(">I", len(records))]
+    for owner, rtype, data in records: parts += [counted(">H", owner), struct.pack(">H", rtype), counted(">H", data)]
+    return b"".join([*parts, counted(">I", recorded_input), counted(">I", recorded_output)])
+
+def counted(form, octets): return struct.pack(form, len(octets)) + octets
+
 def frames(octets, of=""):
     """The frames in turn."""
     at = number = 0

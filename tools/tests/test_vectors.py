@@ -6,8 +6,8 @@ from unittest import mock
 
 from dnsreplay_tools import random_zones, reference_messages as judge, wire
 
-JUDGES = ("reference_model", "reference_messages", "reference_replies", "reference_zones")
-JUDGES += ("random_zones", "random_walks", "random_scenarios")
+JUDGES = ("reference_model", "reference_messages", "reference_replies", "reference_zones", "reference_audits")
+JUDGES += ("random_zones", "random_walks", "random_scenarios", "random_audits")
 ENCODERS = (
     SimpleNamespace(
         wire_form=lambda labels: wire.name(*labels),

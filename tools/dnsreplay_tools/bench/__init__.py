@@ -1,5 +1,5 @@
-"""Measures what the program's calls cost: by count under valgrind, in time, over datagrams, in dear messages, in octets held."""
-from . import batches, calls, intake, memory, messages, serve, store, workers
+"""Measures what calls and audits cost: by count, in time, over datagrams, in dear messages, in octets held."""
+from . import audits, batches, calls, intake, memory, messages, serve, store, workers
 
-MODULES = (calls, serve, workers, messages, intake, store, memory, batches)
+MODULES = (calls, serve, workers, messages, intake, store, memory, batches, audits)
 COMMANDS = {each.__name__.rpartition(".")[2]: each for each in MODULES}

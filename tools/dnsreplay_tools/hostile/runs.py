@@ -11,8 +11,8 @@ run must end so:
 
 The cases are the stored example; a name error over NSEC; one over NSEC3; a run of two workers, whose output is right
 where `fits` says so; one of three workers with more frames than one range has; a zone of 1,200 records that is filled,
-changed and asked, of whose allocations every 97th is refused; and a made zone. Of the tests, whose program `rt test`
-leaves beside PROGRAM, the one that looks at what a refused insert leaves is run with each allocation refused.
+changed and asked, of whose allocations every 97th is refused; a made zone; and an audit. Of the tests, whose program
+`rt test` leaves beside PROGRAM, the one that looks at what a refused insert leaves is run with each allocation refused.
 """
 import functools, os, struct, subprocess, tempfile
 from collections import Counter, namedtuple
@@ -23,6 +23,7 @@ from ..wire import NS, NSEC, NSEC3, QUERY, REPLY, RRSIG, SOA, STORED, Fault, che
 
 TEST = "run::hostile_tests::a_refused_insert_shows_the_version_from_before"
 EIGHT = b"names 4\nbatches 5\nqueries 8\nanswers 1\nno-data 4\nname-errors 2\nforwards 1\n"  # by its turns
+ADDRESS = bytes((192, 0, 2, 1))
 SECONDS = 60  # after which a run is taken to hang
 SWEEPS = (("alloc", False), ("thread", False), ("read", False), ("read", True), ("write", False), ("write", True))
 STATUSES = {"alloc": 6, "thread": 6, "read": 3, "write": 5}
@@ -81,6 +82,13 @@ def long_chain(_):
     calls = [*zone.filling(), *(call(zone, at) for call in (zones.insert_later, zones.name_error) for at in range(20))]
     return replayed(1, zones.joined(calls), lambda output: zones.check_calls(output, calls), step=97)
 
+def audited(_):
+    """The stored example, with a zone of which its records are true."""
+    names = (wire.SOA, b"", zones.SOA_DATA), (wire.A, b"\1a", ADDRESS), (wire.A, b"\1b", ADDRESS)
+    recorded = ((runs.CRATE / name).read_bytes() for name in ("stdin", "stdout"))
+    zone = [(owner + zones.APEX, rtype, data) for rtype, owner, data in names]
+    return Case(["audit"], wire.audit_source(zones.APEX, zone, *recorded), equals(b"yes 1\n"))
+
 CASES = {
     "stored": stored,
     "nsec": lambda _: replayed(1, by_nsec(), is_name_error),
@@ -89,6 +97,7 @@ CASES = {
     "ranges": three_workers,
     "long": long_chain,
     "made": lambda _: Case(["selfrun", "--seed", "1", "--names", "4", "--queries", "8"], b"", equals(EIGHT)),
+    "audit": audited,
 }
 
 class Runner:
