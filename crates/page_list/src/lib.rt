@@ -37,5 +37,5 @@ use std::alloc::AllocError;
 /// Want of memory, or of a further owner of an entry.
 pub type OutOfMemory = AllocError;
 
-/// Of so many parts of a block one mark is read at first.
-pub(crate) const STRIDE: usize = 2;
+/// Of so many parts of a block one mark is read at first. A block has at most 32.
+pub(crate) const STRIDE: usize = 8;

@@ -46,9 +46,9 @@ fn pages_of<T: Drop>(
 }
 
 impl<T: Drop> Page<T> {
-    // A place behind an entry of a lesser mark, or the first place; where marks never fall, behind the last such. Every other
-    // entry is read first: a page has few, none of these reads waits for another, as those of a search by halves would, and they
-    // fetch each line of the page's memory. What they find decides no jump, so the processor needn't guess it.
+    // A place behind an entry of a lesser mark, or the first place; where marks never fall, behind the last such. One entry of
+    // each `STRIDE` is read first: a page has few, none of these reads waits for another, as those of a search by halves would,
+    // and what they find decides no jump, so the processor needn't guess it. The few behind the last of them are read in turn.
     fn start_of_run(&self, len: usize, mark: u64) -> usize
         requires { len ≡ length self.now }
         ensures { IsBehindLesser mark self.now result }
@@ -62,7 +62,7 @@ impl<T: Drop> Page<T> {
             }
             at = at.saturating_add(STRIDE);
         }
-        if start < len && entries[start].mark() < mark {
+        while start < len && entries[start].mark() < mark {
             start += 1;
         }
         start

@@ -331,9 +331,9 @@ impl<T: Drop, B: Block<T>> Row<T, B> {
         low
     }
 
-    // A block whose first entry has a lesser mark, or the first block; where marks never fall, the last such. Every other is
-    // read first: none of these reads waits for another, as those of a search by halves would, and what they find decides no
-    // jump, so the processor needn't guess it.
+    // A block whose first entry has a lesser mark, or the first block; where marks never fall, the last such. One of each
+    // `STRIDE` is read first: none of these reads waits for another, as those of a search by halves would, and what they find
+    // decides no jump, so the processor needn't guess it. The few behind the last of them are read in turn.
     fn last_lesser(&self, mark: u64) -> usize
         requires { 0 < length self.now }
         ensures in_range { result < length self.now }
@@ -349,7 +349,7 @@ impl<T: Drop, B: Block<T>> Row<T, B> {
             }
             at = at.saturating_add(STRIDE);
         }
-        if last + 1 < count && self.mark_of(last + 1) < mark {
+        while last + 1 < count && self.mark_of(last + 1) < mark {
             last += 1;
         }
         last

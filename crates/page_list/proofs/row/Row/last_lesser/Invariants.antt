@@ -10,3 +10,12 @@ invariant-loop-at g l = record {
 
 abbrev pub decreases-loop-at : goal.decreases-loop-at
 decreases-loop-at g l = length l.self - l.at
+
+abbrev pub invariant-loop-last : goal.invariant-loop-last
+invariant-loop-last g l = record {
+  in_range : l.last < length l.self;
+  lesser : 0 < l.last → BeginsLesser g.B.Block.entries l.self l.mark l.last;
+}
+
+abbrev pub decreases-loop-last : goal.decreases-loop-last
+decreases-loop-last g l = length l.self - l.last
