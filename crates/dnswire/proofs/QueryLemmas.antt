@@ -5,7 +5,7 @@ use Rattle.std.proofs.lemmas.List.Elements.{filter-append}
 use Rattle.dname.specs.Read.{Spells}
 use Rattle.dname.specs.declared.types.TheConstants.{OPT_TYPE}
 use Rattle.dname.proofs.ReadLemmas.{one_name}
-use Rattle.dnswire.specs.Header.{IsHeader, is_response, opcode_of, head_of}
+use Rattle.dnswire.specs.Header.{is_response, opcode_of, head_of}
 use Rattle.dnswire.specs.InTurn.{StandInTurn}
 use Rattle.dnswire.specs.Query.{AreOpts, IsQuery, HasQueryHeader, IsReadAs, edns_of, opts_of, version_of}
 use Rattle.dnswire.specs.Question.{AreQuestionFields}
@@ -191,9 +191,6 @@ one_query_header : (octets : List ℕ) (header header' : Header) (opcode opcode'
 one_query_header octets header header' opcode opcode' a b =
     let same = one_header octets header header' a.head b.head in
     record { headers = same; opcodes = sym a.opcode_is ∙ ap (λ h. opcode_of h.flags) same ∙ b.opcode_is }
-
-pub query_with : (octets : List ℕ) (header : Header) (opcode : ℕ) (response : Bool) (code : ℕ) → IsHeader octets header → response ≡ is_response header.flags → response ≡ false → code ≡ opcode_of header.flags → code ≡ opcode → HasQueryHeader octets header opcode
-query_with octets header opcode response code head response_is query code_is standard = record { head = head; query = sym response_is ∙ query; opcode_is = sym code_is ∙ standard }
 
 -- what is dropped has no header of a query
 not_dropped : (octets : List ℕ) (header : Header) (opcode : ℕ) → IsReadAs octets Dropped → HasQueryHeader octets header opcode → ⊥

@@ -2,7 +2,7 @@ ghost use Rattle.std.specs.Prelude.{◌≡◌, ◌≤◌, ℕ, List, length, Opt
 ghost use Rattle.dname.specs.Name.{Label};
 ghost use Rattle.dnswire.specs.InTurn.{StandInTurn};
 ghost use Rattle.dnswire.specs.RrHead.{RrHead, IsRrHead};
-ghost use Rattle.dnswire.specs.Query.{AreOpts, IsQuery, IsReadAs, edns_of, opts_of, version_of};
+ghost use Rattle.dnswire.specs.Query.{AreOpts, HasQueryHeader, IsReadAs, edns_of, opts_of, version_of};
 ghost use Rattle.dnswire.specs.RecordsPassed.{HasRecords};
 ghost use Rattle.dnswire.specs.Runs.{AreSizes};
 ghost use Rattle.dnswire.specs.declared.edns.Edns.{Edns};
@@ -55,33 +55,25 @@ pub fn read_query(octets: &[u8]) -> QueryRead
     if flags.opcode() != STANDARD_QUERY {
         return QueryRead::NotImp(header.head());
     }
-    let Some((question, version)) = read_question(octets, header) else {
-        return QueryRead::FormErr(header.head());
-    };
-    if version != 0 {
-        return QueryRead::BadVers(question);
-    }
-    QueryRead::Query(question)
+    read_question(octets, header)
 }
 
-// What a query with this header asks, and the version of its OPT record.
-fn read_question(octets: &[u8], header: Header) -> Option<(Question, u8)>
-    requires { HEADER_OCTETS ≤ length octets.now }
-    ensures read { IfSome result (λ read. IsQuery octets.now header read.0 read.1) }
-    ensures every { (question : Question) (version : ℕ)
-        → IsQuery octets.now header question version → IsSome result }
+// What the octets of a standard query, which have this header, are read as.
+fn read_question(octets: &[u8], header: Header) -> QueryRead
+    requires { HasQueryHeader octets.now header STANDARD_QUERY }
+    ensures { IsReadAs octets.now result }
 {
     if header.questions != 1 {
-        return None;
+        return QueryRead::FormErr(header.head());
     }
     let Ok((name, taken)) = Name::read(octets_from(octets, HEADER_OCTETS)) else {
-        return None;
+        return QueryRead::FormErr(header.head());
     };
     let Some(fields) = QuestionFields::read(octets, HEADER_OCTETS + taken) else {
-        return None;
+        return QueryRead::FormErr(header.head());
     };
     let Some(opt) = read_records(octets, fields.end, header) else {
-        return None;
+        return QueryRead::FormErr(header.head());
     };
     let flags = header.flags();
     let question = Question {
@@ -95,7 +87,10 @@ fn read_question(octets: &[u8], header: Header) -> Option<(Question, u8)>
         qclass: fields.qclass,
         edns: opt.edns,
     };
-    Some((question, opt.version))
+    if opt.version != 0 {
+        return QueryRead::BadVers(question);
+    }
+    QueryRead::Query(question)
 }
 
 fn copy_of(asked: &[u8]) -> ArrayVec<u8, MAX_ASKED>
