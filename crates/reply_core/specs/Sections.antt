@@ -1,13 +1,16 @@
 -- A reply whose records are put one after another: what it has so far, and its octets in the end.
-use Rattle.std.specs.Prelude.{◌≡◌, ℕ, ◌+◌, Bool, true, false, ◌||◌, if◌then◌else◌, nat_le, List, ◌++◌, length}
+use Rattle.std.specs.Prelude.{◌≡◌, ℕ, ◌+◌, Bool, true, false, ◌||◌, if◌then◌else◌, nat_le, List, ◌++◌, length, Some}
 use Rattle.std.specs.List.{flat_map}
 use Rattle.dname.specs.Name.{Label, wire_of}
 use Rattle.dname.specs.declared.types.TheConstants.{CNAME_TYPE}
 use Rattle.dnswire.specs.declared.question.Question.{Question}
 use Rattle.dnswire.specs.declared.flags.TheConstants.{TC, AD}
+use Rattle.denial_records.specs.Proof.{Proof}
+use Rattle.denial_records.specs.declared.set_rec.SetRec.{SetRec}
 use Rattle.reply_core.specs.Count.{count16}
 use Rattle.reply_core.specs.Draft.{Contents, put, blank}
-use Rattle.reply_core.specs.Reply.{ReplyRecord, record_octets, header_octets, head_of, flags_of, flag, wants_dnssec, opt_count, opt_octets, bare_octets, limit_of}
+use Rattle.reply_core.specs.Kept.{listed}
+use Rattle.reply_core.specs.Reply.{ReplyRecord, set_records, record_octets, header_octets, head_of, flags_of, flag, wants_dnssec, opt_count, opt_octets, bare_octets, limit_of}
 
 -- the CNAME that is made of a DNAME: it has no signature (RFC 6672, section 3.1)
 abbrev pub alias_record : List Label → List Label → ReplyRecord
@@ -38,6 +41,12 @@ sent_octets question rcode ttl answers authorities =
     if nat_le (length (whole_with question rcode ttl answers authorities)) (limit_of question.edns)
     then whole_with question rcode ttl answers authorities
     else truncated_with question rcode
+
+-- the answers by way of the question's own alias: its set, and the set that answers for its target
+abbrev pub alias_answers : Question → SetRec → List Label → Proof → List ReplyRecord
+alias_answers question alias target proof =
+    flat_map (set_records (wants_dnssec question) question.name) (listed (Some alias))
+    ++ flat_map (set_records (wants_dnssec question) target) (listed proof.answer)
 
 -- ---- a reply in work
 

@@ -5,6 +5,7 @@
 //! `Answered`, the reply that held records give; and for the inner steps `Draft`, `Owner` and `Count`.
 #![tactic(auto)]
 
+mod alias_reply;
 mod ask;
 mod draft;
 mod error;
@@ -18,6 +19,7 @@ mod reply;
 mod reply_buffer;
 mod sections;
 
+pub use alias_reply::write_alias_reply;
 pub use ask::write_ask;
 pub use draft::{MAX_LONG_REPLY, MAX_REPLY};
 pub use error::{write_error, write_plain};

@@ -64,12 +64,12 @@ fn put_whole<const N: usize>(
     put_header(draft, question.id, flags, 1, 0, 0, opts);
     put_question(draft, question);
     let answers = put_answers(draft, question, verdict);
-    let authorities = put_authorities(draft, question, verdict);
+    let authorities = put_authorities(draft, question, verdict, verdict.ttl);
     put_opt(draft, 0, question.edns);
     set_counts(draft, answers, authorities);
 }
 
-fn put_truncated<const N: usize>(draft: &mut Draft<N>, question: &Question, kind: Kind)
+pub(crate) fn put_truncated<const N: usize>(draft: &mut Draft<N>, question: &Question, kind: Kind)
     ensures value { draft.new ≡ put draft.old (truncated_octets question.now kind) }
     ensures small { length (truncated_octets question.now kind) ≤ LEAST_PAYLOAD }
 {
@@ -96,20 +96,21 @@ fn put_answers<const N: usize>(
     )
 }
 
-// The records of the authority section, and their number modulo 2^16.
-fn put_authorities<const N: usize>(
+/// The records of the authority section, with this TTL, and their number modulo 2^16.
+pub(crate) fn put_authorities<const N: usize>(
     draft: &mut Draft<N>,
     question: &Question,
     verdict: &Verdict<'_>,
+    ttl: u32,
 ) -> u16
-    ensures { HasPut verdict.now.ttl draft.old draft.new result
+    ensures { HasPut ttl draft.old draft.new result
         (authority_records question.now (shown_by verdict.now)) }
 {
     let dnssec = wants_dnssec(question);
-    put_soa(draft, verdict.ttl, dnssec, verdict.soa)
-        .wrapping_add(put_denial(draft, verdict.ttl, dnssec, &verdict.first))
-        .wrapping_add(put_denial(draft, verdict.ttl, dnssec, &verdict.second))
-        .wrapping_add(put_denial(draft, verdict.ttl, dnssec, &verdict.third))
+    put_soa(draft, ttl, dnssec, verdict.soa)
+        .wrapping_add(put_denial(draft, ttl, dnssec, &verdict.first))
+        .wrapping_add(put_denial(draft, ttl, dnssec, &verdict.second))
+        .wrapping_add(put_denial(draft, ttl, dnssec, &verdict.third))
 }
 
 const LEAST: usize = LEAST_PAYLOAD as usize;
