@@ -234,6 +234,12 @@ module _ (rule : Rule) (held : Held) (now qtype : ℕ) where
 
 -- ---- one alias
 
+-- what a zone's records prove of a name and a type, by the set there that may be used
+pub proved_by : (held : Held) (now : ℕ) (apex name : List Label) (qtype : ℕ) (set : Option SetRec) → set ≡ usable_set held now apex name qtype
+    → zone_proof held now apex name qtype ≡ option_or (option_map (λ it. answer_by it []) set) (first_of (chain_proof held now apex name qtype) (chains_of held apex))
+proved_by held now apex name qtype set is =
+    ap (λ (it : Option SetRec). option_or (option_map (λ set. answer_by set []) it) (first_of (chain_proof held now apex name qtype) (chains_of held apex))) (sym is)
+
 -- the walk by the name's own CNAME set to a name of which there is a proof
 pub by_own_alias : (rule : Rule) (held : Held) (now qtype : ℕ) (name apex target : List Label) (set : SetRec) (proof : Proof) → takes_aliases rule ≡ true → (qtype ≡ DS_TYPE → ⊥)
     → zone_for held name qtype ≡ Some apex → Some set ≡ usable_set held now apex name CNAME_TYPE → Some target ≡ one_name_in set.items → proof_of held now target qtype ≡ Some proof
@@ -241,8 +247,7 @@ pub by_own_alias : (rule : Rule) (held : Held) (now qtype : ℕ) (name apex targ
 by_own_alias rule held now qtype name apex target set proof takes apart asked found leads proved =
     let alias = answer_by set [] in
     let some = some_links rule in
-    let proved_alias : zone_proof held now apex name CNAME_TYPE ≡ Some alias =
-    ap (λ (it : Option SetRec). option_or (option_map (λ set. answer_by set []) it) (first_of (chain_proof held now apex name CNAME_TYPE) (chains_of held apex))) (sym found) in
+    let proved_alias : zone_proof held now apex name CNAME_TYPE ≡ Some alias = proved_by held now apex name CNAME_TYPE (Some set) found in
     let by : by_alias held now qtype name ≡ Some (Onto (ByAlias alias) target) =
     sym (alias_in held now qtype name apex (Some alias) apart asked proved_alias) ∙ ap (option_map (Onto (ByAlias alias))) (sym leads) in
     let step : Some (Onto (ByAlias alias) target) ≡ step_of rule held now qtype name =

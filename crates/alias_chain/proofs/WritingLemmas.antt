@@ -211,20 +211,6 @@ pub all_new : (denials : List Record) → are_new [] denials ≡ denials
 all_new [] = refl
 all_new (denial ∷ denials) = ap (λ them. denial ∷ them) (all_new denials)
 
--- those of one verdict, behind an SOA
-pub three_denials : (dnssec : Bool) (soa : List ReplyRecord) (first second third : List Record)
-    → soa ++ flat_map (proof_records dnssec) first ++ flat_map (proof_records dnssec) second ++ flat_map (proof_records dnssec) third
-    ≡ soa ++ flat_map (proof_records dnssec) (are_new [] (first ++ second ++ third))
-three_denials dnssec soa first second third =
-    let f = proof_records dnssec in
-    append_assoc (soa ++ flat_map f first) (flat_map f second) (flat_map f third)
-    ∙ append_assoc soa (flat_map f first) (flat_map f second ++ flat_map f third)
-    ∙ ap (λ them. soa ++ them)
-    (sym (append_assoc (flat_map f first) (flat_map f second) (flat_map f third))
-    ∙ ap (λ them. them ++ flat_map f third) (sym (flat_map-append f first second))
-    ∙ sym (flat_map-append f (first ++ second) third)
-    ∙ ap (flat_map f) (sym (all_new (first ++ second ++ third))))
-
 -- ---- a DNAME set
 
 -- the records of one set

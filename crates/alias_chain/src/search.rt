@@ -1,12 +1,15 @@
-//! The DNAME above a name, and what is looked up for it.
-ghost use Rattle.std.specs.Prelude.{◌≡◌};
+//! The DNAME above a name, and the CNAME set at one.
+ghost use Rattle.std.specs.Prelude.{◌≡◌, IfSome};
 ghost use Rattle.std.specs.Option.{option_copied};
+ghost use Rattle.dname.specs.declared.types.TheConstants.{CNAME_TYPE};
 ghost use Rattle.cache_meaning.specs.Evidence.{usable_set};
+ghost use Rattle.cache_meaning.specs.Zones.{set_at};
 ghost use Rattle.alias_chain.specs.Dname.{dname_of, dname_at, topmost_dname};
 
 use crate::lent_dname::LentDname;
+use cache_meaning::{that_is_usable, usable_set};
 use denial_records::KeptSet;
-use dname::types::DNAME_TYPE;
+use dname::types::{CNAME_TYPE, DNAME_TYPE};
 use dname::{Name, one_name_in};
 use record_store::ZoneRef;
 
@@ -30,20 +33,21 @@ fn dname_at<'a>(zone: &ZoneRef<'a>, now: u32, owner: &Name) -> Option<LentDname<
     dname_of(set)
 }
 
-/// The set at the owner name and type that may be used now.
-pub(crate) fn usable_set<'a>(
+/// The CNAME set at the owner name that may be used now, where a search may have told of it already.
+pub(crate) fn usable_alias<'a>(
     zone: &ZoneRef<'a>,
     now: u32,
     owner: &Name,
-    rtype: u16,
+    told: Option<Option<&'a KeptSet>>,
 ) -> Option<&'a KeptSet>
-    ensures { option_copied result ≡ usable_set zone.now.held now zone.now.apex owner.now rtype }
+    requires { IfSome told (λ alias.
+        option_copied alias ≡ set_at zone.now.held zone.now.apex owner.now CNAME_TYPE) }
+    ensures { option_copied result
+        ≡ usable_set zone.now.held now zone.now.apex owner.now CNAME_TYPE }
 {
-    let set = zone.set_at(owner, rtype)?;
-    if u64::from(now) < set.expiry() {
-        Some(set)
-    } else {
-        None
+    match told {
+        Some(alias) => that_is_usable(alias, now),
+        None => usable_set(zone, now, owner, CNAME_TYPE),
     }
 }
 

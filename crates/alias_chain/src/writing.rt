@@ -30,28 +30,6 @@ pub fn write_walk(question: &Question, walk: &Walk<'_>, out: &mut ReplyBuffer)
     sections.finish(out);
 }
 
-/// The same, of the walk by the question's own CNAME set to a name of which the verdict is.
-pub(crate) fn write_alias(
-    question: &Question,
-    set: &KeptSet,
-    target: &Name,
-    verdict: &Verdict<'_>,
-    ttl: u32,
-    out: &mut ReplyBuffer,
-)
-    ensures { out.new ≡ walk_octets question.now
-        (one_alias question.now.name set.now target.now (shown_by verdict.now)) ttl }
-{
-    let mut sections = Sections::begin(question, rcode_of(verdict.kind), ttl);
-    sections.put_answer(&question.name, Some(set));
-    sections.put_answer(target, verdict.answer_set);
-    sections.put_soa(verdict.soa);
-    sections.put_denial(&verdict.first);
-    sections.put_denial(&verdict.second);
-    sections.put_denial(&verdict.third);
-    sections.finish(out);
-}
-
 /// The same, of a walk by aliases.
 pub fn write_trail(question: &Question, trail: &Walk<'_>, out: &mut ReplyBuffer)
     ensures { out.new ≡ walk_octets question.now (walk_by trail.now) trail.now.ttl }

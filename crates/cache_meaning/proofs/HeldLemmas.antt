@@ -1,4 +1,4 @@
--- What the plain program keeps of held records.
+-- What the plain store keeps of held records.
 use Rattle.std.proofs.Common.{◌≡◌, ℕ, Bool, true, false, List, [], ◌∷◌, map, filter, Option, Some, None, refl, ap, cond, slice_get, length, drop, get_or, ◌++◌, ◌+◌, ◌<◌, arith}
 use Rattle.std.proofs.lemmas.Grind.{common_steps}
 use Rattle.std.proofs.lemmas.Option.{slice_get_within, get_or_from_slice_get}

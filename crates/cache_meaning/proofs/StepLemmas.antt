@@ -18,12 +18,6 @@ second_of test first second holds nothing = sym (λ k. if holds k then option_or
 pub first_gives : {A : Type 0} (test : Bool) (first second : Option A) (it : A) → test ≡ true → first ≡ Some it → Some it ≡ (if test then option_or first second else None)
 first_gives test first second it holds gives = sym (λ k. if holds k then option_or (gives k) second else None)
 
--- there is a record, and the test holds of it
-pub of_record : {A B : Type 0} (test : A → Bool) (step : A → Option B) (found : Option A) (item : A) → Some item ≡ found → test item ≡ true
-    → step item ≡ option_and_then (λ x. if test x then step x else None) found
-of_record test step found item is holds =
-    sym (λ k. if holds k then step item else None) ∙ ap (option_and_then (λ x. if test x then step x else None)) is
-
 -- of two at most, the second is tried behind the first
 pub two_in_turn : {A B : Type 0} (step : A → Option B) (xs : List A) → length xs ≤ 2 → option_or (option_and_then step (slice_get xs 0)) (option_and_then step (slice_get xs 1)) ≡ first_of step xs
 two_in_turn step [] few = refl

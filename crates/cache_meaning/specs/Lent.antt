@@ -1,4 +1,4 @@
--- What the plain program lends, in the words of the definitions.
+-- What a zone lends, in the words of the definitions.
 use Rattle.std.specs.Prelude.{ℕ, Bool, List, if◌then◌else◌, Option, Some, None}
 use Rattle.cache_meaning.specs.Held.{HashParameters, Chain, NsecChain, Nsec3Chain}
 use Rattle.cache_meaning.specs.declared.place.Place.{Place}

@@ -1,18 +1,19 @@
--- No public clause cites this module. What the plain program's values are, in the words of the definitions.
+-- No public clause cites this module. What the plain store's values and a proof's parts are, in the words of the definitions.
 use Rattle.std.specs.Prelude.{List, [], ◌∷◌, map, Some, None}
 use Rattle.std.specs.Arc.{arc_value}
 use Rattle.std.specs.declared.sync.Arc.{Arc}
 use Rattle.std.specs.declared.alloc.Global.{Global}
 use Rattle.denial_records.specs.declared.record.Record.{Record}
-use Rattle.dname.specs.Name.{Label}
 use Rattle.denial_records.specs.Proof.{Proof, denied_by}
+use Rattle.denial_records.specs.declared.set_rec.SetRec.{SetRec}
+use Rattle.denial_records.specs.declared.verdict.Kind.{Kind}
 use Rattle.denial_records.specs.declared.verdict.Kind.TheVariants as kinds
-use Rattle.cache_meaning.specs.Held.{Held, HashParameters, ZoneChain, Chain, NsecChain, Nsec3Chain}
+use Rattle.cache_meaning.specs.Held.{Held, ZoneChain, Chain, NsecChain, Nsec3Chain}
 use Rattle.cache_meaning.specs.NsecSteps.{answer_by}
 use Rattle.cache_meaning.specs.declared.claim.Claim.{Claim}
 use Rattle.cache_meaning.specs.declared.claim.Claim.TheVariants.{Answer, NoData, NxDomain}
-use Rattle.cache_meaning.specs.declared.denials.Denials.{Denials}
-use Rattle.cache_meaning.specs.declared.denials.Denials.TheVariants.{Zero, One, Two, Three}
+use Rattle.cache_meaning.specs.declared.denials.Lent.{Lent}
+use Rattle.cache_meaning.specs.declared.denials.Lent.TheVariants.{Zero, One, Two, Three}
 use Rattle.cache_meaning.specs.declared.held_chain.ChainKind.{ChainKind}
 use Rattle.cache_meaning.specs.declared.held_chain.ChainKind.TheVariants.{Nsec, Nsec3}
 
@@ -28,29 +29,18 @@ shared_records shared = map arc_value shared
 abbrev pub held_by : List Record → List ZoneChain → Held
 held_by records chains = record { records = records; chains = chains }
 
--- a name, and by what its hash is taken
-pub record NameInChain : Type 0 where
-  pub parameters : HashParameters
-  pub name : List Label
-
--- the denial records of a proof
-abbrev pub denials_of : Denials → List Record
+-- the denial records that are lent
+abbrev pub denials_of : Lent → List Record
 denials_of Zero = []
 denials_of (One first) = denied_by first ∷ []
 denials_of (Two first second) = denied_by first ∷ denied_by second ∷ []
 denials_of (Three first second third) = denied_by first ∷ denied_by second ∷ denied_by third ∷ []
 
-abbrev pub proof_by : Claim → Denials → Proof
-proof_by (Answer set) denials = answer_by set.now (denials_of denials)
-proof_by (NoData soa) denials = record {
-  kind = kinds.NoData;
-  answer = None;
-  soa = Some soa.now;
-  denials = denials_of denials;
-}
-proof_by (NxDomain soa) denials = record {
-  kind = kinds.NxDomain;
-  answer = None;
-  soa = Some soa.now;
-  denials = denials_of denials;
-}
+-- a denial by an SOA
+abbrev pub denied : Kind → SetRec → List Record → Proof
+denied kind soa denials = record { kind = kind; answer = None; soa = Some soa; denials = denials }
+
+abbrev pub proof_by : Claim → List Record → Proof
+proof_by (Answer set) denials = answer_by set.now denials
+proof_by (NoData soa) denials = denied kinds.NoData soa.now denials
+proof_by (NxDomain soa) denials = denied kinds.NxDomain soa.now denials

@@ -1,9 +1,8 @@
-ghost use Rattle.std.specs.Prelude.{◌≡◌, ◌-◌, min, nat_lt, if◌then◌else◌, length, drop};
+ghost use Rattle.std.specs.Prelude.{◌≡◌, ◌-◌, [], min, nat_lt, if◌then◌else◌, length, drop};
 ghost use Rattle.byteorder.specs.Endian.{big_number};
 ghost use Rattle.denial_records.specs.TimeLeft.{time_left};
 ghost use Rattle.cache_meaning.specs.Ttl.{minimum_of, ttl_of};
 ghost use Rattle.cache_meaning.specs.Views.{proof_by};
-ghost use Rattle.cache_meaning.specs.declared.denials.Denials.TheVariants.{Zero};
 
 use denial_records::{KeptSet, remaining};
 use dname::{Packed, u32_at};
@@ -19,7 +18,7 @@ pub(crate) enum Claim<'a> {
 impl<'a> Claim<'a> {
     /// The TTL of the proof without its denial records, in seconds.
     pub(crate) fn ttl(&self, now: u32) -> u32
-        ensures { result ≡ ttl_of now (proof_by self.now Zero) }
+        ensures { result ≡ ttl_of now (proof_by self.now []) }
     {
         match self {
             Claim::Answer(set) => set_left(set, now),

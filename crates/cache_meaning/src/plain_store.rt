@@ -18,8 +18,8 @@ use std::alloc::Global;
 use std::marker::Model;
 use std::sync::Arc;
 
-/// The records that a cache holds after some batches, with the chains that they are of: a plain program over one list, in the
-/// words of the definitions. A batch makes the next one and leaves this; records that both hold are shared.
+/// The records that a cache holds after some batches, with the chains that they are of: over one list, in the words of the
+/// definitions. A batch makes the next one and leaves this; records that both hold are shared.
 #[derive(Drop)]
 pub struct PlainStore {
     held: HeldRecords,

@@ -1,7 +1,8 @@
 -- What is looked up in the parts of a store is what is looked up in what they hold.
-use Rattle.std.proofs.Common.{◌≡◌, ◌↔◌, ℕ, ◌+◌, ◌<◌, ◌≤◌, ◌⊎◌, inl, inr, ⊎_elim, Bool, true, false, true≢false, cond, List, [], ◌∷◌, ◌++◌, length, get_or, map, filter, find, Contains, Option, Some, None, refl, sym, ◌∙◌, ap, subst, arith}
+use Rattle.std.proofs.Common.{◌≡◌, ◌↔◌, ℕ, ◌+◌, ◌<◌, ◌≤◌, ◌⊎◌, inl, inr, ⊎_elim, Bool, true, false, true≢false, cond, List, [], ◌∷◌, ◌++◌, length, get_or, map, filter, find, Contains, Option, Some, None, Bor, refl, sym, ◌∙◌, ap, subst, arith}
+use Rattle.std.specs.Prelude.{MatchOption, ◌^◌}
 use Rattle.std.specs.List.{list_any, prefix_len}
-use Rattle.std.specs.Option.{option_or}
+use Rattle.std.specs.Option.{option_or, option_copied}
 use Rattle.std.specs.Ordering.{is_le, nat_cmp}
 use Rattle.std.specs.Cmp.{IsTotalOrder}
 use Rattle.std.specs.declared.cmp.Ordering.{Ordering}
@@ -19,6 +20,7 @@ use Rattle.facts.proofs.Lists.{here, there, here_or_there, nothing_in}
 use Rattle.dname.specs.Name.{Label, canonical_cmp}
 use Rattle.dname.specs.Order.{canonical_same}
 use Rattle.dname.specs.Tests.{same_name}
+use Rattle.dname.specs.declared.types.TheConstants.{CNAME_TYPE}
 use Rattle.denial_records.specs.declared.nsec_rec.NsecRec.{NsecRec}
 use Rattle.denial_records.specs.declared.nsec3_rec.Nsec3Rec.{Nsec3Rec}
 use Rattle.denial_records.specs.declared.set_rec.SetRec.{SetRec}
@@ -37,9 +39,9 @@ use Rattle.ordered_list.proofs.OrderLemmas.{below_rest, rest_in_order}
 use Rattle.ordered_list.proofs.PlaceLemmas.{upto_first}
 use Rattle.zone_chains.specs.Zone.{OneZone, chains_in, records_in, IsOneZone, IsDenialOf, IsChosen}
 use Rattle.record_store.specs.Holding.{held_in, chains_of_zones, IsTied}
-use Rattle.record_store.specs.LookUp.{is_apex, first_apex, IsFirstZone, IsZoneIn, set_like}
-use Rattle.record_store.specs.Ranks.{apex_cmp, set_cmp, sets_total}
-use Rattle.record_store.specs.Marks.{set_mark}
+use Rattle.record_store.specs.LookUp.{is_apex, first_apex, IsFirstZone, IsZoneIn, set_like, AreAllAbove, IsLastSet}
+use Rattle.record_store.specs.Ranks.{apex_cmp, set_cmp, sets_total, sets_rise}
+use Rattle.record_store.specs.Marks.{type_part, owner_number, set_number, set_mark}
 use Rattle.record_store.proofs.MarkLemmas.{key_mark, set_tied}
 
 -- ---- the zone for a question
@@ -205,7 +207,7 @@ module _ (held : Held) (zone : OneZone) (is : IsZoneIn held zone) where
       (chosen_among (as_nsec3_at zone.apex parameters hash) (records_in zone) held.records (λ item a choice.
       (λ h. ((is.its item).0 h).0, λ h. (is.its item).1 (h, nsec3_is_denial zone.apex parameters hash item a choice))) result chosen)
 
-pub set_in_sets : (goings sets : List Record) (zones : List OneZone) → IsTied goings sets zones → (zone owner : List Label) (rtype : ℕ) (result : Option SetRec) → IsChosen (as_set_at zone owner rtype) sets result → result ≡ set_at (in_key_order (held_in goings zones)) zone owner rtype
+set_in_sets : (goings sets : List Record) (zones : List OneZone) → IsTied goings sets zones → (zone owner : List Label) (rtype : ℕ) (result : Option SetRec) → IsChosen (as_set_at zone owner rtype) sets result → result ≡ set_at (in_key_order (held_in goings zones)) zone owner rtype
 set_in_sets goings sets zones tied zone owner rtype result chosen =
     let held = held_in goings zones in
     set_chosen held tied.apart zone owner rtype result
@@ -213,22 +215,43 @@ set_in_sets goings sets zones tied zone owner rtype result chosen =
     (λ h. ((tied.sets_are item).0 h).0, λ h. (tied.sets_are item).1 (h, set_has_no_chain zone owner rtype item a choice))) result chosen)
     ∙ same_set held (in_key_order held) tied.apart (key_order_same held) zone owner rtype
 
+-- and so it is in the state that they are
+pub set_in_view : (goings sets : List Record) (zones : List OneZone) → IsTied goings sets zones → (held : Held) → held_in goings zones ≡ held → (zone owner : List Label) (rtype : ℕ) (list : List Record) → list ≡ sets → (result : Option SetRec) → IsChosen (as_set_at zone owner rtype) list result → result ≡ set_at (in_key_order held) zone owner rtype
+set_in_view goings sets zones tied held is zone owner rtype list same result chosen =
+    subst (λ h. result ≡ set_at (in_key_order h) zone owner rtype) is
+    (set_in_sets goings sets zones tied zone owner rtype result (subst (λ l. IsChosen (as_set_at zone owner rtype) l result) same chosen))
+
 -- ---- the place of what ties, in a list in order
 
 module _ {X : Type 0} (cmp : X → X → Ordering) (total : IsTotalOrder cmp) (like : X) (xs : List X) (order : IsInOrder cmp xs) where
   abbrev upto : X → Bool
   upto x = is_le (cmp x like)
 
-  -- nothing that ties stands behind those that don't rank above
-  tied_within : (x : X) (has : Contains xs x) → cmp x like ≡ Equal → has.0 < prefix_len upto xs
-  tied_within x has tie = by (cases_lt has.0 (prefix_len upto xs))
+  -- nothing that doesn't rank above stands behind those
+  upto_within : (x : X) (has : Contains xs x) → upto x ≡ true → has.0 < prefix_len upto xs
+  upto_within x has passes = by (cases_lt has.0 (prefix_len upto xs))
     where
       by : (has.0 < prefix_len upto xs) ⊎ (prefix_len upto xs ≤ has.0) → has.0 < prefix_len upto xs
       by (inl within) = within
       by (inr behind) =
-          let passes : upto (get_or xs has.0 x) ≡ true = ap upto has.2 ∙ ap is_le tie in
-          let first : upto (get_or xs (prefix_len upto xs) x) ≡ true = upto_first cmp total like xs order (prefix_len upto xs) has.0 x behind has.1 passes in
+          let first : upto (get_or xs (prefix_len upto xs) x) ≡ true = upto_first cmp total like xs order (prefix_len upto xs) has.0 x behind has.1 (ap upto has.2 ∙ passes) in
           absurd (true≢false (sym first ∙ prefix_len_stops upto xs x (omega (arith, has.1))))
+
+  tied_within : (x : X) (has : Contains xs x) → cmp x like ≡ Equal → has.0 < prefix_len upto xs
+  tied_within x has tie = upto_within x has (ap is_le tie)
+
+  -- and none of those ranks above the last of them
+  upto_last : (n : ℕ) → n + 1 ≡ prefix_len upto xs → (x y : X) → Contains xs x → upto x ≡ true → n < length xs → y ≡ get_or xs n y → (cmp x y ≡ Less) ⊎ (x ≡ y)
+  upto_last n last x y has passes within is = by (cases_lt has.0 n)
+    where
+      y_here : y ≡ get_or xs n x
+      y_here = get_or_read xs n y within is x
+
+      by : (has.0 < n) ⊎ (n ≤ has.0) → (cmp x y ≡ Less) ⊎ (x ≡ y)
+      by (inl before) = inl (subst (λ z. cmp x z ≡ Less) (sym y_here) (subst (λ z. cmp z (get_or xs n x) ≡ Less) has.2 (order has.0 n x before within)))
+      by (inr from) =
+          let same : has.0 ≡ n = omega (arith, from, last, upto_within x has passes) in
+          inr (sym has.2 ∙ (ap (λ k. get_or xs k x) same ∙ sym y_here))
 
   above_tied : (x y : X) → cmp x y ≡ Less → cmp x like ≡ Equal → is_le (cmp y like) ≡ false
   above_tied x y less tie = grind (arith, common_steps, total)
@@ -246,6 +269,9 @@ module _ {X : Type 0} (cmp : X → X → Ordering) (total : IsTotalOrder cmp) (l
       by (inr from) =
           let same : n ≡ has.0 = omega (arith, from, last, tied_within x has tie) in
           y_here ∙ (ap (λ k. get_or xs k x) same ∙ has.2)
+
+not_both : {X : Type 0} (cmp : X → X → Ordering) → IsTotalOrder cmp → (x y : X) → cmp x y ≡ Less → cmp y x ≡ Less → ⊥
+not_both cmp total x y less back = grind (arith, common_steps, total)
 
 -- a set that is chosen ties with such a set
 set_ties : (zone owner : List Label) (rtype : ℕ) (item : Record) (a : SetRec) → as_set_at zone owner rtype item ≡ Some a → key_cmp item (set_like zone owner rtype) ≡ Equal
@@ -266,25 +292,86 @@ other_number zone owner rtype item apart = by (as_set_at zone owner rtype item) 
     by None none = sym none
     by (Some set) some = absurd (apart (key_mark item (set_like zone owner rtype) (set_ties zone owner rtype item set some)))
 
-module _ (zone owner : List Label) (rtype : ℕ) (sets : List Record) (order : IsInOrder set_cmp sets) where
-  pub chosen_last : (n : ℕ) → n + 1 ≡ prefix_len (λ item. is_le (set_cmp item (set_like zone owner rtype))) sets → (item : Record) → n < length sets → item ≡ get_or sets n item → (result : Option SetRec) → result ≡ as_set_at zone owner rtype item → IsChosen (as_set_at zone owner rtype) sets result
-  chosen_last n last item within is (Some set) result = (item, (n, within, sym is), sym result)
-  chosen_last n last item within is None result = λ each has. by each has (as_set_at zone owner rtype each) refl
-    where
-      by : (each : Record) → Contains sets each → (o : Option SetRec) → as_set_at zone owner rtype each ≡ o → as_set_at zone owner rtype each ≡ None
-      by each has None none = none
-      by each has (Some set) some =
-          let same = tied_is_last set_cmp sets_total (set_like zone owner rtype) sets order n last each has (set_tied each (set_like zone owner rtype) (set_ties zone owner rtype each set some)) item within is in
-          absurd (none-some _ (result ∙ (ap (as_set_at zone owner rtype) same ∙ some)))
+module _ (zone owner : List Label) (rtype : ℕ) (sets : List Record) where
+  abbrev sought : Record
+  sought = set_like zone owner rtype
 
-  -- a record of another number is no such set
-  pub none_of_number : (n : ℕ) → n + 1 ≡ prefix_len (λ item. is_le (set_cmp item (set_like zone owner rtype))) sets → (item : Record) → n < length sets → item ≡ get_or sets n item → (set_mark item ≡ set_mark (set_like zone owner rtype) → ⊥) → IsChosen (as_set_at zone owner rtype) sets None
-  none_of_number n last item within is apart =
-      chosen_last n last item within is None (other_number zone owner rtype item apart)
-
-  pub none_upto : prefix_len (λ item. is_le (set_cmp item (set_like zone owner rtype))) sets ≡ 0 → IsChosen (as_set_at zone owner rtype) sets None
-  none_upto none each has = by (as_set_at zone owner rtype each) refl
+  pub none_upto : AreAllAbove sets sought → IsChosen (as_set_at zone owner rtype) sets None
+  none_upto are each has = by (as_set_at zone owner rtype each) refl
     where
       by : (o : Option SetRec) → as_set_at zone owner rtype each ≡ o → as_set_at zone owner rtype each ≡ None
-      by None none' = none'
-      by (Some set) some = absurd (omega (arith, none, tied_within set_cmp sets_total (set_like zone owner rtype) sets order each has (set_tied each (set_like zone owner rtype) (set_ties zone owner rtype each set some))))
+      by None none = none
+      by (Some set) some = absurd (omega (arith, are.none, tied_within set_cmp sets_total sought sets are.in_order each has (set_tied each sought (set_ties zone owner rtype each set some))))
+
+  module _ (mark : ℕ) (item : Record) (is : IsLastSet sets sought mark item) where
+    pub chosen_last : (result : Option SetRec) → result ≡ as_set_at zone owner rtype item → IsChosen (as_set_at zone owner rtype) sets result
+    chosen_last (Some set) result = (item, (is.place, is.within, sym is.its), sym result)
+    chosen_last None result = λ each has. by each has (as_set_at zone owner rtype each) refl
+      where
+        by : (each : Record) → Contains sets each → (o : Option SetRec) → as_set_at zone owner rtype each ≡ o → as_set_at zone owner rtype each ≡ None
+        by each has None none = none
+        by each has (Some set) some =
+            let same = tied_is_last set_cmp sets_total sought sets is.in_order is.place is.last each has (set_tied each sought (set_ties zone owner rtype each set some)) item is.within is.its in
+            absurd (none-some _ (result ∙ (ap (as_set_at zone owner rtype) same ∙ some)))
+
+    -- a record of another number is no such set
+    pub none_of_number : (number : ℕ) → number ≡ set_number zone owner rtype → (mark ≡ number → ⊥) → IsChosen (as_set_at zone owner rtype) sets None
+    none_of_number number its apart =
+        chosen_last None (other_number zone owner rtype item (λ same. apart (is.marked ∙ (same ∙ sym its))))
+
+-- ---- the CNAME set at the owner name, by a search for a set of the owner name
+
+alias_number : (zone owner : List Label) → set_number zone owner CNAME_TYPE ≡ owner_number zone owner
+alias_number zone owner = omega arith
+
+-- no other type has the CNAME type's number
+first_type : (rtype : ℕ) → rtype < 2 ^ 16 → (rtype ≡ CNAME_TYPE) ⊎ (0 < type_part rtype)
+first_type rtype small = by (cases_lt 0 (type_part rtype))
+  where
+    by : (0 < type_part rtype) ⊎ (type_part rtype ≤ 0) → (rtype ≡ CNAME_TYPE) ⊎ (0 < type_part rtype)
+    by (inl more) = inr more
+    by (inr none) = inl (omega (arith, none, small))
+
+-- a CNAME set doesn't come after a set of its owner name
+alias_upto : (zone owner : List Label) (rtype : ℕ) → rtype < 2 ^ 16 → (item : Record) → key_cmp item (set_like zone owner CNAME_TYPE) ≡ Equal → is_le (set_cmp item (set_like zone owner rtype)) ≡ true
+alias_upto zone owner rtype small item tie = by (first_type rtype small)
+  where
+    its : set_mark item ≡ owner_number zone owner
+    its = key_mark item (set_like zone owner CNAME_TYPE) tie ∙ alias_number zone owner
+
+    by : (rtype ≡ CNAME_TYPE) ⊎ (0 < type_part rtype) → is_le (set_cmp item (set_like zone owner rtype)) ≡ true
+    by (inl same) = subst (λ t. is_le (set_cmp item (set_like zone owner t)) ≡ true) (sym same) (ap is_le (set_tied item (set_like zone owner CNAME_TYPE) tie))
+    by (inr more) = ap is_le (sets_rise item (set_like zone owner rtype) (omega (arith, its, more)))
+
+not_less : (one other : Record) → set_cmp one other ≡ Less → set_mark one ≤ set_mark other
+not_less one other less = ⊎_elim (λ back. absurd (not_both set_cmp sets_total one other less (sets_rise other one back))) (λ upto. upto) (cases_lt (set_mark other) (set_mark one))
+
+module _ (zone owner : List Label) (rtype : ℕ) (small : rtype < 2 ^ 16) (sets : List Record) where
+  abbrev of_owner : Record
+  of_owner = set_like zone owner rtype
+
+  pub no_alias_upto : AreAllAbove sets of_owner → IsChosen (as_set_at zone owner CNAME_TYPE) sets None
+  no_alias_upto are each has = by (as_set_at zone owner CNAME_TYPE each) refl
+    where
+      by : (o : Option SetRec) → as_set_at zone owner CNAME_TYPE each ≡ o → as_set_at zone owner CNAME_TYPE each ≡ None
+      by None none = none
+      by (Some set) some = absurd (omega (arith, are.none, upto_within set_cmp sets_total of_owner sets are.in_order each has (alias_upto zone owner rtype small each (set_ties zone owner CNAME_TYPE each set some))))
+
+  module _ (mark : ℕ) (item : Record) (is : IsLastSet sets of_owner mark item) (least : ℕ) (its : least ≡ owner_number zone owner) where
+    -- a record before all sets of the owner name
+    none_before : mark < least → IsChosen (as_set_at zone owner CNAME_TYPE) sets None
+    none_before less each has = by (as_set_at zone owner CNAME_TYPE each) refl
+      where
+        by : (o : Option SetRec) → as_set_at zone owner CNAME_TYPE each ≡ o → as_set_at zone owner CNAME_TYPE each ≡ None
+        by None none = none
+        by (Some set) some =
+            let tie = set_ties zone owner CNAME_TYPE each set some in
+            let number : set_mark each ≡ owner_number zone owner = key_mark each (set_like zone owner CNAME_TYPE) tie ∙ alias_number zone owner in
+            let upto : set_mark each ≤ set_mark item =
+            ⊎_elim (not_less each item) (λ same. subst (λ z. set_mark each ≤ set_mark z) same (omega arith))
+            (upto_last set_cmp sets_total of_owner sets is.in_order is.place is.last each item has (alias_upto zone owner rtype small each tie) is.within is.its) in
+            absurd (omega (arith, less, its, is.marked, number, upto))
+
+    pub alias_told : (alias : Option (Bor SetRec)) → MatchOption alias (mark < least) (λ set. as_set_at zone owner CNAME_TYPE item ≡ Some set.now) → IsChosen (as_set_at zone owner CNAME_TYPE) sets (option_copied alias)
+    alias_told None less = none_before less
+    alias_told (Some set) is' = (item, (is.place, is.within, sym is.its), is')

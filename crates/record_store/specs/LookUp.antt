@@ -1,6 +1,6 @@
 -- No public clause cites this module: what is looked up in the parts of a store.
-use Rattle.std.specs.Prelude.{◌≡◌, IsTrue, ℕ, Bool, List, [], map, Option, Some, find}
-use Rattle.std.specs.List.{Contains, list_any}
+use Rattle.std.specs.Prelude.{◌≡◌, IsTrue, ℕ, ◌+◌, ◌<◌, Bool, List, [], length, get_or, map, Option, Some, find}
+use Rattle.std.specs.List.{Contains, list_any, prefix_len}
 use Rattle.std.specs.Ordering.{is_le}
 use Rattle.dname.specs.Name.{Label, canonical_cmp}
 use Rattle.dname.specs.Tests.{same_name}
@@ -12,7 +12,8 @@ use Rattle.held_laws.specs.HeldLaws.{NoneDisplaces}
 use Rattle.ordered_list.specs.Order.{IsInOrder}
 use Rattle.zone_chains.specs.Zone.{OneZone, chains_in}
 use Rattle.record_store.specs.Holding.{IsZoneOf}
-use Rattle.record_store.specs.Ranks.{apex_cmp}
+use Rattle.record_store.specs.Marks.{set_mark}
+use Rattle.record_store.specs.Ranks.{apex_cmp, set_cmp}
 
 -- the zone comes at or before the name in canonical order
 abbrev pub is_upto : List Label → OneZone → Bool
@@ -58,3 +59,17 @@ set_like zone owner rtype = Set (record {
   items = [];
   signatures = [];
 })
+
+-- every record comes after such a set
+pub record AreAllAbove (sets : List Record) (like : Record) : Type 0 where
+  pub in_order : IsInOrder set_cmp sets
+  pub none : prefix_len (λ each. is_le (set_cmp each like)) sets ≡ 0
+
+-- the record, with its number, is the last that comes before such a set or is one
+pub record IsLastSet (sets : List Record) (like : Record) (mark : ℕ) (item : Record) : Type 0 where
+  pub in_order : IsInOrder set_cmp sets
+  pub place : ℕ
+  pub within : place < length sets
+  pub its : item ≡ get_or sets place item
+  pub last : place + 1 ≡ prefix_len (λ each. is_le (set_cmp each like)) sets
+  pub marked : mark ≡ set_mark item

@@ -2,6 +2,7 @@
 use Rattle.std.specs.Prelude.{ℕ, zero, suc, ◌+◌, ◌-◌, ◌*◌, ◌/◌, ◌%◌, ◌^◌, nat_lt, if◌then◌else◌, List, length, drop, fold}
 use Rattle.std.specs.Int.{w64, rotate_left, from_le_bytes}
 use Rattle.dname.specs.Name.{Label, wire_of}
+use Rattle.dname.specs.declared.types.TheConstants.{CNAME_TYPE}
 use Rattle.denial_records.specs.declared.record.Record.{Record}
 use Rattle.denial_records.specs.declared.record.Record.TheVariants.{Set, Nsec, Nsec3}
 
@@ -25,21 +26,25 @@ hash_of octets =
     then fold mixed 0 octets
     else mixed (words_mixed (length octets / 8) octets 0) (word_of (drop (length octets - 8) octets))
 
--- the lower 32 bits
-abbrev pub lower : ℕ → ℕ
-lower hash = hash % 2 ^ 32
-
--- of a zone: 32 bits of its apex's wire form
+-- 16 bits of a zone, by its apex's wire form
 abbrev pub zone_part : List Label → ℕ
-zone_part zone = lower (hash_of (wire_of zone))
+zone_part zone = hash_of (wire_of zone) % 2 ^ 16
 
--- of an owner name and a type
-abbrev pub owner_part : List Label → ℕ → ℕ
-owner_part owner rtype = lower (mixed (hash_of (wire_of owner)) rtype)
+-- 32 bits of an owner name
+abbrev pub owner_part : List Label → ℕ
+owner_part owner = hash_of (wire_of owner) % 2 ^ 32
 
--- of a set
+-- 16 bits of a type, with which a CNAME set comes first
+abbrev pub type_part : ℕ → ℕ
+type_part rtype = (rtype + (2 ^ 16 - CNAME_TYPE)) % 2 ^ 16
+
+-- the least of an owner name's sets
+abbrev pub owner_number : List Label → List Label → ℕ
+owner_number zone owner = zone_part zone * 2 ^ 48 + owner_part owner * 2 ^ 16
+
+-- of a set: those of one owner name stand side by side
 abbrev pub set_number : List Label → List Label → ℕ → ℕ
-set_number zone owner rtype = zone_part zone * 2 ^ 32 + owner_part owner rtype
+set_number zone owner rtype = owner_number zone owner + type_part rtype
 
 abbrev pub set_mark : Record → ℕ
 set_mark (Set set) = set_number set.zone set.owner set.rtype

@@ -15,6 +15,7 @@ mod phases;
 mod putting;
 mod ranks;
 mod same_set;
+mod set_and_alias;
 mod set_search;
 mod sets;
 mod state;
@@ -23,6 +24,6 @@ mod zone_ref;
 mod zone_search;
 mod zones;
 
-pub use cache_meaning::{Chain, Place};
+pub use set_and_alias::SetAndAlias;
 pub use store::Store;
 pub use zone_ref::ZoneRef;

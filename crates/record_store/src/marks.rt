@@ -1,16 +1,15 @@
 //! The numbers by which sets are sought.
-ghost use Rattle.std.specs.Prelude.{◌≡◌, ◌<◌, ◌≤◌, ◌*◌, ◌+◌, ◌-◌, ◌/◌, ◌^◌, length, drop, fold};
-ghost use Rattle.record_store.specs.Marks.{mixed, word_of, words_mixed, hash_of, lower, set_number};
+ghost use Rattle.std.specs.Prelude.{◌≡◌, ◌<◌, ◌≤◌, ◌*◌, ◌+◌, ◌-◌, ◌/◌, ◌%◌, ◌^◌, length, drop, fold};
+ghost use Rattle.record_store.specs.Marks.{mixed, word_of, words_mixed, hash_of, type_part, owner_number, set_number};
 
+use dname::types::CNAME_TYPE;
 use dname::{LentName, Name, octets_from};
 
 // An odd number, as near to 2 ^ 64 over the golden ratio as one is.
 const FACTOR: u64 = 0x9E37_79B9_7F4A_7C15;
 
-const HALF: u64 = 0x1_0000_0000;
-
-/// The number of a set: 32 bits of its zone, then 32 bits of its owner name and type. No number of 64 bits that rises
-/// with the key tells names of one zone apart; the zone's half keeps its sets together.
+/// The number of a set: 16 bits of its zone, 32 bits of its owner name, and its type. No number of 64 bits that rises
+/// with the key tells names of one zone apart; the zone's part keeps its sets together, and the owner name's those of one name.
 pub(crate) fn set_number(zone: &Name, owner: &Name, rtype: u16) -> u64
     ensures { result ≡ set_number zone.now owner.now rtype }
 {
@@ -21,16 +20,45 @@ pub(crate) fn set_number(zone: &Name, owner: &Name, rtype: u16) -> u64
 pub(crate) fn lent_set_number(zone: &LentName<'_>, owner: &LentName<'_>, rtype: u16) -> u64
     ensures { result ≡ set_number zone.now owner.now rtype }
 {
-    let hash = mixed(hash_of(owner.wire()), u64::from(rtype));
-    zone_number(zone.wire()) + lower(hash)
+    lent_owner_number(zone, owner) + type_part(rtype)
 }
 
-// The least number that a set of the zone may have, by its apex's wire form.
-fn zone_number(apex: &[u8]) -> u64
-    ensures value { result ≡ lower (hash_of apex.now) * 2 ^ 32 }
-    ensures room { result + 2 ^ 32 ≤ 2 ^ 64 }
+/// The least number that a set of the owner name may have, which is that of its CNAME set.
+pub(crate) fn owner_number(zone: &Name, owner: &Name) -> u64
+    ensures value { result ≡ owner_number zone.now owner.now }
+    ensures room { result + 2 ^ 16 ≤ 2 ^ 64 }
 {
-    lower(hash_of(apex)) * HALF
+    lent_owner_number(&zone.lent(), &owner.lent())
+}
+
+fn lent_owner_number(zone: &LentName<'_>, owner: &LentName<'_>) -> u64
+    ensures value { result ≡ owner_number zone.now owner.now }
+    ensures room { result + 2 ^ 16 ≤ 2 ^ 64 }
+{
+    zone_part(zone.wire()) * 0x1_0000_0000_0000 + owner_part(owner.wire()) * 0x1_0000
+}
+
+// By the apex's wire form.
+fn zone_part(apex: &[u8]) -> u64
+    ensures value { result ≡ hash_of apex.now % 2 ^ 16 }
+    ensures small { result < 2 ^ 16 }
+{
+    hash_of(apex) % 0x1_0000
+}
+
+fn owner_part(owner: &[u8]) -> u64
+    ensures value { result ≡ hash_of owner.now % 2 ^ 32 }
+    ensures small { result < 2 ^ 32 }
+{
+    hash_of(owner) % 0x1_0000_0000
+}
+
+/// A CNAME set comes first of the owner name's.
+pub(crate) fn type_part(rtype: u16) -> u64
+    ensures value { result ≡ type_part rtype }
+    ensures small { result < 2 ^ 16 }
+{
+    u64::from(rtype.wrapping_sub(CNAME_TYPE))
 }
 
 // Word by word, and then the last eight octets, which may overlap the word before them: one multiplication for eight octets.
@@ -95,11 +123,4 @@ fn mixed(hash: u64, number: u64) -> u64
     hash.wrapping_add(number)
         .wrapping_mul(FACTOR)
         .rotate_left(32)
-}
-
-fn lower(hash: u64) -> u64
-    ensures value { result ≡ lower hash }
-    ensures small { result < 2 ^ 32 }
-{
-    hash % HALF
 }

@@ -1,6 +1,7 @@
 //! A set that comes again.
 
 use super::records::name;
+use cache_meaning::HeldZone;
 use denial_records::{Batch, KeptSet, Record, RecordList, SetRec};
 use dname::{Octets, OctetsList, OutOfMemory};
 use record_store::Store;

@@ -1,11 +1,11 @@
-//! What the store finds after random batches is what the plain program finds.
+//! What the store finds after random batches is what the plain store finds.
 ghost use Rattle.std.specs.Prelude.{◌≤◌, ◌<◌};
 
 use super::records::{hash_of, name, nsec, nsec3, set};
-use cache_meaning::{PlainStore, PlainZone};
+use cache_meaning::{Chain, HeldZone, Place, PlainStore, PlainZone};
 use denial_records::{Batch, HASH_OCTETS, KeptNsec, KeptNsec3, KeptSet, Record, RecordList};
 use dname::{Name, OutOfMemory};
-use record_store::{Chain, Place, Store, ZoneRef};
+use record_store::{Store, ZoneRef};
 use std::alloc::Global;
 use std::test::Fail;
 

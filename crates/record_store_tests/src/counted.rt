@@ -1,8 +1,9 @@
 //! Zones that have one number.
 ghost use Rattle.std.specs.Prelude.{◌≡◌, [], ◌∷◌, codes};
-ghost use Rattle.record_store.specs.Marks.{zone_part};
+ghost use Rattle.record_store.specs.Marks.{zone_part, owner_part};
 
 use super::records::{name, set};
+use cache_meaning::HeldZone;
 use denial_records::{Batch, RecordList};
 use record_store::Store;
 use std::alloc::Global;
@@ -20,10 +21,13 @@ const ONE: &[u8] = b"\x08yxlutgry\x07example\x00";
 
 const OTHER: &[u8] = b"\x08ntfpqlkm\x07example\x00";
 
-// That number has 32 bits, and sets at one owner name and type of the two zones have one number too.
+// The number has 16 bits, and those of the two as owner names, of 32 bits, are one too: so are those of their sets of one type.
 fn one_number()
-    ensures one { zone_part (codes "yxlutgry" ∷ codes "example" ∷ []) ≡ 1_254_787_541 }
-    ensures other { zone_part (codes "ntfpqlkm" ∷ codes "example" ∷ []) ≡ 1_254_787_541 }
+    ensures one { zone_part (codes "yxlutgry" ∷ codes "example" ∷ []) ≡ 35_285 }
+    ensures other { zone_part (codes "ntfpqlkm" ∷ codes "example" ∷ []) ≡ 35_285 }
+    ensures one_owner { owner_part (codes "yxlutgry" ∷ codes "example" ∷ []) ≡ 1_254_787_541 }
+    ensures other_owner { owner_part (codes "ntfpqlkm" ∷ codes "example" ∷ [])
+        ≡ 1_254_787_541 }
 {}
 
 // With a set at the zone's apex, in a batch of its own.

@@ -1,6 +1,7 @@
 //! A full store makes room.
 
 use super::records::name;
+use cache_meaning::HeldZone;
 use denial_records::{Batch, KeptSet, Record, RecordList, SetRec};
 use dname::{Name, OctetsList};
 use record_store::Store;

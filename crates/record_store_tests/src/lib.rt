@@ -6,6 +6,8 @@ mod again;
 #[cfg(test)]
 mod against_the_plain_store;
 #[cfg(test)]
+mod aliases;
+#[cfg(test)]
 mod counted;
 #[cfg(test)]
 mod full;

@@ -9,13 +9,12 @@ ghost use Rattle.soundness.specs.Steps.{IsAsked};
 ghost use Rattle.soundness.specs.Sound.{IsSound};
 ghost use Rattle.resolver.specs.SoundVerdict.{IsSoundVerdict};
 
-use cache_meaning::is_forwarded;
+use cache_meaning::{Chain, HeldZone, Proven, is_forwarded};
 use denial_records::Verdict;
 use dname::Name;
 use dname::types::IN_CLASS;
-use record_store::{Chain, Store, ZoneRef};
+use record_store::{Store, ZoneRef};
 use soundness::the_zone_is_asked;
-use synth_nsec::Proven;
 
 /// What the held records prove of a name and a type at a moment, in seconds, with the TTL (RFC 8198, section 5): first by the
 /// set at the name and type, then by each chain of the zone alone, the newest first. None exactly where they prove nothing. It
@@ -75,8 +74,13 @@ fn zone_proof<'a>(zone: &ZoneRef<'a>, now: u32, name: &Name, qtype: u16) -> Opti
     by_chains(zone, now, name, qtype)
 }
 
-// By the first of the zone's chains that proves something, the newest first.
-fn by_chains<'a>(zone: &ZoneRef<'a>, now: u32, name: &Name, qtype: u16) -> Option<Proven<'a>>
+/// By the first of the zone's chains that proves something, the newest first.
+pub(crate) fn by_chains<'a>(
+    zone: &ZoneRef<'a>,
+    now: u32,
+    name: &Name,
+    qtype: u16,
+) -> Option<Proven<'a>>
     ensures proof { result
         ≡ first_of (chain_proof zone.now.held now zone.now.apex name.now qtype) (chains_of
         zone.now.held zone.now.apex) }

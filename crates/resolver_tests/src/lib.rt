@@ -2,7 +2,7 @@
 #![tactic(auto)]
 
 #[cfg(test)]
-mod against_the_plain_program;
+mod against_the_plain_store;
 #[cfg(test)]
 mod records;
 #[cfg(test)]
@@ -11,3 +11,5 @@ mod shared;
 mod waiting;
 #[cfg(test)]
 mod worked_cases;
+#[cfg(test)]
+mod zones_of_rfcs;

@@ -1,5 +1,6 @@
 -- When an answer and a denial are sound, with records that may be used.
-use Rattle.std.proofs.Common.{◌≡◌, ◌≢◌, ℕ, List, None, Some, sym, ◌∙◌, subst}
+use Rattle.std.proofs.Common.{◌≡◌, ◌≢◌, ℕ, List, Option, None, Some, sym, ◌∙◌, subst}
+use Rattle.std.specs.Prelude.{IfSome}
 use Rattle.std.specs.List.{All}
 use Rattle.std.proofs.lemmas.List.Elements.{All-cons, All-head, All-tail}
 use Rattle.dname.specs.Name.{Label, IsUnder}
@@ -78,3 +79,8 @@ denial_is_sound held now apex name qtype kind denials proof asked denies is usab
         at zone used =
             let true_soa : IsConsistentSet zone (set_part soa) = All-head (IsTrueOf zone) (Set soa) denials used.each in
             true_soa.apex ∙ of_zone
+
+-- what is concluded of each proof holds of the one that is given
+pub of_proof : (P : Proof → Type 0) (given found : Option Proof) → given ≡ found → ((it : Proof) → found ≡ Some it → P it) → IfSome given P
+of_proof P None found same each = tt
+of_proof P (Some it) found same each = each it (sym same)

@@ -1,2 +1,1 @@
 pub mod NsecEvidence
-pub mod Views

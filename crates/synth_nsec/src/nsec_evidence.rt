@@ -5,10 +5,9 @@ ghost use Rattle.cache_meaning.specs.Zones.{IsInArc};
 ghost use Rattle.cache_meaning.specs.Evidence.{that, speaks_of, nsec_for, nsec_matches};
 ghost use Rattle.synth_nsec.specs.NsecEvidence.{record_of, Says};
 
-use crate::types::hand_nothing_on;
+use cache_meaning::{HeldZone, Place, hand_nothing_on};
 use denial_records::KeptNsec;
 use dname::{LentName, Name};
-use record_store::{Place, ZoneRef};
 
 /// What an NSEC record says of a name in its arc (RFC 4035, section 5.4).
 #[derive(Drop)]
@@ -22,13 +21,13 @@ pub(crate) enum NsecEvidence<'a> {
 }
 
 /// What the record that speaks of the name says, if it may be used now.
-pub(crate) fn nsec_evidence<'a>(
-    zone: &ZoneRef<'a>,
+pub(crate) fn nsec_evidence<'a, Z: HeldZone<'a>>(
+    zone: &Z,
     now: u32,
     name: &Name,
 ) -> Option<NsecEvidence<'a>>
     ensures record { option_map record_of result
-        ≡ nsec_for zone.now.held now zone.now.apex name.now }
+        ≡ nsec_for (Z.zone zone.now).held now (Z.zone zone.now).apex name.now }
     ensures says { IfSome result (Says name.now) }
 {
     let (nsec, place) = zone.nsec_at(name)?;

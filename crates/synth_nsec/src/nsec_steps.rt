@@ -7,37 +7,43 @@ ghost use Rattle.soundness.specs.Steps.{IsAsked};
 ghost use Rattle.soundness.specs.Sound.{IsSound};
 ghost use Rattle.synth_nsec.specs.NsecEvidence.{record_of, Says};
 
-use crate::answers::{answer_by_wildcard, name_error, no_data};
 use crate::nsec_evidence::{NsecEvidence, nsec_evidence};
-use crate::types::{deny_type, deny_type_below};
-use crate::wildcard::source_of;
-use crate::{Denials, Proven};
+use crate::source::source_of;
+use cache_meaning::{
+    Denials, HeldZone, Proven, answer_by_wildcard, deny_type, deny_type_below, name_error, no_data,
+};
 use denial_records::KeptNsec;
 use dname::Name;
-use record_store::ZoneRef;
 use soundness::each_nsec_proof_is_sound;
 
 /// What the zone's NSEC records prove of the name and type at a moment, in seconds (RFC 4035, section 5.4; RFC 8198,
 /// sections 5.1 and 5.3); none exactly where they prove nothing. It takes no memory.
-pub fn judge<'a>(zone: &ZoneRef<'a>, name: &Name, qtype: u16, now: u32) -> Option<Proven<'a>>
-    ensures proof { result ≡ nsec_proof zone.now.held now zone.now.apex name.now qtype }
-    ensures sound { IsAsked zone.now.apex name.now qtype
+pub fn judge<'a, Z: HeldZone<'a>>(zone: &Z, name: &Name, qtype: u16, now: u32) -> Option<Proven<'a>>
+    ensures proof { result
+        ≡ nsec_proof (Z.zone zone.now).held now (Z.zone zone.now).apex name.now qtype }
+    ensures sound { IsAsked (Z.zone zone.now).apex name.now qtype
         → IfSome result (IsSound name.now qtype) }
 {
     each_nsec_proof_is_sound();
     nsec_proof(zone, now, name, qtype)
 }
 
-fn nsec_proof<'a>(zone: &ZoneRef<'a>, now: u32, name: &Name, qtype: u16) -> Option<Proven<'a>>
-    ensures { result ≡ nsec_proof zone.now.held now zone.now.apex name.now qtype }
+fn nsec_proof<'a, Z: HeldZone<'a>>(
+    zone: &Z,
+    now: u32,
+    name: &Name,
+    qtype: u16,
+) -> Option<Proven<'a>>
+    ensures { result
+        ≡ nsec_proof (Z.zone zone.now).held now (Z.zone zone.now).apex name.now qtype }
 {
     let evidence = nsec_evidence(zone, now, name)?;
     nsec_steps(zone, now, name, qtype, evidence)
 }
 
 // By what the record that speaks of the name says of it.
-fn nsec_steps<'a>(
-    zone: &ZoneRef<'a>,
+fn nsec_steps<'a, Z: HeldZone<'a>>(
+    zone: &Z,
     now: u32,
     name: &Name,
     qtype: u16,
@@ -45,7 +51,8 @@ fn nsec_steps<'a>(
 ) -> Option<Proven<'a>>
     requires { Says name.now evidence }
     ensures { result
-        ≡ nsec_steps zone.now.held now zone.now.apex name.now qtype (record_of evidence.entry) }
+        ≡ nsec_steps (Z.zone zone.now).held now (Z.zone zone.now).apex name.now qtype
+        (record_of evidence.entry) }
 {
     match evidence {
         NsecEvidence::Matches(matching) => no_data_by_match(zone, now, name, qtype, matching),
@@ -55,8 +62,8 @@ fn nsec_steps<'a>(
 }
 
 // Where the record matches the name: it may deny it the type.
-fn no_data_by_match<'a>(
-    zone: &ZoneRef<'a>,
+fn no_data_by_match<'a, Z: HeldZone<'a>>(
+    zone: &Z,
     now: u32,
     name: &Name,
     qtype: u16,
@@ -64,7 +71,8 @@ fn no_data_by_match<'a>(
 ) -> Option<Proven<'a>>
     requires { IsTrue (nsec_matches matching.now name.now) }
     ensures { result
-        ≡ no_data_by_match zone.now.held now zone.now.apex name.now qtype matching.now }
+        ≡ no_data_by_match (Z.zone zone.now).held now (Z.zone zone.now).apex name.now qtype
+        matching.now }
 {
     if deny_type(&matching.types(), zone.apex(), name, qtype) {
         no_data(zone, now, Denials::nsec(matching))
@@ -74,8 +82,8 @@ fn no_data_by_match<'a>(
 }
 
 // Where the record covers the name: the wildcard answers, or is denied.
-fn by_cover<'a>(
-    zone: &ZoneRef<'a>,
+fn by_cover<'a, Z: HeldZone<'a>>(
+    zone: &Z,
     now: u32,
     name: &Name,
     qtype: u16,
@@ -83,7 +91,8 @@ fn by_cover<'a>(
 ) -> Option<Proven<'a>>
     requires inside { IsInArc name.now covering.now }
     requires covered { IsTrue (nsec_covers covering.now name.now) }
-    ensures { result ≡ by_cover zone.now.held now zone.now.apex name.now qtype covering.now }
+    ensures { result
+        ≡ by_cover (Z.zone zone.now).held now (Z.zone zone.now).apex name.now qtype covering.now }
 {
     let source = source_of(covering, name);
     let denials = Denials::nsec(covering);
@@ -94,22 +103,23 @@ fn by_cover<'a>(
 }
 
 // By what the record that speaks of the wildcard says of it.
-fn denial_at_source<'a>(
-    zone: &ZoneRef<'a>,
+fn denial_at_source<'a, Z: HeldZone<'a>>(
+    zone: &Z,
     now: u32,
     qtype: u16,
     source: &Name,
     covering: &'a KeptNsec,
 ) -> Option<Proven<'a>>
     ensures { result
-        ≡ denial_at_source zone.now.held now zone.now.apex qtype source.now covering.now }
+        ≡ denial_at_source (Z.zone zone.now).held now (Z.zone zone.now).apex qtype source.now
+        covering.now }
 {
     let evidence = nsec_evidence(zone, now, source)?;
     denial_by(zone, now, qtype, source, covering, evidence)
 }
 
-fn denial_by<'a>(
-    zone: &ZoneRef<'a>,
+fn denial_by<'a, Z: HeldZone<'a>>(
+    zone: &Z,
     now: u32,
     qtype: u16,
     source: &Name,
@@ -118,9 +128,9 @@ fn denial_by<'a>(
 ) -> Option<Proven<'a>>
     requires { Says source.now evidence }
     ensures { result ≡ option_or
-        (no_data_by_wildcard zone.now.held now zone.now.apex qtype source.now covering.now
-        (record_of evidence.entry))
-        (name_error zone.now.held now zone.now.apex source.now covering.now
+        (no_data_by_wildcard (Z.zone zone.now).held now (Z.zone zone.now).apex qtype source.now
+        covering.now (record_of evidence.entry))
+        (name_error (Z.zone zone.now).held now (Z.zone zone.now).apex source.now covering.now
         (record_of evidence.entry)) }
 {
     match evidence {
@@ -137,8 +147,8 @@ fn denial_by<'a>(
 }
 
 // Where the record matches the wildcard: it may deny it the type.
-fn no_data_by_wildcard<'a>(
-    zone: &ZoneRef<'a>,
+fn no_data_by_wildcard<'a, Z: HeldZone<'a>>(
+    zone: &Z,
     now: u32,
     qtype: u16,
     source: &Name,
@@ -147,8 +157,8 @@ fn no_data_by_wildcard<'a>(
 ) -> Option<Proven<'a>>
     requires { IsTrue (nsec_matches at_source.now source.now) }
     ensures { result
-        ≡ no_data_by_wildcard zone.now.held now zone.now.apex qtype source.now covering.now
-        at_source.now }
+        ≡ no_data_by_wildcard (Z.zone zone.now).held now (Z.zone zone.now).apex qtype source.now
+        covering.now at_source.now }
 {
     if deny_type_below(&at_source.types(), qtype) {
         no_data(zone, now, Denials::nsecs_once(covering, at_source))

@@ -7,6 +7,5 @@
 mod hashed_chain;
 mod nsec3_evidence;
 mod nsec3_steps;
-mod nsec3s_once;
 
 pub use nsec3_steps::judge;

@@ -1,6 +1,8 @@
+ghost use Rattle.synth_nsec3.specs.ChainAt.{chain_at};
 ghost use Rattle.synth_nsec3.specs.Nsec3Evidence.{IsFound, IsAskedOf};
 
 use crate::hashed_chain::HashedChain;
+use cache_meaning::HeldZone;
 use denial_records::KeptNsec3;
 use dname::Name;
 
@@ -25,13 +27,13 @@ pub(crate) enum Asked<'a> {
 
 impl<'a> Asked<'a> {
     /// What the chain says of the name that was or wasn't asked of.
-    pub(crate) fn evidence(
+    pub(crate) fn evidence<Z: HeldZone<'a>>(
         self,
-        chain: &HashedChain<'_, 'a>,
+        chain: &HashedChain<'_, Z>,
         name: &Name,
     ) -> Option<Nsec3Evidence<'a>>
-        requires { IsAskedOf chain.now name.now self }
-        ensures { IsFound chain.now name.now result }
+        requires { IsAskedOf (chain_at Z.zone chain.now) name.now self }
+        ensures { IsFound (chain_at Z.zone chain.now) name.now result }
     {
         match self {
             Asked::Before(found) => found,

@@ -6,28 +6,26 @@ ghost use Rattle.cache_meaning.specs.Evidence.{nsec3_matches, nsec3_covers};
 ghost use Rattle.cache_meaning.specs.Nsec3Steps.{no_data_by_match, shows_encloser, no_data_by_wildcard, name_error, denial_at_source, denial_below, by_cover, by_enclosers, nsec3_proof};
 ghost use Rattle.soundness.specs.Steps.{IsAsked};
 ghost use Rattle.soundness.specs.Sound.{IsSound};
-ghost use Rattle.synth_nsec3.specs.ChainAt.{speaker};
+ghost use Rattle.synth_nsec3.specs.ChainAt.{chain_at, speaker};
 ghost use Rattle.synth_nsec3.specs.Nsec3Evidence.{record_of, Says, IsFound, IsAskedOf};
 ghost use Rattle.synth_nsec3.specs.declared.nsec3_evidence.Nsec3Evidence.{Nsec3Evidence};
 
 use crate::hashed_chain::HashedChain;
 use crate::nsec3_evidence::{Asked, Nsec3Evidence};
-use crate::nsec3s_once::nsec3s_once;
+use cache_meaning::{
+    Denials, HeldZone, Proven, answer_by_wildcard, deny_type, deny_type_below, hand_nothing_on,
+    name_error, no_data, wildcard_below,
+};
 use denial_records::KeptNsec3;
 use dname::Name;
 use encloser::{Ancestors, next_closer};
-use record_store::ZoneRef;
 use soundness::each_nsec3_proof_is_sound;
-use synth_nsec::{
-    Denials, Proven, answer_by_wildcard, deny_type, deny_type_below, hand_nothing_on, name_error,
-    no_data, wildcard_below,
-};
 
 /// What the zone's NSEC3 records of the salt and the number of iterations prove of the name and type at a moment, in seconds
 /// (RFC 5155, section 8; RFC 8198, sections 5.2 and 5.3); none exactly where they prove nothing. It takes no memory, and
 /// hashes no name twice, and none that no step asks of.
-pub fn judge<'a>(
-    zone: &ZoneRef<'a>,
+pub fn judge<'a, Z: HeldZone<'a>>(
+    zone: &Z,
     salt: &[u8],
     iterations: u16,
     name: &Name,
@@ -35,20 +33,28 @@ pub fn judge<'a>(
     now: u32,
 ) -> Option<Proven<'a>>
     ensures proof { result
-        ≡ nsec3_proof zone.now.held now zone.now.apex (parameters_by salt.now iterations) name.now
-        qtype }
-    ensures sound { IsAsked zone.now.apex name.now qtype
+        ≡ nsec3_proof (Z.zone zone.now).held now (Z.zone zone.now).apex
+        (parameters_by salt.now iterations) name.now qtype }
+    ensures sound { IsAsked (Z.zone zone.now).apex name.now qtype
         → IfSome result (IsSound name.now qtype) }
 {
     each_nsec3_proof_is_sound();
-    let chain = HashedChain::of(zone, salt, iterations, now);
+    let chain = HashedChain {
+        zone,
+        salt,
+        iterations,
+        moment: now,
+    };
     nsec3_proof(&chain, name, qtype)
 }
 
-fn nsec3_proof<'a>(chain: &HashedChain<'_, 'a>, name: &Name, qtype: u16) -> Option<Proven<'a>>
-    ensures { result
-        ≡ nsec3_proof chain.now.held chain.now.moment chain.now.apex chain.now.parameters name.now
-        qtype }
+fn nsec3_proof<'a, Z: HeldZone<'a>>(
+    chain: &HashedChain<'_, Z>,
+    name: &Name,
+    qtype: u16,
+) -> Option<Proven<'a>>
+    ensures { let at = chain_at Z.zone chain.now in
+        result ≡ nsec3_proof at.held at.moment at.apex at.parameters name.now qtype }
 {
     let evidence = chain.evidence(name);
     if let Some(proof) = at_name(chain, name, qtype, evidence) {
@@ -58,17 +64,17 @@ fn nsec3_proof<'a>(chain: &HashedChain<'_, 'a>, name: &Name, qtype: u16) -> Opti
 }
 
 // By what the record that speaks of the name says of it.
-fn at_name<'a>(
-    chain: &HashedChain<'_, 'a>,
+fn at_name<'a, Z: HeldZone<'a>>(
+    chain: &HashedChain<'_, Z>,
     name: &Name,
     qtype: u16,
     evidence: Option<Nsec3Evidence<'a>>,
 ) -> Option<Proven<'a>>
-    requires { IsFound chain.now name.now evidence }
-    ensures { result ≡ option_and_then
-        (no_data_by_match chain.now.held chain.now.moment chain.now.apex chain.now.parameters
-        name.now qtype)
-        (speaker chain.now name.now) }
+    requires { IsFound (chain_at Z.zone chain.now) name.now evidence }
+    ensures { let at = chain_at Z.zone chain.now in
+        result ≡ option_and_then
+        (no_data_by_match at.held at.moment at.apex at.parameters name.now qtype)
+        (speaker at name.now) }
 {
     match evidence {
         Some(Nsec3Evidence::Matches(matching)) => { no_data_by_match(chain, name, qtype, matching) }
@@ -77,19 +83,19 @@ fn at_name<'a>(
 }
 
 // Where the record matches the name: it may deny it the type.
-fn no_data_by_match<'a>(
-    chain: &HashedChain<'_, 'a>,
+fn no_data_by_match<'a, Z: HeldZone<'a>>(
+    chain: &HashedChain<'_, Z>,
     name: &Name,
     qtype: u16,
     matching: &'a KeptNsec3,
 ) -> Option<Proven<'a>>
-    requires { IsTrue (nsec3_matches chain.now.parameters matching.now name.now) }
-    ensures { result
-        ≡ no_data_by_match chain.now.held chain.now.moment chain.now.apex chain.now.parameters
-        name.now qtype matching.now }
+    requires { IsTrue (nsec3_matches (chain_at Z.zone chain.now).parameters matching.now name.now) }
+    ensures { let at = chain_at Z.zone chain.now in
+        result
+        ≡ no_data_by_match at.held at.moment at.apex at.parameters name.now qtype matching.now }
 {
     if deny_type(&matching.types(), chain.apex(), name, qtype) {
-        no_data(chain.zone(), chain.moment(), Denials::nsec3(matching))
+        no_data(chain.zone, chain.moment, Denials::nsec3(matching))
     } else {
         None
     }
@@ -97,16 +103,15 @@ fn no_data_by_match<'a>(
 
 // By the ancestors of the name, each as the encloser of its next closer name. What was found of the one is what the next
 // turn asks of.
-fn by_enclosers<'a>(
-    chain: &HashedChain<'_, 'a>,
+fn by_enclosers<'a, Z: HeldZone<'a>>(
+    chain: &HashedChain<'_, Z>,
     name: &Name,
     qtype: u16,
     evidence: Option<Nsec3Evidence<'a>>,
 ) -> Option<Proven<'a>>
-    requires { IsFound chain.now name.now evidence }
-    ensures { result
-        ≡ by_enclosers chain.now.held chain.now.moment chain.now.apex chain.now.parameters qtype
-        name.now }
+    requires { IsFound (chain_at Z.zone chain.now) name.now evidence }
+    ensures { let at = chain_at Z.zone chain.now in
+        result ≡ by_enclosers at.held at.moment at.apex at.parameters qtype name.now }
 {
     if !name.is_under(chain.apex()) {
         return None;
@@ -124,20 +129,20 @@ fn by_enclosers<'a>(
 }
 
 // By the record that speaks of the next closer name. What the chain says of the encloser comes too, if it was asked of.
-fn at_encloser<'a>(
-    chain: &HashedChain<'_, 'a>,
+fn at_encloser<'a, Z: HeldZone<'a>>(
+    chain: &HashedChain<'_, Z>,
     qtype: u16,
     next_closer: &Name,
     encloser: &Name,
     asked: Asked<'a>,
 ) -> (Option<Proven<'a>>, Asked<'a>)
-    requires asked { IsAskedOf chain.now next_closer.now asked }
+    requires asked { IsAskedOf (chain_at Z.zone chain.now) next_closer.now asked }
     requires below { (label : Label) × (next_closer.now ≡ label ∷ encloser.now) }
-    ensures proof { result.0 ≡ option_and_then
-        (by_cover chain.now.held chain.now.moment chain.now.apex chain.now.parameters qtype
-        next_closer.now encloser.now)
-        (speaker chain.now next_closer.now) }
-    ensures asked { IsAskedOf chain.now encloser.now result.1 }
+    ensures proof { let at = chain_at Z.zone chain.now in
+        result.0 ≡ option_and_then
+        (by_cover at.held at.moment at.apex at.parameters qtype next_closer.now encloser.now)
+        (speaker at next_closer.now) }
+    ensures asked { IsAskedOf (chain_at Z.zone chain.now) encloser.now result.1 }
 {
     match asked.evidence(chain, next_closer) {
         Some(Nsec3Evidence::Covers(covering)) => {
@@ -148,23 +153,25 @@ fn at_encloser<'a>(
 }
 
 // Where the record covers the next closer name: the encloser's wildcard answers, or is denied.
-fn by_cover<'a>(
-    chain: &HashedChain<'_, 'a>,
+fn by_cover<'a, Z: HeldZone<'a>>(
+    chain: &HashedChain<'_, Z>,
     qtype: u16,
     next_closer: &Name,
     encloser: &Name,
     covering: &'a KeptNsec3,
 ) -> (Option<Proven<'a>>, Asked<'a>)
-    requires covered { IsFound chain.now next_closer.now (Some (Nsec3Evidence.Covers covering)) }
+    requires covered { IsFound (chain_at Z.zone chain.now) next_closer.now
+        (Some (Nsec3Evidence.Covers covering)) }
     requires below { (label : Label) × (next_closer.now ≡ label ∷ encloser.now) }
-    ensures proof { result.0
-        ≡ by_cover chain.now.held chain.now.moment chain.now.apex chain.now.parameters qtype
-        next_closer.now encloser.now covering.now }
-    ensures asked { IsAskedOf chain.now encloser.now result.1 }
+    ensures proof { let at = chain_at Z.zone chain.now in
+        result.0
+        ≡ by_cover at.held at.moment at.apex at.parameters qtype next_closer.now encloser.now
+        covering.now }
+    ensures asked { IsAskedOf (chain_at Z.zone chain.now) encloser.now result.1 }
 {
     let source = wildcard_below(next_closer, encloser);
     let denials = Denials::nsec3(covering);
-    if let Some(proof) = answer_by_wildcard(chain.zone(), chain.moment(), qtype, &source, denials) {
+    if let Some(proof) = answer_by_wildcard(chain.zone, chain.moment, qtype, &source, denials) {
         return (Some(proof), Asked::NotYet);
     }
     let found = chain.evidence(encloser);
@@ -174,14 +181,15 @@ fn by_cover<'a>(
 }
 
 // Of the wildcard the chain was asked where it is the next closer name itself.
-fn asked_before<'a>(
-    chain: &HashedChain<'_, 'a>,
+fn asked_before<'a, Z: HeldZone<'a>>(
+    chain: &HashedChain<'_, Z>,
     next_closer: &Name,
     source: &Name,
     covering: &'a KeptNsec3,
 ) -> Asked<'a>
-    requires { IsFound chain.now next_closer.now (Some (Nsec3Evidence.Covers covering)) }
-    ensures { IsAskedOf chain.now source.now result }
+    requires { IsFound (chain_at Z.zone chain.now) next_closer.now
+        (Some (Nsec3Evidence.Covers covering)) }
+    ensures { IsAskedOf (chain_at Z.zone chain.now) source.now result }
 {
     if source == next_closer {
         Asked::Before(Some(Nsec3Evidence::Covers(covering)))
@@ -191,8 +199,8 @@ fn asked_before<'a>(
 }
 
 // By what the record that speaks of the encloser says of it.
-fn denial_below<'a>(
-    chain: &HashedChain<'_, 'a>,
+fn denial_below<'a, Z: HeldZone<'a>>(
+    chain: &HashedChain<'_, Z>,
     qtype: u16,
     encloser: &Name,
     source: &Name,
@@ -200,12 +208,12 @@ fn denial_below<'a>(
     evidence: Option<Nsec3Evidence<'a>>,
     of_source: Asked<'a>,
 ) -> Option<Proven<'a>>
-    requires found { IsFound chain.now encloser.now evidence }
-    requires asked { IsAskedOf chain.now source.now of_source }
+    requires found { IsFound (chain_at Z.zone chain.now) encloser.now evidence }
+    requires asked { IsAskedOf (chain_at Z.zone chain.now) source.now of_source }
     requires wildcard { source.now ≡ asterisk ∷ encloser.now }
-    ensures { result
-        ≡ denial_below chain.now.held chain.now.moment chain.now.apex chain.now.parameters qtype
-        encloser.now covering.now }
+    ensures { let at = chain_at Z.zone chain.now in
+        result
+        ≡ denial_below at.held at.moment at.apex at.parameters qtype encloser.now covering.now }
 {
     match evidence {
         Some(Nsec3Evidence::Matches(matching)) => {
@@ -218,8 +226,8 @@ fn denial_below<'a>(
 }
 
 // Where the record matches the encloser: it may hand no names on.
-fn below_encloser<'a>(
-    chain: &HashedChain<'_, 'a>,
+fn below_encloser<'a, Z: HeldZone<'a>>(
+    chain: &HashedChain<'_, Z>,
     qtype: u16,
     encloser: &Name,
     source: &Name,
@@ -227,13 +235,15 @@ fn below_encloser<'a>(
     matching: &'a KeptNsec3,
     of_source: Asked<'a>,
 ) -> Option<Proven<'a>>
-    requires asked { IsAskedOf chain.now source.now of_source }
-    requires matches { IsTrue (nsec3_matches chain.now.parameters matching.now encloser.now) }
+    requires asked { IsAskedOf (chain_at Z.zone chain.now) source.now of_source }
+    requires matches { IsTrue
+        (nsec3_matches (chain_at Z.zone chain.now).parameters matching.now encloser.now) }
     requires wildcard { source.now ≡ asterisk ∷ encloser.now }
-    ensures { result
-        ≡ (if shows_encloser chain.now.parameters chain.now.apex encloser.now matching.now
-        then denial_at_source chain.now.held chain.now.moment chain.now.apex chain.now.parameters
-        qtype (asterisk ∷ encloser.now) matching.now covering.now
+    ensures { let at = chain_at Z.zone chain.now in
+        result
+        ≡ (if shows_encloser at.parameters at.apex encloser.now matching.now
+        then denial_at_source at.held at.moment at.apex at.parameters qtype
+        (asterisk ∷ encloser.now) matching.now covering.now
         else None) }
 {
     if hand_nothing_on(&matching.types(), chain.apex().lent(), encloser.lent()) {
@@ -244,70 +254,74 @@ fn below_encloser<'a>(
 }
 
 // By what the record that speaks of the wildcard says of it.
-fn denial_at_source<'a>(
-    chain: &HashedChain<'_, 'a>,
+fn denial_at_source<'a, Z: HeldZone<'a>>(
+    chain: &HashedChain<'_, Z>,
     qtype: u16,
     source: &Name,
     matching: &'a KeptNsec3,
     covering: &'a KeptNsec3,
     of_source: Asked<'a>,
 ) -> Option<Proven<'a>>
-    requires { IsAskedOf chain.now source.now of_source }
-    ensures { result
-        ≡ denial_at_source chain.now.held chain.now.moment chain.now.apex chain.now.parameters qtype
-        source.now matching.now covering.now }
+    requires { IsAskedOf (chain_at Z.zone chain.now) source.now of_source }
+    ensures { let at = chain_at Z.zone chain.now in
+        result
+        ≡ denial_at_source at.held at.moment at.apex at.parameters qtype source.now matching.now
+        covering.now }
 {
     let evidence = of_source.evidence(chain, source)?;
     denial_by(chain, qtype, source, matching, covering, evidence)
 }
 
-fn denial_by<'a>(
-    chain: &HashedChain<'_, 'a>,
+fn denial_by<'a, Z: HeldZone<'a>>(
+    chain: &HashedChain<'_, Z>,
     qtype: u16,
     source: &Name,
     matching: &'a KeptNsec3,
     covering: &'a KeptNsec3,
     evidence: Nsec3Evidence<'a>,
 ) -> Option<Proven<'a>>
-    requires { Says chain.now source.now evidence }
-    ensures { result ≡ option_or
-        (no_data_by_wildcard chain.now.held chain.now.moment chain.now.apex chain.now.parameters
-        qtype source.now matching.now covering.now (record_of evidence.entry))
-        (name_error chain.now.held chain.now.moment chain.now.apex chain.now.parameters source.now
-        matching.now covering.now (record_of evidence.entry)) }
+    requires { Says (chain_at Z.zone chain.now) source.now evidence }
+    ensures { let at = chain_at Z.zone chain.now in
+        result ≡ option_or
+        (no_data_by_wildcard at.held at.moment at.apex at.parameters qtype source.now matching.now
+        covering.now (record_of evidence.entry))
+        (name_error at.held at.moment at.apex at.parameters source.now matching.now covering.now
+        (record_of evidence.entry)) }
 {
     match evidence {
         Nsec3Evidence::Matches(at_source) => {
             no_data_by_wildcard(chain, qtype, source, matching, covering, at_source)
         }
         Nsec3Evidence::Covers(at_source) => name_error(
-            chain.zone(),
-            chain.moment(),
-            nsec3s_once(matching, covering, at_source),
+            chain.zone,
+            chain.moment,
+            Denials::nsec3s_once(matching, covering, at_source),
         ),
         Nsec3Evidence::Spans(_) => None,
     }
 }
 
 // Where the record matches the wildcard: it may deny it the type.
-fn no_data_by_wildcard<'a>(
-    chain: &HashedChain<'_, 'a>,
+fn no_data_by_wildcard<'a, Z: HeldZone<'a>>(
+    chain: &HashedChain<'_, Z>,
     qtype: u16,
     source: &Name,
     matching: &'a KeptNsec3,
     covering: &'a KeptNsec3,
     at_source: &'a KeptNsec3,
 ) -> Option<Proven<'a>>
-    requires { IsTrue (nsec3_matches chain.now.parameters at_source.now source.now) }
-    ensures { result
-        ≡ no_data_by_wildcard chain.now.held chain.now.moment chain.now.apex chain.now.parameters
-        qtype source.now matching.now covering.now at_source.now }
+    requires { IsTrue
+        (nsec3_matches (chain_at Z.zone chain.now).parameters at_source.now source.now) }
+    ensures { let at = chain_at Z.zone chain.now in
+        result
+        ≡ no_data_by_wildcard at.held at.moment at.apex at.parameters qtype source.now
+        matching.now covering.now at_source.now }
 {
     if deny_type_below(&at_source.types(), qtype) {
         no_data(
-            chain.zone(),
-            chain.moment(),
-            nsec3s_once(matching, covering, at_source),
+            chain.zone,
+            chain.moment,
+            Denials::nsec3s_once(matching, covering, at_source),
         )
     } else {
         None

@@ -259,7 +259,8 @@ fn spans_with(
     item: Arc<Record>,
 ) -> Result<(ChainSpans, Met), OutOfMemory>
     requires kind { IsOfKind (kind_by spans.now) (arc_value item) }
-    requires zone { AreOfOrigin zone_of name_mark (zone_of (arc_value item)) (records_by spans.now) }
+    requires zone { AreOfOrigin zone_of name_mark (zone_of (arc_value item))
+        (records_by spans.now) }
     ensures kind { IfOk result (λ made. kind_by made.0 ≡ kind_by spans.now) }
     ensures records { IfOk result (λ made. records_by made.0
         ≡ records_with (kind_by spans.now) (arc_value item) (records_by spans.now)) }

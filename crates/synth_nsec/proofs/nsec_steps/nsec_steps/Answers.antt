@@ -8,8 +8,8 @@ use Rattle.synth_nsec.proofs.StepLemmas.{at_cover}
 use Rattle.synth_nsec.proofs.nsec_steps.nsec_steps.Goals as goal
 
 pub returns-in-Covers : goal.returns-in-Covers
-returns-in-Covers c =
-    let zone = c.args.zone.now in
+returns-in-Covers g c =
+    let zone = g.Z.HeldZone.zone c.args.zone.now in
     let covering = c.in-Covers.covering.now in
     let name = c.args.name.now in
     c.by_cover.ensures ∙ at_cover (nsec_matches covering name) (is_under covering.next name) (deny_type covering.types zone.apex name c.args.qtype) _ _ _ (subst (Says name) c.in-Covers.is c.requires).1

@@ -1,9 +1,9 @@
 use Rattle.soundness.specs.Sound.{IsSound}
-use Rattle.synth_nsec.proofs.StepLemmas.{of_proof}
+use Rattle.soundness.proofs.SoundLemmas.{of_proof}
 use Rattle.synth_nsec.proofs.set_step.exact.Goals as goal
 
 pub returns-clause-sound : goal.returns-clause-sound
-returns-clause-sound c =
-    let zone = c.args.zone.now in
-    λ asked. of_proof (IsSound c.args.name.now c.args.qtype) _ _ c.by_the_set.ensures
+returns-clause-sound g c =
+    let zone = g.Z.HeldZone.zone c.args.zone.now in
+    λ asked. of_proof (IsSound c.args.name.now c.args.qtype) _ _ c.exact_proof.ensures
     (λ proof is. c.answer_by_the_set.ensures zone.held c.args.now zone.apex c.args.name.now c.args.qtype proof asked is)

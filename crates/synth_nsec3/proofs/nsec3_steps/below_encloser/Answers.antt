@@ -1,12 +1,13 @@
 use Rattle.std.proofs.Common.{◌∙◌, sym}
 use Rattle.cache_meaning.specs.Evidence.{nsec3_matches, hand_nothing_on}
 use Rattle.cache_meaning.specs.Nsec3Steps.{denial_at_source}
+use Rattle.synth_nsec3.specs.ChainAt.{chain_at}
 use Rattle.synth_nsec3.proofs.StepLemmas.{where_both}
 use Rattle.synth_nsec3.proofs.nsec3_steps.below_encloser.Goals as goal
 
 pub returns-then-hand_nothing_on : goal.returns-then-hand_nothing_on
-returns-then-hand_nothing_on c =
-    let chain = c.args.chain.now in
+returns-then-hand_nothing_on g c =
+    let chain = chain_at g.Z.HeldZone.zone c.args.chain.now in
     let encloser = c.args.encloser.now in
     let matching = c.args.matching.now in
     c.denial_at_source.ensures

@@ -1,5 +1,0 @@
-use Rattle.cache_meaning.proofs.EvidenceLemmas.{is_under_from_under}
-use Rattle.cache_meaning.proofs.evidence.is_under.Goals as goal
-
-pub returns : goal.returns
-returns c = is_under_from_under c.args.name c.args.other c.is_under.result c.is_under.ensures

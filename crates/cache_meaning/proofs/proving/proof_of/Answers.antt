@@ -1,9 +1,0 @@
-use Rattle.std.proofs.Common.{◌∙◌}
-use Rattle.cache_meaning.specs.Prove.{zone_proof}
-use Rattle.cache_meaning.proofs.StepLemmas.{in_zone}
-use Rattle.cache_meaning.proofs.proving.proof_of.Goals as goal
-
-pub returns : goal.returns
-returns c =
-    c.zone_proof.ensures
-    ∙ in_zone c.args.store.now (λ held apex. zone_proof held c.args.now apex c.args.name.now c.args.qtype) _ c.in_ok-zone.zone c.in_ok-zone.ensures
