@@ -1,4 +1,3 @@
 pub mod Source
 pub mod Pieces
-pub mod Line
 pub mod Laws

@@ -2,6 +2,4 @@
 #![tactic(auto)]
 
 #[cfg(test)]
-mod line;
-#[cfg(test)]
 mod source;

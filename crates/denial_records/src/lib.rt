@@ -1,8 +1,8 @@
 //! The records that a cache keeps of validated answers, and exact readers of the data of NSEC, NSEC3 and RRSIG records
 //! (RFC 4034, RFC 5155).
 //!
-//! Specs, in reading order: `TypeSet`, `NsecParts`, `Nsec3Parts`, `Rrsig`, `TimeLeft`. Public clauses cite them all, but not
-//! `Kept`, the form in which records are kept.
+//! Specs, in reading order: `TypeSet`, `NsecParts`, `Nsec3Parts`, `Rrsig`, `TimeLeft`, and `Proof`, what a proof is made of. Public
+//! clauses cite them all, but not `Kept`, the form in which records are kept.
 #![tactic(auto)]
 
 mod batch;

@@ -5,5 +5,5 @@ pub mod NameData
 pub mod Order
 pub mod Pack
 pub mod Read
-pub mod Store
+pub mod ShortOrLong
 pub mod Tests

@@ -6,10 +6,11 @@
 //! - `specs/Read.antt`: what octets say of a name at their front, and each fault
 //! - `specs/NameData.antt`: the name that octets are, read whole
 //! - `specs/Pack.antt`: strings of octets that lie one behind another
+//! - `specs/Tests.antt`: tests of names and lists, with which the definitions above compute
 //! - `specs/Arc.antt`: arcs of the ring that an order makes of its values
 //! - `specs/Digest.antt`: a number that keeps the order of the names under one apex
 //! - `specs/Order.antt`: the laws of canonical order, which no public clause cites
-//! - `specs/Store.antt`: where a pack's octets lie, which no public clause cites
+//! - `specs/ShortOrLong.antt`: where a pack's octets lie, which no public clause cites
 #![tactic(auto)]
 
 mod arc;

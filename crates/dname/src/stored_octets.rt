@@ -10,12 +10,12 @@ const ROOM: usize = 200;
 /// Octets, seen as their list. A few lie in the value itself, more in one block of memory.
 #[derive(Debug, Drop)]
 pub(crate) struct StoredOctets {
-    store: Store,
+    store: ShortOrLong,
     alloc: Global,
 }
 
 #[derive(Debug, Drop)]
-pub(crate) enum Store {
+pub(crate) enum ShortOrLong {
     Short(Short),
     Long(Vec<u8>),
 }
@@ -75,7 +75,7 @@ impl Short {
 
 impl Model for StoredOctets {
     ghost use Rattle.std.specs.Prelude.{List, ℕ};
-    ghost use Rattle.dname.specs.Store.{octets_in};
+    ghost use Rattle.dname.specs.ShortOrLong.{octets_in};
 
     ghost Value = { List ℕ };
 
@@ -88,7 +88,7 @@ impl StoredOctets {
         ensures { result ≡ [] }
     {
         StoredOctets {
-            store: Store::Short(Short::empty()),
+            store: ShortOrLong::Short(Short::empty()),
             alloc,
         }
     }
@@ -98,12 +98,12 @@ impl StoredOctets {
         ensures { IfOk result (λ copy. copy ≡ self.now) }
     {
         match &self.store {
-            Store::Short(short) => Ok(StoredOctets {
-                store: Store::Short(short.copy()),
+            ShortOrLong::Short(short) => Ok(StoredOctets {
+                store: ShortOrLong::Short(short.copy()),
                 alloc,
             }),
-            Store::Long(long) => Ok(StoredOctets {
-                store: Store::Long(Vec::from_slice(alloc, long.as_slice())?),
+            ShortOrLong::Long(long) => Ok(StoredOctets {
+                store: ShortOrLong::Long(Vec::from_slice(alloc, long.as_slice())?),
                 alloc,
             }),
         }
@@ -113,8 +113,8 @@ impl StoredOctets {
         ensures { result.now ≡ self.now }
     {
         match &self.store {
-            Store::Short(short) => short.as_slice(),
-            Store::Long(long) => long.as_slice(),
+            ShortOrLong::Short(short) => short.as_slice(),
+            ShortOrLong::Long(long) => long.as_slice(),
         }
     }
 
@@ -126,8 +126,8 @@ impl StoredOctets {
         ensures refused { OnErr result (self.new ≡ self.old) }
     {
         match &mut self.store {
-            Store::Long(long) => extend(long, head, piece),
-            Store::Short(short) => {
+            ShortOrLong::Long(long) => extend(long, head, piece),
+            ShortOrLong::Short(short) => {
                 let kept = short.as_slice();
                 if kept.len() + head.len() + piece.len() <= ROOM {
                     short.append(head);
@@ -135,7 +135,7 @@ impl StoredOctets {
                     return Ok(());
                 }
                 let long = joined(self.alloc, kept, head, piece)?;
-                self.store = Store::Long(long);
+                self.store = ShortOrLong::Long(long);
                 Ok(())
             }
         }

@@ -15,7 +15,7 @@ use Rattle.dnswire.specs.MessageName.Reads.{closed, labelled, pointed}
 use Rattle.dnswire.specs.Runs.{AreRunSizes, Stand, HasNoRoom}
 use Rattle.dnswire.specs.Expansions.{HasOctets, Expands, IsKept, AreKept, IsTableOf, nowhere, octets_in}
 use Rattle.dnswire.specs.declared.name_table.NameTable.{NameTable}
-use Rattle.dnswire.specs.declared.name_table.Place.{Place}
+use Rattle.dnswire.specs.declared.name_table.Extent.{Extent}
 use Rattle.dnswire.proofs.MessageNameLemmas.{after_label, after_pointer, one_reading}
 use Rattle.dnswire.proofs.NameLabelsLemmas.{begins_with_label}
 
@@ -155,13 +155,13 @@ later kept start count size front rest fits is long =
     let n : size + (count - size) ≡ count = omega (arith, fits) in
     ap (take (count - size)) (sym (drop-drop size start kept)) ∙ sym (drop-take size (count - size) (drop start kept)) ∙ ap (λ k. drop size (take k (drop start kept))) n ∙ ap (drop size) is ∙ drop_at front rest size long
 
-kept_next : (message kept : List ℕ) (at size next : ℕ) (place : Place) (labels : List Label) → IsKept message kept at place → Stand message at labels (at + size) → size ≤ place.size → BeginsWithPointer (drop (at + size) message) next → IsKept message kept next (record { start = place.start + size; size = place.size - size })
-kept_next message kept at size next place labels k stands fits points =
+kept_next : (message kept : List ℕ) (at size next : ℕ) (extent : Extent) (labels : List Label) → IsKept message kept at extent → Stand message at labels (at + size) → size ≤ extent.size → BeginsWithPointer (drop (at + size) message) next → IsKept message kept next (record { start = extent.start + size; size = extent.size - size })
+kept_next message kept at size next extent labels k stands fits points =
     let w = k.octets.1 in
     let s = stands.back at k.octets.0 w.labels w.reads in
     let a = after_pointer message at (at + size) next s.0 k.octets.0 points s.2 in
     let long : length (written labels) ≡ size = omega (arith, stands.size) in
-    let whole : octets_in kept place ≡ written labels ++ wire_of s.0 = w.wire ∙ ap wire_of s.1 ∙ wire-append labels s.0 in
+    let whole : octets_in kept extent ≡ written labels ++ wire_of s.0 = w.wire ∙ ap wire_of s.1 ∙ wire-append labels s.0 in
     record {
       within = omega (arith, k.within, fits);
       octets = (
@@ -170,39 +170,39 @@ kept_next message kept at size next place labels k stands fits points =
           labels = s.0;
           reads = a.reads;
           fits = omega (arith, w.fits, ap (λ l. length (wire_of l)) s.1, ap length (wire-append labels s.0), length-append (written labels) (wire_of s.0));
-          wire = later kept place.start place.size size (written labels) (wire_of s.0) fits whole long;
+          wire = later kept extent.start extent.size size (written labels) (wire_of s.0) fits whole long;
         },
       );
     }
 
-pub kept_after : (message kept kept' : List ℕ) (at size next : ℕ) (place : Place) (labels : List Label) → kept' ≡ kept → IsKept message kept at place → Stand message at labels (at + size) → size ≤ place.size → BeginsWithPointer (drop (at + size) message) next → IsKept message kept' next (record { start = place.start + size; size = place.size - size })
-kept_after message kept kept' at size next place labels same k stands fits points =
-    subst (λ now. IsKept message now next (record { start = place.start + size; size = place.size - size })) (sym same) (kept_next message kept at size next place labels k stands fits points)
+pub kept_after : (message kept kept' : List ℕ) (at size next : ℕ) (extent : Extent) (labels : List Label) → kept' ≡ kept → IsKept message kept at extent → Stand message at labels (at + size) → size ≤ extent.size → BeginsWithPointer (drop (at + size) message) next → IsKept message kept' next (record { start = extent.start + size; size = extent.size - size })
+kept_after message kept kept' at size next extent labels same k stands fits points =
+    subst (λ now. IsKept message now next (record { start = extent.start + size; size = extent.size - size })) (sym same) (kept_next message kept at size next extent labels k stands fits points)
 
-pub keep_place : (message kept : List ℕ) (places : List Place) (at : ℕ) (place : Place) → AreKept message kept places → at < length places → IsKept message kept at place → AreKept message kept (set places at place)
-keep_place message kept places at place are within has here some = by (ℕ_discrete here at)
+pub keep_place : (message kept : List ℕ) (extents : List Extent) (at : ℕ) (extent : Extent) → AreKept message kept extents → at < length extents → IsKept message kept at extent → AreKept message kept (set extents at extent)
+keep_place message kept extents at extent are within has here some = by (ℕ_discrete here at)
   where
-    by : Dec (here ≡ at) → IsKept message kept here (get_or (set places at place) here nowhere)
-    by (yes same) = subst (λ n. IsKept message kept n (get_or (set places at place) n nowhere)) (sym same) (subst (IsKept message kept at) (sym (get_or-set_same places at place nowhere within)) has)
+    by : Dec (here ≡ at) → IsKept message kept here (get_or (set extents at extent) here nowhere)
+    by (yes same) = subst (λ n. IsKept message kept n (get_or (set extents at extent) n nowhere)) (sym same) (subst (IsKept message kept at) (sym (get_or-set_same extents at extent nowhere within)) has)
     by (no other) =
-        let is : get_or (set places at place) here nowhere ≡ get_or places here nowhere = get_or-set_other places at here place nowhere other in
-        subst (IsKept message kept here) (sym is) (are here (subst (λ (p : Place). 1 ≤ p.size) is some))
+        let is : get_or (set extents at extent) here nowhere ≡ get_or extents here nowhere = get_or-set_other extents at here extent nowhere other in
+        subst (IsKept message kept here) (sym is) (are here (subst (λ (p : Extent). 1 ≤ p.size) is some))
 
-pub keep_table : (message kept kept' : List ℕ) (places places' : List Place) (at : ℕ) (place : Place) → kept' ≡ kept → places' ≡ set places at place → AreKept message kept places → at < length places → IsKept message kept at place → AreKept message kept' places'
-keep_table message kept kept' places places' at place same is are within has =
-    subst (λ k. AreKept message k places') (sym same) (subst (AreKept message kept) (sym is) (keep_place message kept places at place are within has))
+pub keep_table : (message kept kept' : List ℕ) (extents extents' : List Extent) (at : ℕ) (extent : Extent) → kept' ≡ kept → extents' ≡ set extents at extent → AreKept message kept extents → at < length extents → IsKept message kept at extent → AreKept message kept' extents'
+keep_table message kept kept' extents extents' at extent same is are within has =
+    subst (λ k. AreKept message k extents') (sym same) (subst (AreKept message kept) (sym is) (keep_place message kept extents at extent are within has))
 
-pub keeps_place : (message : List ℕ) (table table' : NameTable) (at : ℕ) (place : Place) → table'.octets.items ≡ table.octets.items → table'.places.items ≡ set table.places.items at place → table'.runs.items ≡ table.runs.items → IsTableOf message table → at < length table.places.items → IsKept message table.octets.items at place → IsTableOf message table'
-keeps_place message table table' at place same is runs t within has = record {
-  kept = keep_table message table.octets.items table'.octets.items table.places.items table'.places.items at place same is t.kept within has;
+pub keeps_place : (message : List ℕ) (table table' : NameTable) (at : ℕ) (extent : Extent) → table'.octets.items ≡ table.octets.items → table'.extents.items ≡ set table.extents.items at extent → table'.runs.items ≡ table.runs.items → IsTableOf message table → at < length table.extents.items → IsKept message table.octets.items at extent → IsTableOf message table'
+keeps_place message table table' at extent same is runs t within has = record {
+  kept = keep_table message table.octets.items table'.octets.items table.extents.items table'.extents.items at extent same is t.kept within has;
   runs = subst (AreRunSizes message) (sym runs) t.runs;
 }
 
-pub kept_at : (message kept : List ℕ) (places : List Place) (at : ℕ) (place : Place) → AreKept message kept places → place ≡ get_or places at nowhere → 1 ≤ place.size → IsKept message kept at place
-kept_at message kept places at place are is some = subst (IsKept message kept at) (sym is) (are at (subst (λ (p : Place). 1 ≤ p.size) is some))
+pub kept_at : (message kept : List ℕ) (extents : List Extent) (at : ℕ) (extent : Extent) → AreKept message kept extents → extent ≡ get_or extents at nowhere → 1 ≤ extent.size → IsKept message kept at extent
+kept_at message kept extents at extent are is some = subst (IsKept message kept at) (sym is) (are at (subst (λ (p : Extent). 1 ≤ p.size) is some))
 
-pub size_kept : (message kept : List ℕ) (at : ℕ) (place : Place) → IsKept message kept at place → length (octets_in kept place) ≡ place.size
-size_kept message kept at place k = length-take-le place.size (drop place.start kept) (omega (arith, k.within, length-drop place.start kept))
+pub size_kept : (message kept : List ℕ) (at : ℕ) (extent : Extent) → IsKept message kept at extent → length (octets_in kept extent) ≡ extent.size
+size_kept message kept at extent k = length-take-le extent.size (drop extent.start kept) (omega (arith, k.within, length-drop extent.start kept))
 
 -- ---- names
 

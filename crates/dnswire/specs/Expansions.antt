@@ -5,7 +5,7 @@ use Rattle.dnswire.specs.Data.{IsWrittenOut}
 use Rattle.dnswire.specs.MessageName.{Reads}
 use Rattle.dnswire.specs.Runs.{AreRunSizes}
 use Rattle.dnswire.specs.declared.name_table.NameTable.{NameTable}
-use Rattle.dnswire.specs.declared.name_table.Place.{Place}
+use Rattle.dnswire.specs.declared.name_table.Extent.{Extent}
 
 -- what is read from the offset on, as a run of its own, written out
 abbrev pub HasOctets : List ℕ → ℕ → List ℕ → Type 0
@@ -22,22 +22,22 @@ pub record Expands (message : List ℕ) (from to : ℕ) (octets : List ℕ) : Ty
       → (labels : List Label) × (end : ℕ) × Reads message to to labels end × (wire_of all ≡ octets ++ wire_of labels)
 
 -- nothing is kept
-abbrev pub nowhere : Place
+abbrev pub nowhere : Extent
 nowhere = record { start = 0; size = 0 }
 
-abbrev pub octets_in : List ℕ → Place → List ℕ
-octets_in kept place = take place.size (drop place.start kept)
+abbrev pub octets_in : List ℕ → Extent → List ℕ
+octets_in kept extent = take extent.size (drop extent.start kept)
 
--- the place has octets, and they are what is read from the offset on
-pub record IsKept (message kept : List ℕ) (at : ℕ) (place : Place) : Type 0 where
-  pub within : place.start + place.size ≤ length kept
-  pub octets : HasOctets message at (octets_in kept place)
+-- the extent has octets, and they are what is read from the offset on
+pub record IsKept (message kept : List ℕ) (at : ℕ) (extent : Extent) : Type 0 where
+  pub within : extent.start + extent.size ≤ length kept
+  pub octets : HasOctets message at (octets_in kept extent)
 
--- by the offset, the places of what is kept; one without octets is none
-abbrev pub AreKept : List ℕ → List ℕ → List Place → Type 0
-AreKept message kept places =
-    (at : ℕ) → 1 ≤ (get_or places at nowhere).size → IsKept message kept at (get_or places at nowhere)
+-- by the offset, the extents of what is kept; one without octets is none
+abbrev pub AreKept : List ℕ → List ℕ → List Extent → Type 0
+AreKept message kept extents =
+    (at : ℕ) → 1 ≤ (get_or extents at nowhere).size → IsKept message kept at (get_or extents at nowhere)
 
 pub record IsTableOf (message : List ℕ) (table : NameTable) : Type 0 where
-  pub kept : AreKept message table.octets.items table.places.items
+  pub kept : AreKept message table.octets.items table.extents.items
   pub runs : AreRunSizes message table.runs.items

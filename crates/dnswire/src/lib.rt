@@ -2,7 +2,7 @@
 //!
 //! Specs, in reading order: `Query` and `Message`, which public clauses cite; what these stand on, `Header`, `Question`,
 //! `MessageName`, `RrHead`, `Data` and `InTurn`; and for the readers' inner steps `LabelsLeft`, `NameLabels`, `Runs`,
-//! `RecordsPassed` and `DataField`.
+//! `RecordsPassed`, `DataField` and `Expansions`.
 #![tactic(auto)]
 
 mod data;

@@ -6,7 +6,7 @@ ghost use Rattle.dnswire.specs.declared.name_read.NotRead.{NotRead};
 
 use crate::label_run::run_at;
 use crate::name_labels::{Piece, piece_at};
-use crate::name_table::{NameTable, Place, place_of};
+use crate::name_table::{Extent, NameTable, extent_of};
 use arrayvec::ArrayVec;
 use dname::{MAX_WIRE, octets_between};
 use std::alloc::Global;
@@ -61,17 +61,17 @@ pub(crate) fn whole_at(message: &[u8], at: usize) -> Option<Whole>
     }
 }
 
-/// The place of the name at the offset, where it is a pointer alone and the table is open.
+/// The extent of the name at the offset, where it is a pointer alone and the table is open.
 pub(crate) fn pointed_place(
     message: &[u8],
     at: usize,
     table: &mut NameTable,
-) -> Result<Option<Place>, NotRead>
+) -> Result<Option<Extent>, NotRead>
     requires { IsTableOf message.now table.old }
-    ensures read { IfOk result (λ found. IfSome found (λ place.
-        IsWrittenOut message.now at (octets_in table.new.octets.items place) (at + 2))) }
-    ensures within { IfOk result (λ found. IfSome found (λ place.
-        (place.start + place.size ≤ length table.new.octets.items)
+    ensures read { IfOk result (λ found. IfSome found (λ extent.
+        IsWrittenOut message.now at (octets_in table.new.octets.items extent) (at + 2))) }
+    ensures within { IfOk result (λ found. IfSome found (λ extent.
+        (extent.start + extent.size ≤ length table.new.octets.items)
         × (at + 2 ≤ length message.now))) }
     ensures faulty { result ≡ Err NotRead.Faulty → HasNoRoom message.now at 255 }
     ensures table { IsTableOf message.now table.new }
@@ -81,8 +81,8 @@ pub(crate) fn pointed_place(
     }
     match piece_at(message, at) {
         Some(Piece::Pointer(next)) if next < at => {
-            match place_of(message, next, MAX_WIRE, table) {
-                Ok(place) => Ok(Some(place)),
+            match extent_of(message, next, MAX_WIRE, table) {
+                Ok(extent) => Ok(Some(extent)),
                 Err(NotRead::Faulty) => Err(NotRead::Faulty),
                 Err(NotRead::OutOfMemory) => Err(NotRead::OutOfMemory),
             }
@@ -141,8 +141,8 @@ fn write_rest(
     if table.open(alloc, message.len()).is_err() {
         return Err(NotRead::OutOfMemory);
     }
-    let place = place_of(message, at, room, table)?;
-    append(octets, table.octets_of(place));
+    let extent = extent_of(message, at, room, table)?;
+    append(octets, table.octets_of(extent));
     Ok(())
 }
 

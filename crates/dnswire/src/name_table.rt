@@ -20,19 +20,19 @@ const OCTETS_AN_OFFSET: usize = 32;
 pub(crate) struct NameTable {
     // All that is written out, and where it is by its offset in the message.
     octets: Vec<u8>,
-    places: Vec<Place>,
+    extents: Vec<Extent>,
     // The sizes of runs of labels, by their offsets.
     runs: Vec<u8>,
 }
 
-/// Where octets are kept; a place without octets is none.
+/// Where octets are kept; a extent without octets is none.
 #[derive(Clone, Copy, Debug)]
-pub(crate) struct Place {
+pub(crate) struct Extent {
     start: usize,
     size: usize,
 }
 
-const NOWHERE: Place = Place { start: 0, size: 0 };
+const NOWHERE: Extent = Extent { start: 0, size: 0 };
 
 impl NameTable {
     /// The table that keeps nothing. It takes no memory.
@@ -41,13 +41,13 @@ impl NameTable {
     {
         NameTable {
             octets: Vec::new(alloc),
-            places: Vec::new(alloc),
+            extents: Vec::new(alloc),
             runs: Vec::new(alloc),
         }
     }
 
     pub(crate) fn is_open(&self) -> bool {
-        !self.places.is_empty()
+        !self.extents.is_empty()
     }
 
     /// Makes room for what stands in a message of so many octets.
@@ -55,57 +55,57 @@ impl NameTable {
         ensures { (message : List ℕ) → IsTableOf message self.old
             → IsTableOf message self.new }
     {
-        if self.places.is_empty() {
+        if self.extents.is_empty() {
             let count = size.min(POINTED_OFFSETS);
             self.octets = Vec::with_capacity(alloc, OCTETS_AN_OFFSET * count)?;
             self.runs = vec![in alloc; 0; count]?;
-            self.places = vec![in alloc; NOWHERE; count]?;
+            self.extents = vec![in alloc; NOWHERE; count]?;
         }
         Ok(())
     }
 
     /// Where the octets of the offset are kept.
-    fn place_at(&self, at: usize) -> Place
-        ensures { result ≡ get_or self.now.places.items at nowhere }
+    fn extent_at(&self, at: usize) -> Extent
+        ensures { result ≡ get_or self.now.extents.items at nowhere }
     {
-        match self.places.get(at) {
-            Some(place) => *place,
+        match self.extents.get(at) {
+            Some(extent) => *extent,
             None => NOWHERE,
         }
     }
 
-    /// The octets at the place.
-    pub(crate) fn octets_of(&self, place: Place) -> &[u8]
-        requires { place.start + place.size ≤ length self.now.octets.items }
-        ensures { result.now ≡ octets_in self.now.octets.items place }
+    /// The octets at the extent.
+    pub(crate) fn octets_of(&self, extent: Extent) -> &[u8]
+        requires { extent.start + extent.size ≤ length self.now.octets.items }
+        ensures { result.now ≡ octets_in self.now.octets.items extent }
     {
         octets_between(
             self.octets.as_slice(),
-            place.start,
-            place.start + place.size,
+            extent.start,
+            extent.start + extent.size,
         )
     }
 
-    fn keep(&mut self, at: usize, place: Place)
-        requires { at < length self.old.places.items }
+    fn keep(&mut self, at: usize, extent: Extent)
+        requires { at < length self.old.extents.items }
         ensures octets { self.new.octets.items ≡ self.old.octets.items }
-        ensures places { self.new.places.items ≡ set self.old.places.items at place }
+        ensures extents { self.new.extents.items ≡ set self.old.extents.items at extent }
         ensures runs { self.new.runs.items ≡ self.old.runs.items }
     {
-        self.places[at] = place;
+        self.extents[at] = extent;
     }
 
-    fn add(&mut self, piece: &[u8]) -> Result<Place, AllocError>
-        ensures octets { IfOk result (λ place.
-            (place.start + place.size ≤ length self.new.octets.items)
-            × (octets_in self.new.octets.items place ≡ piece.now)
-            × (place.size ≡ length piece.now)) }
+    fn add(&mut self, piece: &[u8]) -> Result<Extent, AllocError>
+        ensures octets { IfOk result (λ extent.
+            (extent.start + extent.size ≤ length self.new.octets.items)
+            × (octets_in self.new.octets.items extent ≡ piece.now)
+            × (extent.size ≡ length piece.now)) }
         ensures table { (message : List ℕ) → IsTableOf message self.old
             → IsTableOf message self.new }
     {
         let start = self.octets.len();
         self.octets.extend_from_slice(piece)?;
-        Ok(Place {
+        Ok(Extent {
             start,
             size: piece.len(),
         })
@@ -113,20 +113,20 @@ impl NameTable {
 }
 
 /// Where the octets are of what is read from the offset on, which are no more than these.
-pub(crate) fn place_of(
+pub(crate) fn extent_of(
     message: &[u8],
     at: usize,
     room: usize,
     table: &mut NameTable,
-) -> Result<Place, NotRead>
+) -> Result<Extent, NotRead>
     requires room { room ≤ 255 }
     requires table { IsTableOf message.now table.old }
-    ensures read { IfOk result (λ place. IsKept message.now table.new.octets.items at place
-        × (place.size ≤ room)) }
+    ensures read { IfOk result (λ extent. IsKept message.now table.new.octets.items at extent
+        × (extent.size ≤ room)) }
     ensures faulty { result ≡ Err NotRead.Faulty → HasNoRoom message.now at room }
     ensures table { IsTableOf message.now table.new }
 {
-    let known = table.place_at(at);
+    let known = table.extent_at(at);
     if known.size > room {
         return Err(NotRead::Faulty);
     }
@@ -137,11 +137,11 @@ pub(crate) fn place_of(
     let Some(last_run) = rest_at(message, at, room, table, &mut rest) else {
         return Err(NotRead::Faulty);
     };
-    let Ok(place) = table.add(rest.as_slice()) else {
+    let Ok(extent) = table.add(rest.as_slice()) else {
         return Err(NotRead::OutOfMemory);
     };
-    remember(message, at, place, last_run, table);
-    Ok(place)
+    remember(message, at, extent, last_run, table);
+    Ok(extent)
 }
 
 // Writes what is read from the offset on, and gives where the last run begins that wasn't kept.
@@ -163,7 +163,7 @@ fn rest_at(
     let mut start = at;
     let mut last_run = at;
     loop {
-        let known = table.place_at(start);
+        let known = table.extent_at(start);
         if known.size > room - octets.len() {
             return None;
         }
@@ -184,8 +184,8 @@ fn rest_at(
     }
 }
 
-// Keeps what is read from the offset on, which is at the place, and what its pointers lead to.
-fn remember(message: &[u8], at: usize, whole: Place, last_run: usize, table: &mut NameTable)
+// Keeps what is read from the offset on, which is at the extent, and what its pointers lead to.
+fn remember(message: &[u8], at: usize, whole: Extent, last_run: usize, table: &mut NameTable)
     requires kept { IsKept message.now table.old.octets.items at whole }
     requires small { whole.size ≤ 255 }
     requires table { IsTableOf message.now table.old }
@@ -193,22 +193,22 @@ fn remember(message: &[u8], at: usize, whole: Place, last_run: usize, table: &mu
     ensures table { IsTableOf message.now table.new }
 {
     let mut start = at;
-    let mut place = whole;
-    while start < table.places.len() {
-        table.keep(start, place);
+    let mut extent = whole;
+    while start < table.extents.len() {
+        table.keep(start, extent);
         if start == last_run {
             return;
         }
-        let Some(run) = run_by(message, start, place.size, &mut table.runs) else {
+        let Some(run) = run_by(message, start, extent.size, &mut table.runs) else {
             return;
         };
         let Some(next) = run.next else {
             return;
         };
         start = next;
-        place = Place {
-            start: place.start + run.size,
-            size: place.size - run.size,
+        extent = Extent {
+            start: extent.start + run.size,
+            size: extent.size - run.size,
         };
     }
 }

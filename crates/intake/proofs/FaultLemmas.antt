@@ -5,7 +5,7 @@ use Rattle.dnswire.specs.declared.message.Message.{Message}
 use Rattle.dnswire.specs.declared.wire_fault.WireFault.{WireFault}
 use Rattle.dnswire.specs.declared.wire_fault.WireFault.TheVariants as wire
 use Rattle.intake.specs.WireFault.{fault_of}
-use Rattle.intake.specs.Batch.{header_fault, IsRefused, IsFault}
+use Rattle.intake.specs.Batch.{header_fault, IsRefused, IsTaken, IsFault, GivesAsRead}
 use Rattle.intake.specs.declared.taken.Taken.{Taken}
 use Rattle.intake.specs.declared.intake_fault.IntakeFault.{IntakeFault}
 use Rattle.intake.specs.declared.intake_fault.IntakeFault.TheVariants.{Malformed, NotResponse, Truncated, Rcode, NotAuthentic, Nothing, OutOfMemory}
@@ -59,3 +59,17 @@ pub wire_told : (octets : List ℕ) (now : ℕ) (result : Result Taken IntakeFau
     → IfErr result (λ e. (e ≡ OutOfMemory) ⊎ IsFault octets now e)
 wire_told octets now (Ok taken) fault given is = absurd given
 wire_told octets now (Err e) fault given is = subst (λ f. (f ≡ OutOfMemory) ⊎ IsFault octets now f) (sym given) (wire_refused octets now fault is)
+
+-- ---- what octets give, by their message
+
+pub taken_read : (octets : List ℕ) (now : ℕ) (message : Message) (result : Result Taken IntakeFault) → IsMessage octets message → IfOk result (λ taken. GivesAsRead message now (Ok taken)) → IfOk result (IsTaken octets now)
+taken_read octets now message (Ok taken) reads gives = gives octets reads
+taken_read octets now message (Err fault) reads gives = tt
+
+pub refused_read : (octets : List ℕ) (now : ℕ) (message : Message) (result : Result Taken IntakeFault) → IsMessage octets message → IfErr result (λ fault. (fault ≡ OutOfMemory) ⊎ GivesAsRead message now (Err fault))
+    → IfErr result (λ fault. (fault ≡ OutOfMemory) ⊎ IsFault octets now fault)
+refused_read octets now message (Ok taken) reads gives = tt
+refused_read octets now message (Err fault) reads gives = elim gives [
+  | inl memory ↦ inl memory
+  | inr given ↦ inr (given octets reads)
+]

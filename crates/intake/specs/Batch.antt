@@ -1,5 +1,5 @@
 -- What the octets of an upstream's answer give at a moment: a batch of records, or a refusal.
-use Rattle.std.specs.Prelude.{◌≡◌, ℕ, ◌≤◌, not, ◌||◌, ◌==◌, if◌then◌else◌, List, [], ◌++◌, length, count_by, flat_map, Option, Some, None, Result, Ok, Err, is_none}
+use Rattle.std.specs.Prelude.{◌≡◌, ℕ, ◌<◌, ◌≤◌, not, ◌||◌, ◌==◌, if◌then◌else◌, List, [], ◌++◌, length, get_or, count_by, flat_map, Option, Some, None, Result, Ok, Err, is_none}
 use Rattle.std.specs.List.{AllZip}
 use Rattle.std.specs.Option.{option_to_list}
 use Rattle.dnswire.specs.Header.{is_answer, has_tc, has_ad}
@@ -73,3 +73,15 @@ IsFault octets now OutOfMemory = ⊥
 abbrev pub Gives : List ℕ → ℕ → Result Taken IntakeFault → Type 0
 Gives octets now (Ok taken) = IsTaken octets now taken
 Gives octets now (Err fault) = IsFault octets now fault
+
+-- ---- a message that was read before
+
+-- there are octets that are the message
+pub record WasRead (message : Message) : Type 0 where
+  pub octets : List ℕ
+  pub small : (i : ℕ) → get_or octets i 0 < 256
+  pub reads : IsMessage octets message
+
+-- whatever octets are the message give this at the moment, where there is memory
+abbrev pub GivesAsRead : Message → ℕ → Result Taken IntakeFault → Type 0
+GivesAsRead message now given = (octets : List ℕ) → IsMessage octets message → Gives octets now given

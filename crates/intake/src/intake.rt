@@ -1,6 +1,7 @@
-ghost use Rattle.std.specs.Prelude.{◌≡◌, ◌+◌, ◌^◌, ◌<◌, ◌⊎◌, length, IfOk, IfErr, Ok, Err};
+ghost use Rattle.std.specs.Prelude.{◌≡◌, ℕ, ◌+◌, ◌^◌, ◌<◌, ◌⊎◌, List, length, Result, IfOk, IfErr, Ok, Err};
 ghost use Rattle.std.specs.List.{All};
-ghost use Rattle.intake.specs.Batch.{IsTaken, IsFault, Brings};
+ghost use Rattle.dnswire.specs.Message.{IsMessage};
+ghost use Rattle.intake.specs.Batch.{IsTaken, IsFault, Brings, Gives, GivesAsRead, WasRead};
 ghost use Rattle.intake.specs.Pile.{HasFixedPart};
 
 use crate::grouping::piles_of;
@@ -34,6 +35,31 @@ fn outcome_of(alloc: Global, octets: &[u8], now: u32) -> Result<Taken, IntakeFau
         (λ fault. (fault ≡ IntakeFault.OutOfMemory) ⊎ IsFault octets.now now fault) }
 {
     let message = read_message(alloc, octets)?;
+    taken_or_fault(alloc, message, now)
+}
+
+/// What `batch_of` gives at a moment, in seconds since 1970, of the octets that this message was read from. So octets that are read
+/// for another reason aren't read twice.
+pub fn batch_of_message(alloc: Global, message: Message, now: u32) -> Result<Taken, IntakeFault>
+    requires { WasRead message }
+    ensures taken { IfOk result (λ taken. GivesAsRead message now (Ok taken)) }
+    ensures refused { IfErr result
+        (λ fault. (fault ≡ IntakeFault.OutOfMemory) ⊎ GivesAsRead message now (Err fault)) }
+
+    // What the octets give comes, where there is memory.
+    ensures every { (octets : List ℕ) (given : Result Taken IntakeFault)
+        → IsMessage octets message → Gives octets now given
+        → (result ≡ given) ⊎ (result ≡ Err IntakeFault.OutOfMemory) }
+{
+    taken_or_fault(alloc, message, now)
+}
+
+fn taken_or_fault(alloc: Global, message: Message, now: u32) -> Result<Taken, IntakeFault>
+    requires { WasRead message }
+    ensures taken { IfOk result (λ taken. GivesAsRead message now (Ok taken)) }
+    ensures refused { IfErr result
+        (λ fault. (fault ≡ IntakeFault.OutOfMemory) ⊎ GivesAsRead message now (Err fault)) }
+{
     if let Some(fault) = header_fault(&message) {
         return Err(fault);
     }

@@ -21,6 +21,6 @@ mod stored;
 mod table;
 mod taken;
 
-pub use intake::batch_of;
+pub use intake::{batch_of, batch_of_message};
 pub use intake_fault::IntakeFault;
 pub use taken::Taken;

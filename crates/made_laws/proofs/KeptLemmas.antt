@@ -22,7 +22,7 @@ use Rattle.intake.specs.Group.{Group, is_together, is_rrsig, seconds_to, covers,
 use Rattle.intake.specs.Signed.{counted_ttl, life_of}
 use Rattle.intake.specs.Stored.{is_kept_type, is_denial_type, owner_labels, limit_of, IsInside, IsKept, IsStored}
 use Rattle.intake.proofs.GroupLemmas.{together}
-use Rattle.zone_maker.specs.Made.{made_example, Turn, Host, Above, Cut, Wild, turn_at, name_at, owner_in, made_owner, next_owner}
+use Rattle.zone_maker.specs.Made.{made_example, NameKind, Host, Above, Cut, Wild, kind_at, name_at, owner_in, made_owner, next_owner}
 use Rattle.zone_maker.specs.Messages.{signature_data, first_of, type_map, nsec_data}
 use Rattle.made_laws.specs.MadeNsec.{types_at}
 use Rattle.zone_maker.proofs.NameLemmas.{label_at}
@@ -36,7 +36,7 @@ use Rattle.made_laws.proofs.GivenLemmas.{once_alone, some_once, least_alive, Are
 
 -- ---- owners
 
-labels_in : (turn : Turn) (i : ℕ) → 2 ≤ owner_labels (owner_in turn (name_at i))
+labels_in : (kind : NameKind) (i : ℕ) → 2 ≤ owner_labels (owner_in kind (name_at i))
 labels_in Host i = omega arith
 labels_in Above i = omega arith
 labels_in Cut i = omega arith
@@ -44,11 +44,11 @@ labels_in Wild i = omega arith
 
 pub labels_enough : (k : ℕ) → 2 ≤ owner_labels (made_owner k)
 labels_enough zero = omega arith
-labels_enough (suc i) = labels_in (turn_at i) i
+labels_enough (suc i) = labels_in (kind_at i) i
 
 pub under_apex : (k : ℕ) → IsUnder (made_owner k) made_example
 under_apex zero = ([], refl)
-under_apex (suc i) = owner_under (turn_at i) (label_at i)
+under_apex (suc i) = owner_under (kind_at i) (label_at i)
 
 pub next_under : (names k : ℕ) → k ≤ names → IsUnder (next_owner names k) made_example
 next_under names k small = ⊎_elim

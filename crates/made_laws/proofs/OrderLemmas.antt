@@ -8,7 +8,7 @@ use Rattle.std.specs.Cmp.Lexicographic.{slice_cmp}
 use Rattle.std.proofs.lemmas.Cmp.{ranked}
 use Rattle.dname.specs.Name.{Label, IsUnder, asterisk, label_cmp, canonical_cmp}
 use Rattle.dname.proofs.TogetherLemmas.{above_is_first}
-use Rattle.zone_maker.specs.Made.{made_example, digit, six_digits, Turn, Host, Above, Cut, Wild, turn_at, owner_in, made_owner}
+use Rattle.zone_maker.specs.Made.{made_example, digit, six_digits, NameKind, Host, Above, Cut, Wild, kind_at, owner_in, made_owner}
 use Rattle.zone_maker.proofs.NameLemmas.{label_at}
 
 -- ---- numbers
@@ -53,32 +53,32 @@ pub labels_in_order : (i j : ℕ) → i < j → j < 1000000 → label_cmp (label
 labels_in_order i j less small = digits_in_order i j less small
 
 -- what stands before that label in an owner
-abbrev front_in : Turn → List Label
+abbrev front_in : NameKind → List Label
 front_in Host = []
 front_in Above = codes "x" ∷ []
 front_in Cut = []
 front_in Wild = asterisk ∷ []
 
-from_the_right : (turn : Turn) (label : Label) → reverse (owner_in turn (label ∷ made_example)) ≡ codes "example" ∷ codes "made" ∷ label ∷ front_in turn
+from_the_right : (kind : NameKind) (label : Label) → reverse (owner_in kind (label ∷ made_example)) ≡ codes "example" ∷ codes "made" ∷ label ∷ front_in kind
 from_the_right Host label = refl
 from_the_right Above label = refl
 from_the_right Cut label = refl
 from_the_right Wild label = refl
 
 -- an owner is before another where its name's label is
-owners_in_order : (turn turn' : Turn) (label label' : Label) → label_cmp label label' ≡ Less → canonical_cmp (owner_in turn (label ∷ made_example)) (owner_in turn' (label' ∷ made_example)) ≡ Less
-owners_in_order turn turn' label label' less =
-    ap (λ (xs : List Label). slice_cmp label_cmp xs (reverse (owner_in turn' (label' ∷ made_example)))) (from_the_right turn label)
-    ∙ ap (λ (ys : List Label). slice_cmp label_cmp (codes "example" ∷ codes "made" ∷ label ∷ front_in turn) ys) (from_the_right turn' label')
-    ∙ ap (λ o. ordering_then o (slice_cmp label_cmp (front_in turn) (front_in turn'))) less
+owners_in_order : (kind kind' : NameKind) (label label' : Label) → label_cmp label label' ≡ Less → canonical_cmp (owner_in kind (label ∷ made_example)) (owner_in kind' (label' ∷ made_example)) ≡ Less
+owners_in_order kind kind' label label' less =
+    ap (λ (xs : List Label). slice_cmp label_cmp xs (reverse (owner_in kind' (label' ∷ made_example)))) (from_the_right kind label)
+    ∙ ap (λ (ys : List Label). slice_cmp label_cmp (codes "example" ∷ codes "made" ∷ label ∷ front_in kind) ys) (from_the_right kind' label')
+    ∙ ap (λ o. ordering_then o (slice_cmp label_cmp (front_in kind) (front_in kind'))) less
 
-pub owner_under : (turn : Turn) (label : Label) → IsUnder (owner_in turn (label ∷ made_example)) made_example
+pub owner_under : (kind : NameKind) (label : Label) → IsUnder (owner_in kind (label ∷ made_example)) made_example
 owner_under Host label = (_ ∷ [], refl)
 owner_under Above label = (_ ∷ _ ∷ [], refl)
 owner_under Cut label = (_ ∷ [], refl)
 owner_under Wild label = (_ ∷ _ ∷ [], refl)
 
-pub owner_is_no_apex : (turn : Turn) (label : Label) → owner_in turn (label ∷ made_example) ≢ made_example
+pub owner_is_no_apex : (kind : NameKind) (label : Label) → owner_in kind (label ∷ made_example) ≢ made_example
 owner_is_no_apex Host label same = omega (arith, ap length same)
 owner_is_no_apex Above label same = omega (arith, ap length same)
 owner_is_no_apex Cut label same = omega (arith, ap length same)
@@ -87,6 +87,6 @@ owner_is_no_apex Wild label same = omega (arith, ap length same)
 -- the owners are numbered in canonical order
 pub owners_rise : (i j : ℕ) → i < j → j ≤ 1000000 → canonical_cmp (made_owner i) (made_owner j) ≡ Less
 owners_rise zero zero less small = absurd (omega (arith, less))
-owners_rise zero (suc j) less small = above_is_first (made_owner (suc j)) made_example (owner_under (turn_at j) (label_at j)) (owner_is_no_apex (turn_at j) (label_at j))
+owners_rise zero (suc j) less small = above_is_first (made_owner (suc j)) made_example (owner_under (kind_at j) (label_at j)) (owner_is_no_apex (kind_at j) (label_at j))
 owners_rise (suc i) zero less small = absurd (omega (arith, less))
-owners_rise (suc i) (suc j) less small = owners_in_order (turn_at i) (turn_at j) (label_at i) (label_at j) (labels_in_order i j (omega (arith, less)) (omega (arith, small)))
+owners_rise (suc i) (suc j) less small = owners_in_order (kind_at i) (kind_at j) (label_at i) (label_at j) (labels_in_order i j (omega (arith, less)) (omega (arith, small)))

@@ -8,7 +8,7 @@ use Rattle.dname.specs.Name.{Label, IsUnder, asterisk, label_cmp, canonical_cmp}
 use Rattle.dname.proofs.ArcLemmas.{not_before_itself}
 use Rattle.dname.specs.Order.{canonical_total}
 use Rattle.dname.proofs.UnderLemmas.{under_is_longer, under_step}
-use Rattle.zone_maker.specs.Made.{made_example, name_at, Turn, Host, Above, Cut, Wild, turn_at, owner_in, made_owner}
+use Rattle.zone_maker.specs.Made.{made_example, name_at, NameKind, Host, Above, Cut, Wild, kind_at, owner_in, made_owner}
 use Rattle.zone_maker.proofs.NameLemmas.{label_at}
 use Rattle.made_laws.proofs.OrderLemmas.{labels_in_order, owners_rise}
 use Rattle.made_laws.proofs.RingLemmas.{one_number}
@@ -33,7 +33,7 @@ four_labels first label other under = ⊎_elim
     (under_step first (label ∷ made_example) (other ∷ made_example) under)
 
 -- an owner at or below a name is that name's
-name_above : (turn : Turn) (label other : Label) → IsUnder (owner_in turn (label ∷ made_example)) (other ∷ made_example) → label ∷ made_example ≡ other ∷ made_example
+name_above : (kind : NameKind) (label other : Label) → IsUnder (owner_in kind (label ∷ made_example)) (other ∷ made_example) → label ∷ made_example ≡ other ∷ made_example
 name_above Host label other under = three_labels label other under
 name_above Above label other under = four_labels (codes "x") label other under
 name_above Cut label other under = three_labels label other under
@@ -52,13 +52,13 @@ one_name_number i j small small' same = ⊎_elim
     labels : label_at i ≡ label_at j
     labels = cc
 
-at_cut : (i : ℕ) (turn : Turn) → turn ≡ Cut → owner_in turn (name_at i) ≡ name_at i
-at_cut i turn cut = ap (λ t. owner_in t (name_at i)) cut
+at_cut : (i : ℕ) (kind : NameKind) → kind ≡ Cut → owner_in kind (name_at i) ≡ name_at i
+at_cut i kind cut = ap (λ t. owner_in t (name_at i)) cut
 
 -- no owner is below a cut
-pub none_below_cut : (k i : ℕ) → k ≤ 1000000 → i < 1000000 → turn_at i ≡ Cut → IsUnder (made_owner k) (name_at i) → made_owner k ≢ name_at i → ⊥
+pub none_below_cut : (k i : ℕ) → k ≤ 1000000 → i < 1000000 → kind_at i ≡ Cut → IsUnder (made_owner k) (name_at i) → made_owner k ≢ name_at i → ⊥
 none_below_cut zero i small small' cut under apart = too_short (label_at i) under
 none_below_cut (suc j) i small small' cut under apart =
-    let same : name_at j ≡ name_at i = name_above (turn_at j) (label_at j) (label_at i) under in
+    let same : name_at j ≡ name_at i = name_above (kind_at j) (label_at j) (label_at i) under in
     let one : j ≡ i = one_name_number j i (omega (arith, small)) small' same in
-    apart (at_cut j (turn_at j) (ap turn_at one ∙ cut) ∙ same)
+    apart (at_cut j (kind_at j) (ap kind_at one ∙ cut) ∙ same)

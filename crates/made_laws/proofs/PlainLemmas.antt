@@ -3,7 +3,7 @@ use Rattle.std.proofs.Common.{◌≡◌, ℕ, zero, suc, ◌<◌, ◌≤◌, ⊎
 use Rattle.std.specs.Prelude.{codes}
 use Rattle.std.proofs.lemmas.List.Elements.{All-nil, All-cons}
 use Rattle.dname.specs.Name.{Label, HasLabelLength, asterisk, lowered, wire_of}
-use Rattle.zone_maker.specs.Made.{made_example, name_at, Turn, Host, Above, Cut, Wild, turn_at, owner_in, made_owner, next_owner}
+use Rattle.zone_maker.specs.Made.{made_example, name_at, NameKind, Host, Above, Cut, Wild, kind_at, owner_in, made_owner, next_owner}
 use Rattle.zone_maker.proofs.NameLemmas.{label_at, label_lower}
 use Rattle.made_laws.proofs.TrueLemmas.{next_by}
 use Rattle.made_laws.proofs.WrittenLemmas.{IsPlain}
@@ -26,7 +26,7 @@ plain_apex = record {
 plain_name : (i : ℕ) → IsPlain (name_at i)
 plain_name i = plain_more (label_at i) made_example (omega arith, omega arith) (label_lower i) plain_apex (omega arith)
 
-plain_in : (turn : Turn) (i : ℕ) → IsPlain (owner_in turn (name_at i))
+plain_in : (kind : NameKind) (i : ℕ) → IsPlain (owner_in kind (name_at i))
 plain_in Host i = plain_name i
 plain_in Above i = plain_more (codes "x") (name_at i) (omega arith, omega arith) refl (plain_name i) (omega arith)
 plain_in Cut i = plain_name i
@@ -34,7 +34,7 @@ plain_in Wild i = plain_more asterisk (name_at i) (omega arith, omega arith) ref
 
 pub plain_owner : (k : ℕ) → IsPlain (made_owner k)
 plain_owner zero = plain_apex
-plain_owner (suc i) = plain_in (turn_at i) i
+plain_owner (suc i) = plain_in (kind_at i) i
 
 pub plain_next : (names k : ℕ) → k ≤ names → IsPlain (next_owner names k)
 plain_next names k small = ⊎_elim

@@ -7,7 +7,7 @@ use Rattle.dname.specs.Name.{Label, IsUnder, wire_of}
 use Rattle.dname.specs.declared.types.TheConstants.{DNAME_TYPE, NS_TYPE, SOA_TYPE}
 use Rattle.zone_meaning.specs.Zone.{ZoneRecord, HasType, IsBar, IsBelow, IsCut, IsLive, IsOwner}
 use Rattle.zone_meaning.specs.ZoneTable.{zone_record}
-use Rattle.zone_maker.specs.Made.{made_example, name_server, name_at, Turn, Host, Above, Cut, Wild, turn_at, owner_in, type_in, data_in, record_in, soa_data, made_zone, made_owner}
+use Rattle.zone_maker.specs.Made.{made_example, name_server, name_at, NameKind, Host, Above, Cut, Wild, kind_at, owner_in, type_in, data_in, record_in, soa_data, made_zone, made_owner}
 use Rattle.made_laws.proofs.OwnerLemmas.{none_below_cut}
 
 -- ---- a list made of numbers
@@ -25,10 +25,10 @@ number_at f n i short = (i, subst (λ m. i < m) (sym (length-map-range_with_len 
 pub data IsMade (seed names : ℕ) (r : ZoneRecord) : Type 0 where
   soa : r ≡ zone_record made_example SOA_TYPE soa_data → IsMade seed names r
   servers : r ≡ zone_record made_example NS_TYPE (wire_of name_server) → IsMade seed names r
-  named : (i : ℕ) → i < names → r ≡ record_in (turn_at i) seed i → IsMade seed names r
+  named : (i : ℕ) → i < names → r ≡ record_in (kind_at i) seed i → IsMade seed names r
 
 abbrev named_records : ℕ → ℕ → List ZoneRecord
-named_records seed names = map (λ i. record_in (turn_at i) seed i) (range_with_len 0 names)
+named_records seed names = map (λ i. record_in (kind_at i) seed i) (range_with_len 0 names)
 
 abbrev soa_record : ZoneRecord
 soa_record = zone_record made_example SOA_TYPE soa_data
@@ -42,7 +42,7 @@ made_record seed names r in' = ⊎_elim
     (λ (more : Contains (servers_record ∷ named_records seed names) r). ⊎_elim
     (λ (second : servers_record ≡ r). servers (sym second))
     (λ (others : Contains (named_records seed names) r).
-    let at = at_number (λ i. record_in (turn_at i) seed i) names r others in named at.0 at.1 (sym at.2))
+    let at = at_number (λ i. record_in (kind_at i) seed i) names r others in named at.0 at.1 (sym at.2))
     (here_or_there servers_record (named_records seed names) r more))
     (here_or_there soa_record (servers_record ∷ named_records seed names) r in')
 
@@ -52,11 +52,11 @@ has_soa seed names = here soa_record (servers_record ∷ named_records seed name
 pub has_servers : (seed names : ℕ) → Contains (made_zone seed names).records servers_record
 has_servers seed names = there soa_record (servers_record ∷ named_records seed names) servers_record (here servers_record (named_records seed names))
 
-pub has_named : (seed names i : ℕ) → i < names → Contains (made_zone seed names).records (record_in (turn_at i) seed i)
+pub has_named : (seed names i : ℕ) → i < names → Contains (made_zone seed names).records (record_in (kind_at i) seed i)
 has_named seed names i short =
-    let r : ZoneRecord = record_in (turn_at i) seed i in
+    let r : ZoneRecord = record_in (kind_at i) seed i in
     there soa_record (servers_record ∷ named_records seed names) r
-    (there servers_record (named_records seed names) r (number_at (λ i. record_in (turn_at i) seed i) names i short))
+    (there servers_record (named_records seed names) r (number_at (λ i. record_in (kind_at i) seed i) names i short))
 
 -- ---- cuts
 
@@ -64,13 +64,13 @@ not_type : (a b : ℕ) → (a < b) ⊎ (b < a) → a ≡ b → ⊥
 not_type a b (inl less) same = omega (arith, less, same)
 not_type a b (inr more) same = omega (arith, more, same)
 
-cut_of : (turn : Turn) → NS_TYPE ≡ type_in turn → turn ≡ Cut
+cut_of : (kind : NameKind) → NS_TYPE ≡ type_in kind → kind ≡ Cut
 cut_of Host same = absurd (omega (arith, same))
 cut_of Above same = absurd (omega (arith, same))
 cut_of Cut same = refl
 cut_of Wild same = absurd (omega (arith, same))
 
-no_dname_in : (turn : Turn) → DNAME_TYPE ≡ type_in turn → ⊥
+no_dname_in : (kind : NameKind) → DNAME_TYPE ≡ type_in kind → ⊥
 no_dname_in Host same = omega (arith, same)
 no_dname_in Above same = omega (arith, same)
 no_dname_in Cut same = omega (arith, same)
@@ -79,7 +79,7 @@ no_dname_in Wild same = omega (arith, same)
 pub record IsCutOf (names : ℕ) (cut : List Label) : Type 0 where
   pub number : ℕ
   pub short : number < names
-  pub turn_is : turn_at number ≡ Cut
+  pub turn_is : kind_at number ≡ Cut
   pub name_is : cut ≡ name_at number
 
 pub cut_has_number : (seed names : ℕ) (cut : List Label) → IsCut (made_zone seed names) cut → IsCutOf names cut
@@ -89,8 +89,8 @@ cut_has_number seed names cut is = by (made_record seed names (zone_record cut N
     by (soa e) = absurd (not_type NS_TYPE SOA_TYPE (inl (omega arith)) (ap (λ (r : ZoneRecord). r.rtype) e))
     by (servers e) = absurd (is.0 (ap (λ (r : ZoneRecord). r.owner) e))
     by (named i short e) =
-        let turn : turn_at i ≡ Cut = cut_of (turn_at i) (ap (λ (r : ZoneRecord). r.rtype) e) in
-        record { number = i; short = short; turn_is = turn; name_is = ap (λ (r : ZoneRecord). r.owner) e ∙ ap (λ t. owner_in t (name_at i)) turn }
+        let kind : kind_at i ≡ Cut = cut_of (kind_at i) (ap (λ (r : ZoneRecord). r.rtype) e) in
+        record { number = i; short = short; turn_is = kind; name_is = ap (λ (r : ZoneRecord). r.owner) e ∙ ap (λ t. owner_in t (name_at i)) kind }
 
 no_dname : (seed names : ℕ) (owner : List Label) → HasType (made_zone seed names) owner DNAME_TYPE → ⊥
 no_dname seed names owner has = by (made_record seed names (zone_record owner DNAME_TYPE has.0) has.1)
@@ -98,13 +98,13 @@ no_dname seed names owner has = by (made_record seed names (zone_record owner DN
     by : IsMade seed names (zone_record owner DNAME_TYPE has.0) → ⊥
     by (soa e) = not_type DNAME_TYPE SOA_TYPE (inr (omega arith)) (ap (λ (r : ZoneRecord). r.rtype) e)
     by (servers e) = not_type DNAME_TYPE NS_TYPE (inr (omega arith)) (ap (λ (r : ZoneRecord). r.rtype) e)
-    by (named i short e) = no_dname_in (turn_at i) (ap (λ (r : ZoneRecord). r.rtype) e)
+    by (named i short e) = no_dname_in (kind_at i) (ap (λ (r : ZoneRecord). r.rtype) e)
 
 -- ---- live names
 
 owner_at : (seed names k : ℕ) → k ≤ names → IsOwner (made_zone seed names) (made_owner k)
 owner_at seed names zero small = (SOA_TYPE, (soa_data, has_soa seed names))
-owner_at seed names (suc i) small = (type_in (turn_at i), (data_in (turn_at i) seed i, has_named seed names i (omega (arith, small))))
+owner_at seed names (suc i) small = (type_in (kind_at i), (data_in (kind_at i) seed i, has_named seed names i (omega (arith, small))))
 
 -- the owners are live: no cut is above them, and there is no DNAME
 pub live_at : (seed names k : ℕ) → names ≤ 1000000 → k ≤ names → IsLive (made_zone seed names) (made_owner k)

@@ -6,7 +6,7 @@ use Rattle.dname.specs.Name.{Label, without_asterisk, wire_of}
 use Rattle.dname.specs.declared.types.TheConstants.{A_TYPE, NSEC_TYPE, RRSIG_TYPE, SOA_TYPE}
 use Rattle.dnswire.specs.Message.{IsMessage}
 use Rattle.dnswire.specs.declared.message.Message.{Message}
-use Rattle.zone_maker.specs.Made.{made_example, Turn, Host, Above, Cut, Wild, turn_at, address_at, soa_data, made_owner, next_owner}
+use Rattle.zone_maker.specs.Made.{made_example, NameKind, Host, Above, Cut, Wild, kind_at, address_at, soa_data, made_owner, next_owner}
 use Rattle.zone_maker.specs.Messages.{header_octets, question_octets, record_octets, signature_data, signed_octets, first_of, type_map, nsec_data, answer_in, answers_in, answer_of, answers_of, message_flags, message_at}
 use Rattle.made_laws.proofs.WrittenLemmas.{IsPlain, nothing, the_rest, name_then, laid_none, laid_rest, laid_numbers, laid_name, IsWritten, Written, octets_in, AreWritten}
 use Rattle.made_laws.proofs.PlainLemmas.{plain_apex, plain_owner, plain_next}
@@ -21,7 +21,7 @@ written_as owner rtype rdata = record { owner = owner; rtype = rtype; rdata = rd
 abbrev pub signed : List Label → ℕ → List ℕ → List Written
 signed owner rtype rdata = written_as owner rtype rdata ∷ written_as owner RRSIG_TYPE (signature_data owner rtype) ∷ []
 
-abbrev pub answer_for : Turn → ℕ → ℕ → List Written
+abbrev pub answer_for : NameKind → ℕ → ℕ → List Written
 answer_for Host seed i = []
 answer_for Above seed i = []
 answer_for Cut seed i = []
@@ -29,7 +29,7 @@ answer_for Wild seed i = signed (made_owner (suc i)) A_TYPE (address_at seed i)
 
 abbrev pub answer_at : ℕ → ℕ → List Written
 answer_at seed zero = []
-answer_at seed (suc i) = answer_for (turn_at i) seed i
+answer_at seed (suc i) = answer_for (kind_at i) seed i
 
 abbrev pub authority_at : ℕ → ℕ → List Written
 authority_at names k = signed made_example SOA_TYPE soa_data ++ signed (made_owner k) NSEC_TYPE (nsec_data names k)
@@ -80,7 +80,7 @@ nsec_written names k small = record {
   laid = laid_name (next_owner names k) (type_map (first_of k)) the_rest (plain_next names k small) (laid_rest (type_map (first_of k)));
 }
 
-answer_written : (turn : Turn) (seed i : ℕ) → AreWritten (answer_for turn seed i)
+answer_written : (kind : NameKind) (seed i : ℕ) → AreWritten (answer_for kind seed i)
 answer_written Host seed i = tt
 answer_written Above seed i = tt
 answer_written Cut seed i = tt
@@ -88,7 +88,7 @@ answer_written Wild seed i = (address_written (made_owner (suc i)) seed i (plain
 
 answer_all_written : (seed k : ℕ) → AreWritten (answer_at seed k)
 answer_all_written seed zero = tt
-answer_all_written seed (suc i) = answer_written (turn_at i) seed i
+answer_all_written seed (suc i) = answer_written (kind_at i) seed i
 
 authority_written : (names k : ℕ) → k ≤ names → AreWritten (authority_at names k)
 authority_written names k small = (soa_written, (signature_written made_example SOA_TYPE plain_apex, (nsec_written names k small, (signature_written (made_owner k) NSEC_TYPE (plain_owner k), tt))))
@@ -98,7 +98,7 @@ authority_written names k small = (soa_written, (signature_written made_example 
 two_octets : (owner : List Label) (rtype : ℕ) (rdata : List ℕ) → signed_octets owner rtype rdata ≡ octets_in (signed owner rtype rdata)
 two_octets owner rtype rdata = ap (λ l. record_octets owner rtype rdata ++ l) (sym (append-nil (record_octets owner RRSIG_TYPE (signature_data owner rtype))))
 
-answer_octets : (turn : Turn) (seed i : ℕ) → answer_in turn seed i ≡ octets_in (answer_for turn seed i)
+answer_octets : (kind : NameKind) (seed i : ℕ) → answer_in kind seed i ≡ octets_in (answer_for kind seed i)
 answer_octets Host seed i = refl
 answer_octets Above seed i = refl
 answer_octets Cut seed i = refl
@@ -106,9 +106,9 @@ answer_octets Wild seed i = two_octets (made_owner (suc i)) A_TYPE (address_at s
 
 answer_all_octets : (seed k : ℕ) → answer_of seed k ≡ octets_in (answer_at seed k)
 answer_all_octets seed zero = refl
-answer_all_octets seed (suc i) = answer_octets (turn_at i) seed i
+answer_all_octets seed (suc i) = answer_octets (kind_at i) seed i
 
-answer_count : (turn : Turn) (seed i : ℕ) → answers_in turn ≡ length (answer_for turn seed i)
+answer_count : (kind : NameKind) (seed i : ℕ) → answers_in kind ≡ length (answer_for kind seed i)
 answer_count Host seed i = refl
 answer_count Above seed i = refl
 answer_count Cut seed i = refl
@@ -116,9 +116,9 @@ answer_count Wild seed i = refl
 
 answer_all_count : (seed k : ℕ) → answers_of k ≡ length (answer_at seed k)
 answer_all_count seed zero = refl
-answer_all_count seed (suc i) = answer_count (turn_at i) seed i
+answer_all_count seed (suc i) = answer_count (kind_at i) seed i
 
-few_answers : (turn : Turn) (seed i : ℕ) → length (answer_for turn seed i) ≤ 2
+few_answers : (kind : NameKind) (seed i : ℕ) → length (answer_for kind seed i) ≤ 2
 few_answers Host seed i = omega arith
 few_answers Above seed i = omega arith
 few_answers Cut seed i = omega arith
@@ -126,7 +126,7 @@ few_answers Wild seed i = omega arith
 
 few_all_answers : (seed k : ℕ) → length (answer_at seed k) ≤ 2
 few_all_answers seed zero = omega arith
-few_all_answers seed (suc i) = few_answers (turn_at i) seed i
+few_all_answers seed (suc i) = few_answers (kind_at i) seed i
 
 authority_octets : (names k : ℕ) → signed_octets made_example SOA_TYPE soa_data ++ signed_octets (made_owner k) NSEC_TYPE (nsec_data names k) ≡ octets_in (authority_at names k)
 authority_octets names k =

@@ -39,7 +39,7 @@ use Rattle.intake.specs.declared.taken.Taken.{Taken}
 use Rattle.intake.proofs.GroupLemmas.{together}
 use Rattle.dnswire.proofs.MessageLemmas.{one_message}
 use Rattle.intake.proofs.StoredLemmas.{nsec_same}
-use Rattle.zone_maker.specs.Made.{made_example, Turn, Host, Above, Cut, Wild, turn_at, type_in, data_in, address_at, soa_data, made_zone, made_owner, next_owner}
+use Rattle.zone_maker.specs.Made.{made_example, NameKind, Host, Above, Cut, Wild, kind_at, type_in, data_in, address_at, soa_data, made_zone, made_owner, next_owner}
 use Rattle.zone_maker.specs.Messages.{signature_data, first_in, first_of, type_map, nsec_data, message_at, messages_of}
 use Rattle.made_laws.specs.MadeNsec.{types_at}
 use Rattle.made_laws.proofs.RecordLemmas.{at_number}
@@ -55,7 +55,7 @@ pub data IsOne (seed names k : ℕ) (rr : Rr) : Type 0 where
   signing : (covered : ℕ) → rr.rtype ≡ RRSIG_TYPE → rr.octets ≡ signature_data rr.owner covered → IsOne seed names k rr
   of_soa : rr ≡ rr_of made_example SOA_TYPE soa_data → IsOne seed names k rr
   of_nsec : rr ≡ rr_of (made_owner k) NSEC_TYPE (nsec_data names k) → IsOne seed names k rr
-  of_wildcard : (i : ℕ) → k ≡ suc i → turn_at i ≡ Wild → rr ≡ rr_of (made_owner (suc i)) A_TYPE (address_at seed i) → IsOne seed names k rr
+  of_wildcard : (i : ℕ) → k ≡ suc i → kind_at i ≡ Wild → rr ≡ rr_of (made_owner (suc i)) A_TYPE (address_at seed i) → IsOne seed names k rr
 
 module _ (seed names k : ℕ) where
   abbrev One : Rr → Type 0
@@ -64,7 +64,7 @@ module _ (seed names k : ℕ) where
   signature_one : (owner : List Label) (covered : ℕ) → One (rr_of owner RRSIG_TYPE (signature_data owner covered))
   signature_one owner covered = signing covered refl refl
 
-  answer_one : (turn : Turn) (i : ℕ) → k ≡ suc i → turn_at i ≡ turn → All One (map rr_in (answer_for turn seed i))
+  answer_one : (kind : NameKind) (i : ℕ) → k ≡ suc i → kind_at i ≡ kind → All One (map rr_in (answer_for kind seed i))
   answer_one Host i is at = All-nil One
   answer_one Above i is at = All-nil One
   answer_one Cut i is at = All-nil One
@@ -75,7 +75,7 @@ module _ (seed names k : ℕ) where
 
   answer_all_one : (n : ℕ) → k ≡ n → All One (map rr_in (answer_at seed n))
   answer_all_one zero is = All-nil One
-  answer_all_one (suc i) is = answer_one (turn_at i) i is refl
+  answer_all_one (suc i) is = answer_one (kind_at i) i is refl
 
   authority_one : All One (map rr_in (authority_at names k))
   authority_one =
@@ -198,7 +198,7 @@ group_data seed names k now rrs rr all in' plain octets = (
 -- ---- what a group is stored as
 
 -- the data of an NSEC reads as the next owner and the types
-block_types : (turn : Turn) → type_in turn ∷ RRSIG_TYPE ∷ NSEC_TYPE ∷ [] ≡ types_of (record { window = 0; bitmap = first_in turn ∷ 0 ∷ 0 ∷ 0 ∷ 0 ∷ 3 ∷ [] } ∷ [])
+block_types : (kind : NameKind) → type_in kind ∷ RRSIG_TYPE ∷ NSEC_TYPE ∷ [] ≡ types_of (record { window = 0; bitmap = first_in kind ∷ 0 ∷ 0 ∷ 0 ∷ 0 ∷ 3 ∷ [] } ∷ [])
 block_types Host = refl
 block_types Above = refl
 block_types Cut = refl
@@ -206,7 +206,7 @@ block_types Wild = refl
 
 map_types : (k : ℕ) → types_at k ≡ types_of (record { window = 0; bitmap = first_of k ∷ 0 ∷ 0 ∷ 0 ∷ 0 ∷ 3 ∷ [] } ∷ [])
 map_types zero = refl
-map_types (suc i) = block_types (turn_at i)
+map_types (suc i) = block_types (kind_at i)
 
 pub is_map : (k : ℕ) → IsTypeMap (type_map (first_of k)) (types_at k)
 is_map k = record {
@@ -236,7 +236,7 @@ module _ (seed names k now : ℕ) (few : names ≤ 1000000) (small : k ≤ names
   denial : (rtype : ℕ) → rtype ≡ NSEC_TYPE → is_denial_type rtype ≡ false → ⊥
   denial rtype is plain = let e = ap is_denial_type is in cc
 
-  not_wildcard_cut : (i : ℕ) → turn_at i ≡ Wild → turn_at i ≡ Cut → ⊥
+  not_wildcard_cut : (i : ℕ) → kind_at i ≡ Wild → kind_at i ≡ Cut → ⊥
   not_wildcard_cut i wild cut = cc
 
   same_part : (zone owner zone' owner' : List Label) (rtype rtype' : ℕ) (items items' : List (List ℕ)) → zone ≡ zone' → owner ≡ owner' → rtype ≡ rtype' → items ≡ items'
@@ -255,10 +255,10 @@ module _ (seed names k now : ℕ) (few : names ≤ 1000000) (small : k ≤ names
   set_true rr set (of_wildcard i n at is) plain in' stored =
       let kept = kept_as seed names k now rrs rr all set.zone set.owner set.life stored.kept in
       let items = group_data seed names k now rrs rr all in' plain in
-      let rtype : type_in (turn_at i) ≡ A_TYPE = ap type_in at in
-      let data' : data_in (turn_at i) seed i ≡ address_at seed i = ap (λ t. data_in t seed i) at in
+      let rtype : type_in (kind_at i) ≡ A_TYPE = ap type_in at in
+      let data' : data_in (kind_at i) seed i ≡ address_at seed i = ap (λ t. data_in t seed i) at in
       subst (IsConsistentSet (made_zone seed names))
-      (sym (same_part set.zone set.owner made_example (made_owner (suc i)) set.rtype (type_in (turn_at i)) set.items (group_of now rrs rr).items kept.0 (kept.1 ∙ ap (λ (r : Rr). r.owner) is) (stored.rtype_is ∙ ap (λ (r : Rr). r.rtype) is ∙ sym rtype) stored.items_are))
+      (sym (same_part set.zone set.owner made_example (made_owner (suc i)) set.rtype (type_in (kind_at i)) set.items (group_of now rrs rr).items kept.0 (kept.1 ∙ ap (λ (r : Rr). r.owner) is) (stored.rtype_is ∙ ap (λ (r : Rr). r.rtype) is ∙ sym rtype) stored.items_are))
       (named_true seed names i (group_of now rrs rr).items few (omega (arith, n, small)) (not_wildcard_cut i at) (subst (λ d. HasOnly (group_of now rrs rr).items d) (ap (λ (r : Rr). r.octets) is ∙ sym data') items))
 
   same_nsec_part : (zone owner next zone' owner' next' : List Label) (types types' : List ℕ) → zone ≡ zone' → owner ≡ owner' → next ≡ next' → types ≡ types'

@@ -13,7 +13,7 @@ use Rattle.dname.specs.declared.types.TheConstants.{NS_TYPE, NSEC_TYPE, RRSIG_TY
 use Rattle.zone_meaning.specs.Zone.{ZoneRecord, HasData, HasType, IsCut, IsLive, IsProofType}
 use Rattle.zone_meaning.specs.ZoneTable.{zone_record}
 use Rattle.zone_meaning.specs.Consistent.{IsConsistentSet, IsConsistentNsec}
-use Rattle.zone_maker.specs.Made.{made_example, name_at, Cut, turn_at, owner_in, type_in, data_in, soa_data, made_zone, made_owner, next_owner}
+use Rattle.zone_maker.specs.Made.{made_example, name_at, Cut, kind_at, owner_in, type_in, data_in, soa_data, made_zone, made_owner, next_owner}
 use Rattle.made_laws.specs.MadeNsec.{types_at, nsec_at}
 use Rattle.zone_maker.proofs.NameLemmas.{label_at}
 use Rattle.made_laws.proofs.OrderLemmas.{owner_is_no_apex, owners_rise}
@@ -33,16 +33,16 @@ type_there seed names zero rtype few small has = by (made_record seed names (zon
     by : IsMade seed names (zone_record made_example rtype has.0) → Contains (types_at 0) rtype
     by (soa e) = one_of (types_at 0) rtype SOA_TYPE (ap (λ (r : ZoneRecord). r.rtype) e) (there NS_TYPE (SOA_TYPE ∷ RRSIG_TYPE ∷ NSEC_TYPE ∷ []) SOA_TYPE (here SOA_TYPE (RRSIG_TYPE ∷ NSEC_TYPE ∷ [])))
     by (servers e) = one_of (types_at 0) rtype NS_TYPE (ap (λ (r : ZoneRecord). r.rtype) e) (here NS_TYPE (SOA_TYPE ∷ RRSIG_TYPE ∷ NSEC_TYPE ∷ []))
-    by (named i short e) = absurd (owner_is_no_apex (turn_at i) (label_at i) (sym (ap (λ (r : ZoneRecord). r.owner) e)))
+    by (named i short e) = absurd (owner_is_no_apex (kind_at i) (label_at i) (sym (ap (λ (r : ZoneRecord). r.owner) e)))
 type_there seed names (suc i) rtype few small has = by (made_record seed names (zone_record (made_owner (suc i)) rtype has.0) has.1)
   where
     by : IsMade seed names (zone_record (made_owner (suc i)) rtype has.0) → Contains (types_at (suc i)) rtype
-    by (soa e) = absurd (owner_is_no_apex (turn_at i) (label_at i) (ap (λ (r : ZoneRecord). r.owner) e))
-    by (servers e) = absurd (owner_is_no_apex (turn_at i) (label_at i) (ap (λ (r : ZoneRecord). r.owner) e))
+    by (soa e) = absurd (owner_is_no_apex (kind_at i) (label_at i) (ap (λ (r : ZoneRecord). r.owner) e))
+    by (servers e) = absurd (owner_is_no_apex (kind_at i) (label_at i) (ap (λ (r : ZoneRecord). r.owner) e))
     by (named j short e) =
         let same : suc i ≡ suc j = one_owner (suc i) (suc j) (omega (arith, few, small)) (omega (arith, few, short)) (ap (λ (r : ZoneRecord). r.owner) e) in
         let one : j ≡ i = omega (arith, same) in
-        one_of (types_at (suc i)) rtype (type_in (turn_at i)) (ap (λ (r : ZoneRecord). r.rtype) e ∙ ap (λ n. type_in (turn_at n)) one) (here (type_in (turn_at i)) (RRSIG_TYPE ∷ NSEC_TYPE ∷ []))
+        one_of (types_at (suc i)) rtype (type_in (kind_at i)) (ap (λ (r : ZoneRecord). r.rtype) e ∙ ap (λ n. type_in (kind_at n)) one) (here (type_in (kind_at i)) (RRSIG_TYPE ∷ NSEC_TYPE ∷ []))
 
 proof_types : (rtype : ℕ) → Contains (RRSIG_TYPE ∷ NSEC_TYPE ∷ []) rtype → IsProofType rtype
 proof_types rtype in' = ⊎_elim
@@ -62,9 +62,9 @@ there_type seed names zero rtype small ordinary in' = ⊎_elim
     (here_or_there SOA_TYPE (RRSIG_TYPE ∷ NSEC_TYPE ∷ []) rtype more))
     (here_or_there NS_TYPE (SOA_TYPE ∷ RRSIG_TYPE ∷ NSEC_TYPE ∷ []) rtype in')
 there_type seed names (suc i) rtype small ordinary in' = ⊎_elim
-    (λ (first : type_in (turn_at i) ≡ rtype). subst (λ t. HasType (made_zone seed names) (made_owner (suc i)) t) first (_, has_named seed names i (omega (arith, small))))
+    (λ (first : type_in (kind_at i) ≡ rtype). subst (λ t. HasType (made_zone seed names) (made_owner (suc i)) t) first (_, has_named seed names i (omega (arith, small))))
     (λ (others : Contains (RRSIG_TYPE ∷ NSEC_TYPE ∷ []) rtype). absurd (ordinary (proof_types rtype others)))
-    (here_or_there (type_in (turn_at i)) (RRSIG_TYPE ∷ NSEC_TYPE ∷ []) rtype in')
+    (here_or_there (type_in (kind_at i)) (RRSIG_TYPE ∷ NSEC_TYPE ∷ []) rtype in')
 
 -- ---- NSEC records
 
@@ -128,34 +128,34 @@ soa_true seed names items few only = record {
     by : (octets : List ℕ) → IsMade seed names (zone_record made_example SOA_TYPE octets) → octets ≡ soa_data
     by octets (soa e) = ap (λ (r : ZoneRecord). r.octets) e
     by octets (servers e) = absurd (omega (arith, ap (λ (r : ZoneRecord). r.rtype) e))
-    by octets (named i short e) = absurd (owner_is_no_apex (turn_at i) (label_at i) (sym (ap (λ (r : ZoneRecord). r.owner) e)))
+    by octets (named i short e) = absurd (owner_is_no_apex (kind_at i) (label_at i) (sym (ap (λ (r : ZoneRecord). r.owner) e)))
 
 -- the set of a name that is no cut
-pub named_true : (seed names i : ℕ) (items : List (List ℕ)) → names ≤ 1000000 → i < names → (turn_at i ≡ Cut → ⊥) → HasOnly items (data_in (turn_at i) seed i)
-    → IsConsistentSet (made_zone seed names) (record { zone = made_example; owner = made_owner (suc i); rtype = type_in (turn_at i); items = items })
+pub named_true : (seed names i : ℕ) (items : List (List ℕ)) → names ≤ 1000000 → i < names → (kind_at i ≡ Cut → ⊥) → HasOnly items (data_in (kind_at i) seed i)
+    → IsConsistentSet (made_zone seed names) (record { zone = made_example; owner = made_owner (suc i); rtype = type_in (kind_at i); items = items })
 named_true seed names i items few short no_cut only = record {
   apex = refl;
   data_there = λ octets. (
-    λ in'. subst (λ d. HasData (made_zone seed names) (made_owner (suc i)) (type_in (turn_at i)) d) (sym ((only octets).0 in')) (has_named seed names i short),
-    λ has. (only octets).1 (by octets (made_record seed names (zone_record (made_owner (suc i)) (type_in (turn_at i)) octets) has)),
+    λ in'. subst (λ d. HasData (made_zone seed names) (made_owner (suc i)) (type_in (kind_at i)) d) (sym ((only octets).0 in')) (has_named seed names i short),
+    λ has. (only octets).1 (by octets (made_record seed names (zone_record (made_owner (suc i)) (type_in (kind_at i)) octets) has)),
   );
-  not_empty = not_empty items (data_in (turn_at i) seed i) only;
+  not_empty = not_empty items (data_in (kind_at i) seed i) only;
   live = live_at seed names (suc i) few (omega (arith, short));
   authority = λ cut. absurd (at_cut cut);
 }
   where
-    by : (octets : List ℕ) → IsMade seed names (zone_record (made_owner (suc i)) (type_in (turn_at i)) octets) → octets ≡ data_in (turn_at i) seed i
-    by octets (soa e) = absurd (owner_is_no_apex (turn_at i) (label_at i) (ap (λ (r : ZoneRecord). r.owner) e))
-    by octets (servers e) = absurd (owner_is_no_apex (turn_at i) (label_at i) (ap (λ (r : ZoneRecord). r.owner) e))
+    by : (octets : List ℕ) → IsMade seed names (zone_record (made_owner (suc i)) (type_in (kind_at i)) octets) → octets ≡ data_in (kind_at i) seed i
+    by octets (soa e) = absurd (owner_is_no_apex (kind_at i) (label_at i) (ap (λ (r : ZoneRecord). r.owner) e))
+    by octets (servers e) = absurd (owner_is_no_apex (kind_at i) (label_at i) (ap (λ (r : ZoneRecord). r.owner) e))
     by octets (named j within e) =
         let same : suc i ≡ suc j = one_owner (suc i) (suc j) (omega (arith, few, short)) (omega (arith, few, within)) (ap (λ (r : ZoneRecord). r.owner) e) in
         let one : j ≡ i = omega (arith, same) in
-        ap (λ (r : ZoneRecord). r.octets) e ∙ ap (λ n. data_in (turn_at n) seed n) one
+        ap (λ (r : ZoneRecord). r.octets) e ∙ ap (λ n. data_in (kind_at n) seed n) one
 
     at_cut : IsCut (made_zone seed names) (made_owner (suc i)) → ⊥
     at_cut cut =
         let c = cut_has_number seed names (made_owner (suc i)) cut in
-        let at : owner_in (turn_at c.number) (name_at c.number) ≡ name_at c.number = ap (λ t. owner_in t (name_at c.number)) c.turn_is in
+        let at : owner_in (kind_at c.number) (name_at c.number) ≡ name_at c.number = ap (λ t. owner_in t (name_at c.number)) c.turn_is in
         let same : suc i ≡ suc c.number = one_owner (suc i) (suc c.number) (omega (arith, few, short)) (omega (arith, few, c.short)) (c.name_is ∙ sym at) in
         let one : i ≡ c.number = omega (arith, same) in
-        no_cut (ap turn_at one ∙ c.turn_is)
+        no_cut (ap kind_at one ∙ c.turn_is)

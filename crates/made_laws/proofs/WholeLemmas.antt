@@ -15,7 +15,7 @@ use Rattle.intake.specs.Group.{Group, is_together, is_rrsig, group_of, groups_of
 use Rattle.intake.specs.Stored.{IsStored}
 use Rattle.intake.specs.Batch.{IsTakenAs, Gives}
 use Rattle.intake.specs.declared.taken.Taken.{Taken}
-use Rattle.zone_maker.specs.Made.{made_example, Wild, turn_at, address_at, soa_data, made_owner}
+use Rattle.zone_maker.specs.Made.{made_example, Wild, kind_at, address_at, soa_data, made_owner}
 use Rattle.zone_maker.specs.Messages.{signature_data, nsec_data, message_at}
 use Rattle.made_laws.proofs.WrittenLemmas.{rr_of, rr_in}
 use Rattle.made_laws.proofs.SectionLemmas.{answer_for, answer_at, made_message, made_reads}
@@ -92,11 +92,11 @@ module _ (seed names k now : ℕ) (small : k ≤ names) (early : now < 200000000
   }
 
   -- what the answer of a wildcard has
-  in_answer : (i : ℕ) (rr : Rr) → k ≡ suc i → turn_at i ≡ Wild → Contains (map rr_in (answer_for Wild seed i)) rr → Contains records rr
+  in_answer : (i : ℕ) (rr : Rr) → k ≡ suc i → kind_at i ≡ Wild → Contains (map rr_in (answer_for Wild seed i)) rr → Contains records rr
   in_answer i rr is at in' = Contains-append_left (made_message seed names k).answer authority rr
       (subst (λ n. Contains (map rr_in (answer_at seed n)) rr) (sym is) (subst (λ t. Contains (map rr_in (answer_for t seed i)) rr) (sym at) in'))
 
-  wildcard_signed : (i : ℕ) → k ≡ suc i → turn_at i ≡ Wild → IsSignedHere (made_owner (suc i)) A_TYPE (address_at seed i)
+  wildcard_signed : (i : ℕ) → k ≡ suc i → kind_at i ≡ Wild → IsSignedHere (made_owner (suc i)) A_TYPE (address_at seed i)
   wildcard_signed i is at =
       let w : Rr = rr_of (made_owner (suc i)) A_TYPE (address_at seed i) in
       let s : Rr = rr_of (made_owner (suc i)) RRSIG_TYPE (signature_data (made_owner (suc i)) A_TYPE) in

@@ -1,7 +1,8 @@
 //! The spans of a chain, found by search: arcs on the ring that an order makes of its keys, no two of which meet.
 //!
 //! An arc, and when two meet, are `dname`'s (`specs/Arc.antt`). Of this crate's specs read `specs/Arcs.antt`,
-//! `specs/Place.antt`, and `specs/Marks.antt` for the numbers by which names and hashes are sought.
+//! `specs/Place.antt`, and `specs/Marks.antt` for the numbers by which names and hashes are sought. No public clause cites
+//! `Steps`.
 #![tactic(auto)]
 
 mod arcs;

@@ -1,4 +1,4 @@
--- The orders in which a store keeps its records and zones.
+-- No public clause cites this module: the orders in which a store keeps its records and zones.
 use Rattle.std.specs.Prelude.{◌≡◌, ◌<◌}
 use Rattle.std.specs.Ordering.{nat_cmp, ordering_then}
 use Rattle.std.specs.Cmp.{IsTotalOrder}

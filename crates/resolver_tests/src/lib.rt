@@ -8,8 +8,6 @@ mod records;
 #[cfg(test)]
 mod shared;
 #[cfg(test)]
-mod waiting;
-#[cfg(test)]
 mod worked_cases;
 #[cfg(test)]
 mod zones_of_rfcs;

@@ -2,6 +2,7 @@ pub mod Spelled
 pub mod Clauses
 pub mod Replies
 pub mod Findings
+pub mod Line
 pub mod Upheld
 pub mod Version
 pub mod Pairs

@@ -1,8 +1,8 @@
 //! An audit of a recorded run: whether its output fits its input, if not, by which clause, and whether a zone is as each record
-//! says that a reply uses.
+//! says that a reply uses. And the line that is printed for what it finds.
 //!
-//! Of this crate's specs read `Spelled`, `Clauses`, `Replies`, `Findings` and `Upheld`, in this order; the others serve the
-//! inner steps.
+//! Of this crate's specs read `Spelled`, `Clauses`, `Replies`, `Findings`, `Line` and `Upheld`, in this order; `Version`, `Pairs`,
+//! `Order`, `Faults`, `Answering` and `First` serve the inner steps.
 #![tactic(auto)]
 
 mod answering;
@@ -14,6 +14,7 @@ mod fault;
 mod fault_at;
 mod finding;
 mod laws;
+mod line;
 mod order;
 mod pair;
 mod pair_check;
@@ -25,3 +26,4 @@ pub use auditing::audit;
 pub use clause::Clause;
 pub use finding::Finding;
 pub use laws::{clauses_say_fit, yes_is_upheld};
+pub use line::finding_line;

@@ -2,4 +2,6 @@
 #![tactic(auto)]
 
 #[cfg(test)]
+mod line;
+#[cfg(test)]
 mod runs;

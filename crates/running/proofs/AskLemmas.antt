@@ -3,9 +3,9 @@ use Rattle.std.proofs.Common.{◌≡◌, ℕ, List, Option, None, Some, refl, sy
 use Rattle.std.specs.Prelude.{String}
 use Rattle.std.specs.declared.alloc.Global.{Global}
 use Rattle.std.proofs.lemmas.Option.{none-some, same_Some}
-use Rattle.alias_chain.specs.declared.rule.Rule.TheVariants.{Aliases, Redirection, Both}
-use Rattle.worker_seats.specs.declared.answering.Answering.{Answering}
-use Rattle.worker_seats.specs.declared.answering.Answering.TheVariants.{ByProof, ByWalk}
+use Rattle.resolver.specs.declared.rule.Rule.TheVariants.{Aliases, Redirection, Both}
+use Rattle.resolver.specs.declared.answering.Answering.{Answering}
+use Rattle.resolver.specs.declared.answering.Answering.TheVariants.{ByProof, ByWalk}
 use Rattle.command_line.specs.Words.{AreWordsOf}
 use Rattle.command_line.specs.declared.command.Command.{Command}
 use Rattle.command_line.specs.declared.command.Command.TheVariants.{Replay, Selfrun, Serve, Chase, Redirect, Follow, Tcp, Audit}

@@ -6,7 +6,7 @@ use Rattle.std.proofs.lemmas.Option.{same_Some}
 use Rattle.outside_core.specs.Told.{append_told, prepend_told}
 use Rattle.run_audit.specs.declared.finding.Finding.{Finding}
 use Rattle.run_audit.specs.declared.finding.Finding.TheVariants.{Yes, Unfit, Record, Clash}
-use Rattle.audit_source.specs.Line.{finding_line}
+use Rattle.run_audit.specs.Line.{finding_line}
 use Rattle.audit_source.specs.Source.{IsFaultOf}
 use Rattle.audit_source.specs.declared.source_fault.SourceFault.{SourceFault}
 use Rattle.audit_source.specs.declared.source_fault.SourceFault.TheVariants.{OutOfMemory}

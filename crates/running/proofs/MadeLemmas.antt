@@ -9,7 +9,7 @@ use Rattle.std.proofs.lemmas.List.FromFn.{length-map-range_with_len, map-range_w
 use Rattle.byteorder.specs.Endian.{big_bytes}
 use Rattle.dname.specs.Name.{Label, wire_of}
 use Rattle.dname.specs.declared.types.TheConstants.{A_TYPE, IN_CLASS, NSEC_TYPE, RRSIG_TYPE, SOA_TYPE}
-use Rattle.zone_maker.specs.Made.{Turn, Host, Above, Cut, Wild, turn_at, name_at, owner_in, made_owner, next_owner, made_example, soa_data, address_at}
+use Rattle.zone_maker.specs.Made.{NameKind, Host, Above, Cut, Wild, kind_at, name_at, owner_in, made_owner, next_owner, made_example, soa_data, address_at}
 use Rattle.zone_maker.specs.Messages.{header_octets, question_octets, record_octets, signature_data, signed_octets, answer_in, answer_of, answers_of, nsec_data, type_map, first_of, message_flags, message_at, messages_of}
 use Rattle.zone_maker.specs.Questions.{asked_first, asked_second, asked_at, asked_number, opt_octets, query_at}
 use Rattle.replay_meaning.specs.Frame.{Input, IsInput, input_spelling, inputs_spelling}
@@ -29,7 +29,7 @@ use Rattle.running.specs.Summary.{IsMadeSummary, summary}
 Short : List Label → Type 0
 Short name = length (wire_of name) ≤ 25
 
-owner_short : (turn : Turn) (i : ℕ) → Short (owner_in turn (name_at i))
+owner_short : (kind : NameKind) (i : ℕ) → Short (owner_in kind (name_at i))
 unfolding Short
 owner_short Host i = omega arith
 owner_short Above i = omega arith
@@ -39,20 +39,20 @@ owner_short Wild i = omega arith
 made_short : (k : ℕ) → Short (made_owner k)
 unfolding Short
 made_short zero = omega arith
-made_short (suc i) = owner_short (turn_at i) i
+made_short (suc i) = owner_short (kind_at i) i
 
 either_short : (b : Bool) (name name' : List Label) → Short name → Short name' → Short (if b then name else name')
 either_short true name name' short short' = short
 either_short false name name' short short' = short'
 
-first_short : (turn : Turn) (i : ℕ) → Short (asked_first turn (name_at i)).name
+first_short : (kind : NameKind) (i : ℕ) → Short (asked_first kind (name_at i)).name
 unfolding Short
 first_short Host i = omega arith
 first_short Above i = omega arith
 first_short Cut i = omega arith
 first_short Wild i = omega arith
 
-second_short : (turn : Turn) (i : ℕ) → Short (asked_second turn (name_at i)).name
+second_short : (kind : NameKind) (i : ℕ) → Short (asked_second kind (name_at i)).name
 unfolding Short
 second_short Host i = omega arith
 second_short Above i = omega arith
@@ -65,9 +65,9 @@ asked_short seed names j = by ((j / 4) % 2 == 0)
     i : ℕ
     i = asked_number seed names j
 
-    by : (b : Bool) → Short (if b then asked_first (turn_at i) (name_at i) else asked_second (turn_at i) (name_at i)).name
-    by true = first_short (turn_at i) i
-    by false = second_short (turn_at i) i
+    by : (b : Bool) → Short (if b then asked_first (kind_at i) (name_at i) else asked_second (kind_at i) (name_at i)).name
+    by true = first_short (kind_at i) i
+    by false = second_short (kind_at i) i
 
 -- ---- so messages and queries are
 
@@ -93,7 +93,7 @@ unfolding Short
 question_short name qtype short =
     omega (arith, length-append (wire_of name ++ big_bytes 2 qtype) (big_bytes 2 IN_CLASS), length-append (wire_of name) (big_bytes 2 qtype), short)
 
-answer_short : (turn : Turn) (seed i : ℕ) → turn ≡ turn_at i → length (answer_in turn seed i) ≤ 150
+answer_short : (kind : NameKind) (seed i : ℕ) → kind ≡ kind_at i → length (answer_in kind seed i) ≤ 150
 answer_short Host seed i is = omega arith
 answer_short Above seed i is = omega arith
 answer_short Cut seed i is = omega arith
@@ -101,7 +101,7 @@ answer_short Wild seed i is = signed_short (made_owner (suc i)) A_TYPE (address_
 
 answers_short : (seed k : ℕ) → length (answer_of seed k) ≤ 150
 answers_short seed zero = omega arith
-answers_short seed (suc i) = answer_short (turn_at i) seed i refl
+answers_short seed (suc i) = answer_short (kind_at i) seed i refl
 
 nsec_short : (names k : ℕ) → length (nsec_data names k) ≤ 33
 unfolding Short

@@ -8,7 +8,7 @@ use Rattle.replay_meaning.specs.Frame.{Input}
 use Rattle.replay_meaning.specs.Replay.{IsReplay, SpellsFrames}
 use Rattle.worker_seats.specs.Cuts.{Part, parts_of}
 use Rattle.worker_seats.specs.WalkReplay.{IsReplayBy}
-use Rattle.worker_seats.specs.declared.answering.Answering.{Answering}
+use Rattle.resolver.specs.declared.answering.Answering.{Answering}
 use Rattle.worker_seats.specs.Merge.{AreMerged, AreWritten, AreWrittenInPart, CanBeMerged}
 use Rattle.worker_seats.proofs.MergeLemmas.{one_can}
 use Rattle.running.specs.Run.{HasReplayed, IsCutShort, IsOfSelfrun, IsReplayed}

@@ -7,7 +7,7 @@ use Rattle.command_line.specs.Words.{Word, AreWordsOf, Means, texts}
 use Rattle.command_line.specs.declared.command.Command.{Command}
 use Rattle.command_line.specs.declared.command.Command.TheVariants.{Replay, Selfrun, Serve, Chase, Redirect, Follow, Tcp, Audit}
 use Rattle.command_line.proofs.CommandLemmas.{servable}
-use Rattle.server.specs.declared.service.Service.{Service}
+use Rattle.serving.specs.declared.service.Service.{Service}
 use Rattle.running.specs.Serve.{service_of}
 
 -- what was found is what the words mean

@@ -7,7 +7,7 @@ use Rattle.run_audit.specs.Spelled.{SpellInputs, SpellOutputs}
 use Rattle.run_audit.specs.Upheld.{IsUpheldRun}
 use Rattle.run_audit.specs.declared.finding.Finding.{Finding}
 use Rattle.run_audit.specs.declared.finding.Finding.TheVariants.{Yes, Unfit, Record, Clash}
-use Rattle.audit_source.specs.Line.{finding_line}
+use Rattle.run_audit.specs.Line.{finding_line}
 use Rattle.audit_source.specs.Source.{IsFaultOf, IsSourceOf}
 use Rattle.audit_source.specs.declared.source_fault.SourceFault.{SourceFault}
 use Rattle.running.specs.Run.{IsOfReplay, IsRefused, IsShort}

@@ -3,10 +3,10 @@ use Rattle.std.specs.Prelude.{◌≡◌, ℕ, ◌+◌, ◌<◌, ◌≤◌, ◌�
 use Rattle.std.specs.declared.alloc.Global.{Global}
 use Rattle.outside_core.specs.Told.{append_told, prepend_told}
 use Rattle.replay_meaning.specs.Replay.{AreFrames}
-use Rattle.alias_chain.specs.declared.rule.Rule.TheVariants.{Aliases, Redirection, Both}
+use Rattle.resolver.specs.declared.rule.Rule.TheVariants.{Aliases, Redirection, Both}
 use Rattle.worker_seats.specs.WalkReplay.{IsReplayBy}
-use Rattle.worker_seats.specs.declared.answering.Answering.{Answering}
-use Rattle.worker_seats.specs.declared.answering.Answering.TheVariants.{ByProof, ByWalk}
+use Rattle.resolver.specs.declared.answering.Answering.{Answering}
+use Rattle.resolver.specs.declared.answering.Answering.TheVariants.{ByProof, ByWalk}
 use Rattle.command_line.specs.Words.{AreWordsOf}
 use Rattle.command_line.specs.declared.command.Command.TheVariants.{Replay, Chase, Redirect, Follow}
 use Rattle.running.specs.declared.reading.TheConstants.{MAX_INPUT}

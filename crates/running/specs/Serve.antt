@@ -1,8 +1,8 @@
 -- What a run says by its status of the links that it served over.
 use Rattle.std.specs.Prelude.{◌≡◌, ℕ, ◌⊎◌, List, Option}
 use Rattle.outside_core.specs.Returned.{Returned}
-use Rattle.server.specs.declared.service.Service.{Service}
-use Rattle.server.specs.Back.{NoneServed, OneFailed, OneUnbound, ServedInWant}
+use Rattle.serving.specs.declared.service.Service.{Service}
+use Rattle.serving.specs.Back.{NoneServed, OneFailed, OneUnbound, ServedInWant}
 use Rattle.running.specs.declared.status.Status.{Status}
 use Rattle.running.specs.declared.status.Status.TheVariants.{Good, HarborFault, OutOfMemory}
 

@@ -2,16 +2,16 @@
 ghost use Rattle.std.specs.Prelude.{◌≡◌, ◌⊎◌, ◌<◌, ◌≤◌, ℕ, List, ◌++◌, length, IfOk, IfSome, IsErrOf, Some};
 ghost use Rattle.outside_core.specs.Fault.{Rose};
 ghost use Rattle.run_audit.specs.declared.finding.Finding.TheVariants.{Yes};
-ghost use Rattle.audit_source.specs.Line.{finding_line};
+ghost use Rattle.run_audit.specs.Line.{finding_line};
 ghost use Rattle.running.specs.Audit.{AreUpheld, AreUpheldAtYes, HasAudited, HasAuditedInPart, HasFound, IsAuditStatusOf, IsOfAudit, IsTooLong, IsUnaudited};
 ghost use Rattle.running.specs.Run.{HasGiven, IsRefused, IsReadTo};
 ghost use Rattle.running.specs.declared.reading.TheConstants.{MAX_INPUT, MAX_SOURCE};
 
 use crate::reading::{MAX_INPUT, MAX_SOURCE, ReadError, read_whole};
 use crate::status::Status;
-use audit_source::{SourceFault, finding_line, read_source};
+use audit_source::{SourceFault, read_source};
 use outside_core::{Sink, Source, write_whole};
-use run_audit::{AuditFault, Finding, audit};
+use run_audit::{AuditFault, Finding, audit, finding_line};
 use std::alloc::Global;
 
 /// Why octets that aren't too many have no finding.

@@ -5,12 +5,12 @@ ghost use Rattle.running.specs.Run.{AsksReplay, HasGiven, HasReplayed, IsReadOn,
 ghost use Rattle.running.specs.declared.reading.TheConstants.{MAX_INPUT, MAX_SOURCE};
 ghost use Rattle.running.specs.Summary.{IsSummed, IsSummedInPart};
 ghost use Rattle.command_line.specs.declared.command.Command.TheVariants.{Selfrun, Serve, Tcp, Audit};
-ghost use Rattle.worker_seats.specs.declared.answering.Answering.{Answering};
-ghost use Rattle.server.specs.Back.{CameBack, AllServedWhole};
+ghost use Rattle.resolver.specs.declared.answering.Answering.{Answering};
+ghost use Rattle.serving.specs.Back.{CameBack, AllServedWhole};
 ghost use Rattle.running.specs.Serve.{service_of, EndedInWant, IsOfServe, ServedInPart};
 ghost use Rattle.running.specs.Connections.{HasServed, HasServedInPart, IsOfTcp};
 ghost use Rattle.run_audit.specs.declared.finding.Finding.TheVariants.{Yes};
-ghost use Rattle.audit_source.specs.Line.{finding_line};
+ghost use Rattle.run_audit.specs.Line.{finding_line};
 ghost use Rattle.running.specs.Audit.{AreUpheld, HasAudited, HasAuditedInPart, IsAuditStatusOf, IsOfAudit, IsTooLong, IsUnaudited};
 
 use crate::audit::run_the_audit;
@@ -19,11 +19,11 @@ use crate::replay::replay;
 use crate::selfrun::selfrun;
 use crate::status::Status;
 use crate::tcp::run_tcp;
-use alias_chain::Rule;
 use command_line::{Command, command_of};
 use gateway::Gateway;
 use outside_core::{Clock, Gate, Harbor, Sink, Source, write_whole};
-use server::{ServeError, Service, serve};
+use resolver::Rule;
+use serving::{ServeError, Service, serve};
 use std::alloc::Global;
 use std::sync::Wait;
 use std::thread::Threads;
@@ -175,7 +175,7 @@ pub fn run<R: Threads + Wait + Sync, S: Source, K: Sink, G: Gate, H: Harbor, C: 
         → Rose (H.Harbor.faults harbor.old) (H.Harbor.faults harbor.new) }
     ensures no_harbor_fault { result ≡ Status.Good
         → H.Harbor.faults harbor.new ≡ H.Harbor.faults harbor.old }
-    ensures unmoored { ((listen upstream workers datagrams : ℕ)
+    ensures unbound { ((listen upstream workers datagrams : ℕ)
         → AreWordsOf words.now (Serve listen upstream workers datagrams) → ⊥)
         → harbor.new ≡ harbor.old }
 
@@ -377,7 +377,7 @@ fn run_replay<R: Threads + Wait + Sync, S: Source, K: Sink, G: Gate>(
 ) -> Status
     requires { (1 ≤ workers) × (workers ≤ 32) }
     ensures command { result ≡ Status.Usage → ⊥ }
-    ensures ashore { result ≡ Status.HarborFault → ⊥ }
+    ensures unbound { result ≡ Status.HarborFault → ⊥ }
     ensures unconnected { result ≡ Status.GatewayFault → ⊥ }
     ensures good { result ≡ Status.Good
         → IfSome (S.left source.old) (λ input.

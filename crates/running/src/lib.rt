@@ -2,7 +2,7 @@
 //! or connections on loopback; or an audit of a recorded run. `run` carries the headline, and the program calls it by `run_here`.
 //!
 //! Read `specs/Run.antt`, `Serve`, `Connections`, `Audit` and `Status`, then `Summary` and `Made`, then `Words` of `command_line`,
-//! and then the specs of `replay_meaning`, `server`, `stream_server`, `run_audit` and `audit_source`.
+//! and then the specs of `replay_meaning`, `serving`, `stream_server`, `run_audit` and `audit_source`.
 #![tactic(auto)]
 
 mod audit;

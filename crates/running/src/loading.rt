@@ -1,8 +1,7 @@
 //! Connections that are served from what frames have placed.
 ghost use Rattle.std.specs.Prelude.{◌≡◌, ◌<◌, ◌^◌, All, IfErr, IsErrOf, None, OnOk, Some, length};
-ghost use mathlib.Core.List.{IsPrefix};
-ghost use Rattle.cache_versions.specs.Seats.{IsSameSeat, seen_by};
-ghost use Rattle.resolver.specs.Caches.{IsSeatOf};
+ghost use Rattle.cache_versions.specs.Seats.{seen_by};
+ghost use Rattle.resolver.specs.Caches.{HasOnlyRead, IsSeatOf};
 ghost use Rattle.stream_server.specs.Served.{AreAllServed, CameBack, EndsEarly};
 ghost use Rattle.running.specs.Connections.{HasServedAfter, HasServedPartAfter};
 
@@ -72,9 +71,7 @@ fn listen_and_serve<R: Wait, W: Gateway, C: Clock>(
 ) -> Result<(), ConnectFault>
     requires seat { IsSeatOf cache.now seat.old }
     requires listens { W.Gateway.listens gateway.old ≡ None }
-    ensures object { IsSeatOf cache.now seat.new }
-    ensures same { IsSameSeat seat.old seat.new }
-    ensures begins { IsPrefix (seen_by seat.old) (seen_by seat.new) }
+    ensures read { HasOnlyRead cache.now seat.old seat.new }
     ensures listens { OnOk result (W.Gateway.listens gateway.new ≡ Some port) }
     ensures unfailed { OnOk result (W.Gateway.faults gateway.new ≡ W.Gateway.faults gateway.old) }
     ensures served { OnOk result (CameBack

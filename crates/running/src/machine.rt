@@ -5,11 +5,11 @@ ghost use Rattle.running.specs.Run.{AsksReplay, HasGiven, HasReplayed, IsReadOn,
 ghost use Rattle.running.specs.declared.reading.TheConstants.{MAX_INPUT, MAX_SOURCE};
 ghost use Rattle.running.specs.Summary.{IsSummed, IsSummedInPart};
 ghost use Rattle.command_line.specs.declared.command.Command.TheVariants.{Selfrun, Serve, Tcp, Audit};
-ghost use Rattle.worker_seats.specs.declared.answering.Answering.{Answering};
+ghost use Rattle.resolver.specs.declared.answering.Answering.{Answering};
 ghost use Rattle.running.specs.Serve.{IsOfServe};
 ghost use Rattle.running.specs.Connections.{IsOfTcp};
 ghost use Rattle.run_audit.specs.declared.finding.Finding.TheVariants.{Yes};
-ghost use Rattle.audit_source.specs.Line.{finding_line};
+ghost use Rattle.run_audit.specs.Line.{finding_line};
 ghost use Rattle.running.specs.Audit.{AreUpheld, HasAudited, HasAuditedInPart, IsAuditStatusOf, IsOfAudit, IsTooLong, IsUnaudited};
 
 use crate::commands::run;

@@ -12,8 +12,8 @@ use Rattle.reply_core.specs.Ask.{ask_octets}
 use Rattle.reply_core.specs.Error.{plain_octets}
 use Rattle.reply_core.specs.Relay.{relay_octets}
 use Rattle.reply_core.specs.declared.rcode.TheConstants.{SERVER_FAILURE}
-use Rattle.resolver.specs.Pending.{Entry, Slot, entry_of, relayed_of, sent_from, turn_at, with_entry, without_entry}
-use Rattle.resolver.specs.declared.action.Action.TheVariants.{Send, ServFail, Relay, Ignored}
+use Rattle.serving.specs.Pending.{Entry, Slot, entry_of, relayed_of, sent_from, turn_at, with_entry, without_entry}
+use Rattle.serving.specs.declared.action.Action.TheVariants.{Send, ServFail, Relay, Ignored}
 use Rattle.serving.specs.declared.deed.Deed.TheVariants as deeds
 use Rattle.serving.specs.declared.why.Why.TheVariants as whys
 use Rattle.serving.specs.Done.{IsDoneOf, asked, batch_in, done_as}

@@ -1,3 +1,5 @@
+pub mod LatestLemmas
+pub mod MarkLemmas
 pub mod DoneLemmas
 pub mod SoundLemmas
 pub mod EventLemmas
@@ -5,3 +7,7 @@ pub mod TurnLemmas
 pub mod WorkerLemmas
 pub mod LinkLemmas
 pub mod RoundLemmas
+pub mod NewLemmas
+pub mod BackLemmas
+pub mod EndedLemmas
+pub mod ServedLemmas

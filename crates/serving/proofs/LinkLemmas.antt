@@ -16,7 +16,7 @@ use Rattle.cache_versions.specs.declared.state.State.{Ghosts}
 use Rattle.cache_versions.specs.declared.seat.Seat.{Seat}
 use Rattle.cache_versions.specs.Seats.{places_by, seen_by}
 use Rattle.cache_versions.specs.Hands.{AreAllBelow, times}
-use Rattle.resolver.specs.Pending.{Slot, empty_table}
+use Rattle.serving.specs.Pending.{Slot, empty_table}
 use Rattle.outside_core.specs.Event.{received_by, received_in}
 use Rattle.outside_core.specs.Returned.{Returned}
 use Rattle.outside_core.specs.Fault.{Rose}

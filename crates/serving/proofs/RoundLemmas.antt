@@ -7,14 +7,14 @@ use Rattle.denial_records.specs.declared.batch.Batch.{Batch}
 use Rattle.cache_meaning.specs.Held.{Held}
 use Rattle.cache_versions.specs.declared.state.State.{Ghosts}
 use Rattle.cache_versions.specs.declared.seat.Seat.{Seat}
-use Rattle.resolver.specs.Pending.{Slot}
+use Rattle.serving.specs.Pending.{Slot}
 use Rattle.outside_core.specs.declared.datagram.Datagram.{Datagram}
 use Rattle.outside_core.specs.declared.event.Event.{Event}
 use Rattle.outside_core.specs.declared.event.Event.TheVariants.{Awaited, Found, Sent}
 use Rattle.outside_core.specs.Event.{received_by, received_in}
-use Rattle.serving.specs.declared.desk.Answer.{Answer}
+use Rattle.serving.specs.declared.workspace.Answer.{Answer}
 use Rattle.serving.specs.declared.serve_fault.ServeFault.TheVariants.{Link, OutOfMemory}
-use Rattle.serving.specs.AtWork.{DoesSome, Halts, HasDone, IsAtWork, IsSentInPart, WorksOn, came_as, due_of}
+use Rattle.serving.specs.AtWork.{DoesSome, Halts, HasDone, IsAtWork, IsSentInPart, WorkerState, WorksOn, came_as, due_of, state_of}
 use Rattle.serving.specs.Rounds.{Round, events_of, events_of_round, turns_in, turns_of_round}
 use Rattle.serving.specs.Serves.{DoesServe, IsUnmoved}
 use Rattle.serving.specs.Turn.{Turn, sent_by, sent_of}
@@ -113,20 +113,20 @@ module _ {g : Ghosts Held Batch (Unit {0})} where
 
   -- ---- the round
 
-  -- behind whole rounds the datagrams came and were done, and this is due
-  record IsInRound (n : ℕ) (moment : Option ℕ) (before after : Seat Held Batch (Unit {0}) g) (table' : List Slot) (events0 events : Option (List Event)) (came due' : List Datagram) : Type 0 where
+  -- behind whole rounds, after which the worker stood so, the datagrams came and were done, and this is due
+  record IsInRound (n : ℕ) (moment : Option ℕ) (before state after : WorkerState g) (came due' : List Datagram) : Type 0 where
     rounds : List Round
     many : length (turns_in rounds) ≡ n + length came
-    done : HasDone moment before after table' (turns_in rounds)
+    done : HasDone moment before.seat after.seat after.table (turns_in rounds)
     former : List Event
-    told : events ≡ more_told events0 former
+    told : state.events ≡ more_told before.events former
     whole : events_of rounds ≡ former ++ (came_as came ++ map Sent due')
     received : map datagram_in (turns_in rounds) ≡ received_in former ++ came
 
-  in_round : (n : ℕ) (moment : Option ℕ) (before seat after : Seat Held Batch (Unit {0}) g) (table table' : List Slot) (events0 events : Option (List Event)) (came due' : List Datagram)
-      → 1 ≤ length came → DoesSome moment seat after table table' came due' → IsAtWork n moment before seat table events0 events → IsInRound n moment before after table' events0 events came due'
-  in_round n moment before seat after table table' events0 events came due' some does at =
-      let new = does before (turns_in at.rounds) at.done in
+  in_round : (n : ℕ) (moment : Option ℕ) (before state after : WorkerState g) (came due' : List Datagram)
+      → 1 ≤ length came → DoesSome moment state.seat after.seat state.table after.table came due' → IsAtWork n moment before state → IsInRound n moment before state after came due'
+  in_round n moment before state after came due' some does at =
+      let new = does before.seat (turns_in at.rounds) at.done in
       let round = round_for new.more came due' new.datagrams_are new.due_is some in
       let rounds = at.rounds ++ round.0 ∷ [] in
       let turns : turns_in rounds ≡ turns_in at.rounds ++ new.more = flat_push turns_of_round at.rounds round.0 ∙ ap (λ l. turns_in at.rounds ++ l) round.1 in
@@ -134,46 +134,47 @@ module _ {g : Ghosts Held Batch (Unit {0})} where
       record {
         rounds = rounds;
         many = sym (length-map (turns_in rounds) datagram_in) ∙ ap length split ∙ length-append (map datagram_in (turns_in at.rounds)) came ∙ ap (λ k. k + length came) (length-map (turns_in at.rounds) datagram_in ∙ at.many);
-        done = subst (HasDone moment before after table') (sym turns) new.done;
+        done = subst (HasDone moment before.seat after.seat after.table) (sym turns) new.done;
         former = events_of at.rounds;
         told = at.events_are;
         whole = flat_push events_of_round at.rounds round.0 ∙ ap (λ l. events_of at.rounds ++ l) round.2;
         received = split ∙ ap (λ l. l ++ came) (sym (received_rounds at.rounds));
       }
 
-  pub round_done : (count : ℕ) (moment : Option ℕ) (seat after : Seat Held Batch (Unit {0}) g) (table table' : List Slot) (events events1 events2 : Option (List Event)) (came due' : List Datagram)
-      → length came ≡ count → 1 ≤ count → events1 ≡ more_told events (came_as came) → DoesSome moment seat after table table' came due' → events2 ≡ more_told events1 (map Sent due')
-      → WorksOn count moment seat after table table' events events2
-  round_done count moment seat after table table' events events1 events2 came due' many some came_is does sent_is = λ n before events0 at.
-      let here = in_round n moment before seat after table table' events0 events came due' (omega (arith, many, some)) does at in
+  pub round_done : (count : ℕ) (moment : Option ℕ) (state state' : WorkerState g) (events : Option (List Event)) (came due' : List Datagram)
+      → length came ≡ count → 1 ≤ count → events ≡ more_told state.events (came_as came) → DoesSome moment state.seat state'.seat state.table state'.table came due' → state'.events ≡ more_told events (map Sent due')
+      → WorksOn count moment state state'
+  round_done count moment state state' events came due' many some came_is does sent_is = λ n before at.
+      let here = in_round n moment before state state' came due' (omega (arith, many, some)) does at in
       record {
+        fresh = at.fresh;
         rounds = here.rounds;
         many = here.many ∙ ap (λ k. n + k) many;
         done = here.done;
-        events_are = told_then events0 events events1 events2 here.former came due' here.told came_is sent_is ∙ ap (more_told events0) (sym here.whole);
+        events_are = told_then before.events state.events events state'.events here.former came due' here.told came_is sent_is ∙ ap (more_told before.events) (sym here.whole);
       }
 
   -- ---- how it halts
 
-  pub none_came : (most : ℕ) (moment : Option ℕ) (seat : Seat Held Batch (Unit {0}) g) (table : List Slot) (events events' : Option (List Event))
-      → 1 ≤ most → events' ≡ events → Halts most moment seat seat table events events' Link
-  none_came most moment seat table events events' some same = λ n datagrams before events0 few at.
-      stopped_before datagrams n moment before seat table events0 events events' (omega (arith, some, few)) same at
+  pub none_came : (most : ℕ) (moment : Option ℕ) (state : WorkerState g) (table : List Slot) (events : Option (List Event))
+      → 1 ≤ most → events ≡ state.events → Halts most moment state (state_of state.seat table events) Link
+  none_came most moment state table events some same = λ n datagrams before few at.
+      stopped_before datagrams n moment before state events (omega (arith, some, few)) same at
 
-  pub one_lost : (most : ℕ) (moment : Option ℕ) (seat after : Seat Held Batch (Unit {0}) g) (table : List Slot) (events events' : Option (List Event)) (came : List Datagram)
-      → 1 ≤ most → length came ≡ 1 → events' ≡ more_told events (came_as came) → IsUnmoved seat after → Halts most moment seat after table events events' OutOfMemory
-  one_lost most moment seat after table events events' came some one came_is unmoved = λ n datagrams before events0 few at.
+  pub one_lost : (most : ℕ) (moment : Option ℕ) (state state' : WorkerState g) (came : List Datagram)
+      → 1 ≤ most → length came ≡ 1 → state'.events ≡ more_told state.events (came_as came) → IsUnmoved state.seat state'.seat → Halts most moment state state' OutOfMemory
+  one_lost most moment state state' came some one came_is unmoved = λ n datagrams before few at.
       let former = events_of at.rounds in
-      served_by datagrams moment before after table events0 events' at.rounds came (former ++ map Awaited came) (Err OutOfMemory)
-      (unmoved_done moment before seat after table (turns_in at.rounds) unmoved at.done)
-      (came_is ∙ ap (λ o. more_told o (came_as came)) at.events_are ∙ told_more events0 former (came_as came) ∙ ap (λ l. more_told events0 (former ++ l)) (came_one came one))
+      served_by datagrams moment before (state_of state'.seat state.table state'.events) at.rounds came (former ++ map Awaited came) (Err OutOfMemory)
+      (unmoved_done moment before.seat state.seat state'.seat state.table (turns_in at.rounds) unmoved at.done)
+      (came_is ∙ ap (λ o. more_told o (came_as came)) at.events_are ∙ told_more before.events former (came_as came) ∙ ap (λ l. more_told before.events (former ++ l)) (came_one came one))
       (omega (arith, few, some, one, at.many), omega (arith, one), refl)
 
-  pub not_all_sent : (most : ℕ) (moment : Option ℕ) (seat after : Seat Held Batch (Unit {0}) g) (table table' : List Slot) (events events1 events2 : Option (List Event)) (came due' : List Datagram)
-      → 1 ≤ length came → length came ≤ most → events1 ≡ more_told events (came_as came) → DoesSome moment seat after table table' came due' → IsSentInPart due' events1 events2
-      → Halts most moment seat after table events events2 Link
-  not_all_sent most moment seat after table table' events events1 events2 came due' some many came_is does part = λ n datagrams before events0 few at.
-      let here = in_round n moment before seat after table table' events0 events came due' some does at in
+  pub not_all_sent : (most : ℕ) (moment : Option ℕ) (state state' : WorkerState g) (events : Option (List Event)) (came due' : List Datagram)
+      → 1 ≤ length came → length came ≤ most → events ≡ more_told state.events (came_as came) → DoesSome moment state.seat state'.seat state.table state'.table came due' → IsSentInPart due' events state'.events
+      → Halts most moment state state' Link
+  not_all_sent most moment state state' events came due' some many came_is does part = λ n datagrams before few at.
+      let here = in_round n moment before state state' came due' some does at in
       let went = here.former ++ (came_as came ++ map Sent part.went) in
       let all : went ++ map Sent part.rest ≡ events_of here.rounds =
       append_assoc here.former (came_as came ++ map Sent part.went) (map Sent part.rest)
@@ -185,8 +186,8 @@ module _ {g : Ghosts Held Batch (Unit {0})} where
       ∙ ap (λ l. received_in here.former ++ l)
       (flat_map-append received_by (came_as came) (map Sent part.went) ∙ (λ i. came_received came i ++ received_sent part.went i) ∙ append-nil came)
       ∙ sym here.received in
-      served_by datagrams moment before after table' events0 events2 here.rounds [] went (Err Link) here.done
-      (told_then events0 events events1 events2 here.former came part.went here.told came_is part.events_are) (
+      served_by datagrams moment before state' here.rounds [] went (Err Link) here.done
+      (told_then before.events state.events events state'.events here.former came part.went here.told came_is part.events_are) (
         omega (arith, few, many, here.many),
         refl,
         (map Sent part.rest, all),

@@ -11,7 +11,7 @@ use Rattle.denial_records.specs.declared.batch.Batch.{Batch}
 use Rattle.cache_meaning.specs.Held.{held_of}
 use Rattle.soundness.proofs.QueryLemmas.{outcome_sound}
 use Rattle.reply_core.specs.Answered.{proof_in, proof_octets}
-use Rattle.resolver.specs.Pending.{Entry, Slot, least_free, table_at}
+use Rattle.serving.specs.Pending.{Entry, Slot, least_free, table_at}
 use Rattle.outside_core.specs.declared.datagram.Datagram.{Datagram}
 use Rattle.outside_core.specs.declared.datagram.Peer.{Peer}
 use Rattle.outside_core.specs.declared.datagram.Peer.TheVariants as peers

@@ -15,7 +15,7 @@ use Rattle.cache_versions.specs.declared.state.State.{Ghosts}
 use Rattle.cache_versions.specs.declared.seat.Seat.{Seat}
 use Rattle.cache_versions.specs.Seats.{places_by, seen_by}
 use Rattle.cache_versions.proofs.Fronts.{prefix_get, prefix_length}
-use Rattle.resolver.specs.Pending.{Slot, empty_table}
+use Rattle.serving.specs.Pending.{Slot, empty_table}
 use Rattle.outside_core.specs.declared.datagram.Datagram.{Datagram}
 use Rattle.serving.specs.Done.{Done, IsDone}
 use Rattle.serving.specs.Serves.{IsKept, IsPlaced, Serves}

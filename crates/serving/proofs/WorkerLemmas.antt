@@ -13,7 +13,7 @@ use Rattle.cache_versions.specs.declared.seat.Seat.{Seat}
 use Rattle.cache_versions.specs.Kin.{journal_of}
 use Rattle.cache_versions.specs.Seats.{kept_by, places_by, seen_by}
 use Rattle.cache_versions.proofs.Fronts.{prefix_self, prefix_trans, prefix_length}
-use Rattle.resolver.specs.Pending.{Slot, empty_table}
+use Rattle.serving.specs.Pending.{Slot, empty_table}
 use Rattle.outside_core.specs.declared.datagram.Datagram.{Datagram}
 use Rattle.outside_core.specs.declared.event.Event.{Event}
 use Rattle.serving.specs.declared.deed.Deed.{Deed}
@@ -24,7 +24,7 @@ use Rattle.serving.specs.Serves.{DoesServe, IsUnmoved, Serves}
 use Rattle.serving.specs.Turn.{Turn, AreTurnsOf, places_of, sent_by}
 use Rattle.serving.specs.Rounds.{Round, events_of, turns_in}
 use Rattle.serving.specs.Worker.{Ends, HasServed, more_told}
-use Rattle.serving.specs.AtWork.{HasDone, HasDoneMore, IsAtWork, left_by}
+use Rattle.serving.specs.AtWork.{HasDone, HasDoneMore, IsAtWork, WorkerState, left_by, state_of}
 use Rattle.serving.proofs.EventLemmas.{datagram_in, received_rounds, told_none}
 use Rattle.serving.proofs.TurnLemmas.{left_push, no_turns, places_one_more, turn_of, turns_one_more}
 
@@ -115,8 +115,9 @@ module _ {g : Ghosts Held Batch (Unit {0})} where
   -- ---- rounds
 
   -- the work begins
-  pub none_at_work : (moment : Option ℕ) (seat : Seat Held Batch (Unit {0}) g) (table : List Slot) (events : Option (List Event)) → table ≡ empty_table → IsAtWork 0 moment seat seat table events events
+  pub none_at_work : (moment : Option ℕ) (seat : Seat Held Batch (Unit {0}) g) (table : List Slot) (events : Option (List Event)) → table ≡ empty_table → IsAtWork 0 moment (state_of seat empty_table events) (state_of seat table events)
   none_at_work moment seat table events left = record {
+    fresh = refl;
     rounds = [];
     many = refl;
     done = none_done moment seat table left;
@@ -125,9 +126,10 @@ module _ {g : Ghosts Held Batch (Unit {0})} where
 
   -- ---- how it ends
 
-  pub served_by : (datagrams : ℕ) (moment : Option ℕ) (before after : Seat Held Batch (Unit {0}) g) (table : List Slot) (events events' : Option (List Event)) (rounds : List Round) (lost : List Datagram) (went : List Event) (result : Result (Unit {0}) ServeFault)
-      → HasDone moment before after table (turns_in rounds) → events' ≡ more_told events went → Ends datagrams rounds lost went result → HasServed datagrams moment before after events events' result
-  served_by datagrams moment before after table events events' rounds lost went result done events_are ends = record {
+  pub served_by : (datagrams : ℕ) (moment : Option ℕ) (before after : WorkerState g) (rounds : List Round) (lost : List Datagram) (went : List Event) (result : Result (Unit {0}) ServeFault)
+      → HasDone moment before.seat after.seat after.table (turns_in rounds) → after.events ≡ more_told before.events went → Ends datagrams rounds lost went result
+      → HasServed datagrams moment before.seat after.seat before.events after.events result
+  served_by datagrams moment before after rounds lost went result done events_are ends = record {
     rounds = rounds;
     moments = done.moments;
     begins = done.begins;
@@ -141,17 +143,18 @@ module _ {g : Ghosts Held Batch (Unit {0})} where
   }
 
   -- no datagram came
-  pub stopped_before : (datagrams n : ℕ) (moment : Option ℕ) (before after : Seat Held Batch (Unit {0}) g) (table : List Slot) (events events' events'' : Option (List Event))
-      → n + 1 ≤ datagrams → events'' ≡ events' → IsAtWork n moment before after table events events' → HasServed datagrams moment before after events events'' (Err Link)
-  stopped_before datagrams n moment before after table events events' events'' fewer same at =
+  pub stopped_before : (datagrams n : ℕ) (moment : Option ℕ) (before state : WorkerState g) (events : Option (List Event))
+      → n + 1 ≤ datagrams → events ≡ state.events → IsAtWork n moment before state → HasServed datagrams moment before.seat state.seat before.events events (Err Link)
+  stopped_before datagrams n moment before state events fewer same at =
       let whole = events_of at.rounds in
-      served_by datagrams moment before after table events events'' at.rounds [] whole (Err Link) at.done (same ∙ at.events_are)
+      served_by datagrams moment before (state_of state.seat state.table events) at.rounds [] whole (Err Link) at.done (same ∙ at.events_are)
       (omega (arith, fewer, at.many), refl, ([], append-nil whole), received_rounds at.rounds, inl (omega (arith, fewer, at.many)))
 
-  -- there was no memory for the desk
+  -- there was no memory for the workspace
   pub never_began : (datagrams : ℕ) (moment : Option ℕ) (seat : Seat Held Batch (Unit {0}) g) (events : Option (List Event)) → HasServed datagrams moment seat seat events events (Err OutOfMemory)
   never_began datagrams moment seat events =
-      served_by datagrams moment seat seat empty_table events events [] [] [] (Err OutOfMemory) (none_done moment seat empty_table refl) (told_none events) (omega arith, omega arith, refl)
+      let state = state_of seat empty_table events in
+      served_by datagrams moment state state [] [] [] (Err OutOfMemory) (none_done moment seat empty_table refl) (told_none events) (omega arith, omega arith, refl)
 
 -- what an error says
 pub if_err : {T E : Type 0} (Q P : E → Type 0) (r : Result T E) → IsErrAnd r Q → ((e : E) → Q e → P e) → IfErr r P

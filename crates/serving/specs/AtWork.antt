@@ -7,11 +7,11 @@ use Rattle.denial_records.specs.declared.batch.Batch.{Batch}
 use Rattle.cache_versions.specs.declared.state.State.{Ghosts}
 use Rattle.cache_versions.specs.declared.seat.Seat.{Seat}
 use Rattle.cache_versions.specs.Seats.{places_by, seen_by}
-use Rattle.resolver.specs.Pending.{Slot, empty_table}
+use Rattle.serving.specs.Pending.{Slot, empty_table}
 use Rattle.outside_core.specs.declared.datagram.Datagram.{Datagram}
 use Rattle.outside_core.specs.declared.event.Event.{Event}
 use Rattle.outside_core.specs.declared.event.Event.TheVariants.{Awaited, Found, Sent}
-use Rattle.serving.specs.declared.desk.Answer.{Answer}
+use Rattle.serving.specs.declared.workspace.Answer.{Answer}
 use Rattle.serving.specs.declared.serve_fault.ServeFault.{ServeFault}
 use Rattle.serving.specs.Turn.{Turn, AreTurnsOf, sent_by, sent_of}
 use Rattle.serving.specs.Rounds.{Round, events_of, turns_in}
@@ -41,7 +41,16 @@ abbrev pub left_by : List Slot → List Turn → List Slot
 left_by table [] = table
 left_by table (turn ∷ later) = left_by turn.done.table later
 
+-- how a worker stands: its seat of the cache, its table, and the events that its link tells
+pub record WorkerState (g : Ghosts Held Batch (Unit {0})) : Type 0 where
+  pub seat : Seat Held Batch (Unit {0}) g
+  pub table : List Slot
+  pub events : Option (List Event)
+
 module _ {g : Ghosts Held Batch (Unit {0})} where
+  abbrev pub state_of : Seat Held Batch (Unit {0}) g → List Slot → Option (List Event) → WorkerState g
+  state_of seat table events = record { seat = seat; table = table; events = events }
+
   -- a worker has done these turns since its seat was as before
   pub record HasDone (moment : Option ℕ) (before now : Seat Held Batch (Unit {0}) g) (table : List Slot) (turns : List Turn) : Type 0 where
     pub moments : IfSome moment (λ always. All (λ turn. turn.now ≡ always) turns)
@@ -69,28 +78,25 @@ module _ {g : Ghosts Held Batch (Unit {0})} where
 
   -- ---- whole rounds
 
-  -- a worker has done so many datagrams since its seat was as before and its link told these events, in rounds that are whole
-  pub record IsAtWork (count : ℕ) (moment : Option ℕ) (before now : Seat Held Batch (Unit {0}) g) (table : List Slot) (events events' : Option (List Event)) : Type 0 where
+  -- a worker that stood as before, without a query that waits, has done so many datagrams in rounds that are whole
+  pub record IsAtWork (count : ℕ) (moment : Option ℕ) (before now : WorkerState g) : Type 0 where
+    pub fresh : before.table ≡ empty_table
     pub rounds : List Round
     pub many : length (turns_in rounds) ≡ count
-    pub done : HasDone moment before now table (turns_in rounds)
-    pub events_are : events' ≡ more_told events (events_of rounds)
+    pub done : HasDone moment before.seat now.seat now.table (turns_in rounds)
+    pub events_are : now.events ≡ more_told before.events (events_of rounds)
 
   -- whatever was done before, so many more are done, in whole rounds
-  abbrev pub WorksOn :
-      ℕ → Option ℕ → Seat Held Batch (Unit {0}) g → Seat Held Batch (Unit {0}) g → List Slot → List Slot
-      → Option (List Event) → Option (List Event) → Type 0
-  WorksOn count moment seat seat' table table' events events' =
-      (n : ℕ) (before : Seat Held Batch (Unit {0}) g) (events0 : Option (List Event))
-      → IsAtWork n moment before seat table events0 events
-      → IsAtWork (n + count) moment before seat' table' events0 events'
+  abbrev pub WorksOn : ℕ → Option ℕ → WorkerState g → WorkerState g → Type 0
+  WorksOn count moment state state' =
+      (n : ℕ) (before : WorkerState g)
+      → IsAtWork n moment before state
+      → IsAtWork (n + count) moment before state'
 
   -- whatever was done before, the worker ends by the fault, of so many more at most
-  abbrev pub Halts :
-      ℕ → Option ℕ → Seat Held Batch (Unit {0}) g → Seat Held Batch (Unit {0}) g → List Slot
-      → Option (List Event) → Option (List Event) → ServeFault → Type 0
-  Halts most moment seat seat' table events events' fault =
-      (n datagrams : ℕ) (before : Seat Held Batch (Unit {0}) g) (events0 : Option (List Event))
+  abbrev pub Halts : ℕ → Option ℕ → WorkerState g → WorkerState g → ServeFault → Type 0
+  Halts most moment state state' fault =
+      (n datagrams : ℕ) (before : WorkerState g)
       → n + most ≤ datagrams
-      → IsAtWork n moment before seat table events0 events
-      → HasServed datagrams moment before seat' events0 events' (Err fault)
+      → IsAtWork n moment before state
+      → HasServed datagrams moment before.seat state'.seat before.events state'.events (Err fault)

@@ -17,7 +17,7 @@ use Rattle.reply_core.specs.Ask.{ask_octets}
 use Rattle.reply_core.specs.Error.{error_octets, plain_octets}
 use Rattle.reply_core.specs.Relay.{relay_octets}
 use Rattle.reply_core.specs.declared.rcode.TheConstants.{FORMAT_ERROR, SERVER_FAILURE, NOT_IMPLEMENTED, BAD_VERSION}
-use Rattle.resolver.specs.Pending.{Entry, Slot, entry_for, entry_of, least_free, table_at, turn_at, with_entry, without_entry}
+use Rattle.serving.specs.Pending.{Entry, Slot, entry_for, entry_of, least_free, table_at, turn_at, with_entry, without_entry}
 use Rattle.outside_core.specs.declared.datagram.Datagram.{Datagram}
 use Rattle.outside_core.specs.declared.datagram.Peer.{Peer}
 use Rattle.outside_core.specs.declared.datagram.Peer.TheVariants.{Client, Upstream}

@@ -1,3 +1,5 @@
+pub mod Pending
+pub mod Latest
 pub mod Done
 pub mod Sound
 pub mod Serves
@@ -6,3 +8,6 @@ pub mod Rounds
 pub mod Worker
 pub mod AtWork
 pub mod Links
+pub mod Sight
+pub mod Back
+pub mod Workers

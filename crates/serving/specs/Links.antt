@@ -4,7 +4,7 @@ use Rattle.std.specs.List.{All, AllPairs, AllZip, flat_map}
 use mathlib.Core.List.{IsPrefix}
 use Rattle.denial_records.specs.declared.batch.Batch.{Batch}
 use Rattle.cache_versions.specs.Hands.{AreAllBelow}
-use Rattle.resolver.specs.Pending.{empty_table}
+use Rattle.serving.specs.Pending.{empty_table}
 use Rattle.outside_core.specs.Event.{received_in}
 use Rattle.outside_core.specs.Returned.{Returned}
 use Rattle.outside_core.specs.declared.datagram.Datagram.{Datagram}

@@ -10,7 +10,7 @@ use Rattle.cache_versions.specs.Seats.{kept_by, places_by, seen_by}
 use Rattle.intake.specs.Batch.{Gives}
 use Rattle.intake.specs.declared.taken.Taken.{Taken}
 use Rattle.intake.specs.declared.intake_fault.IntakeFault.{IntakeFault}
-use Rattle.resolver.specs.Pending.{Slot, without_entry}
+use Rattle.serving.specs.Pending.{Slot, without_entry}
 use Rattle.outside_core.specs.declared.datagram.Datagram.{Datagram}
 use Rattle.serving.specs.declared.deed.Deed.{Deed}
 use Rattle.serving.specs.Done.{Done, IsAnswer, IsDone, awaited, batch_in, done_as}

@@ -2,7 +2,7 @@
 use Rattle.std.specs.Prelude.{◌≡◌, ℕ, ◌-◌, ◌<◌, ◌≤◌, Bool, true, false, cond, List, [], ◌∷◌, length, take, slice_get, Option, Some, None}
 use Rattle.std.specs.List.{All, AllPairs, flat_map}
 use Rattle.denial_records.specs.declared.batch.Batch.{Batch}
-use Rattle.resolver.specs.Pending.{Slot, empty_table}
+use Rattle.serving.specs.Pending.{Slot, empty_table}
 use Rattle.outside_core.specs.Datagram.{datagram_of}
 use Rattle.outside_core.specs.declared.datagram.Datagram.{Datagram}
 use Rattle.outside_core.specs.declared.datagram.Peer.TheVariants.{Client, Upstream}

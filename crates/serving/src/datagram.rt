@@ -1,11 +1,10 @@
 //! What one datagram does.
 ghost use Rattle.std.specs.Prelude.{◌≡◌, ◌≤◌, [], Option, None, IfOk, OnErr};
-ghost use mathlib.Core.List.{IsPrefix};
 ghost use Rattle.denial_records.specs.declared.batch.Batch.{Batch};
 ghost use Rattle.dnswire.specs.declared.query_read.QueryRead.TheVariants.{Query};
-ghost use Rattle.cache_versions.specs.Seats.{IsSameSeat, number_by, seen_by};
-ghost use Rattle.resolver.specs.Caches.{IsSeatOf};
-ghost use Rattle.resolver.specs.Pending.{least_free, table_at};
+ghost use Rattle.cache_versions.specs.Seats.{seen_by};
+ghost use Rattle.resolver.specs.Caches.{HasGoneOn, HasOnlyRead, IsSeatOf};
+ghost use Rattle.serving.specs.Pending.{least_free, table_at};
 ghost use Rattle.outside_core.specs.declared.datagram.Peer.TheVariants.{Client, Upstream};
 ghost use Rattle.reply_core.specs.Error.{error_octets};
 ghost use Rattle.serving.specs.declared.deed.Deed.{Deed};
@@ -15,13 +14,13 @@ ghost use Rattle.serving.specs.Serves.{DoesServe, IsKept, IsLeft, IsUnmoved};
 
 use crate::answer::answer_in;
 use crate::storing::store;
-use crate::{Deed, Why};
+use crate::{Action, Deed, Event, Why, WorkerCore};
 use dname::OutOfMemory;
 use dnswire::{Head, QueryRead, Question, read_query};
 use outside_core::{Datagram, Peer};
 use reply_core::rcode::{BAD_VERSION, FORMAT_ERROR, NOT_IMPLEMENTED, SERVER_FAILURE};
 use reply_core::{ReplyBuffer, write_ask, write_error, write_plain, write_relay};
-use resolver::{Action, CacheSeat, Event, Outcome, SharedCache, WorkerCore};
+use resolver::{CacheSeat, Outcome, SharedCache};
 use std::alloc::Global;
 use std::sync::Wait;
 
@@ -39,9 +38,7 @@ pub fn serve_datagram<R: Wait>(
     out: &mut ReplyBuffer,
 ) -> Result<Deed, OutOfMemory>
     requires { IsSeatOf cache.now seat.old }
-    ensures object { IsSeatOf cache.now seat.new }
-    ensures number { number_by seat.new ≡ number_by seat.old }
-    ensures begins { IsPrefix (seen_by seat.old) (seen_by seat.new) }
+    ensures on { HasGoneOn cache.now seat.old seat.new }
     ensures done { IfOk result (λ deed.
         DoesServe now seat.old seat.new core.old datagram.now deed out.new core.new) }
 
@@ -70,9 +67,7 @@ fn client_datagram(
 ) -> Deed
     requires object { IsSeatOf cache.now seat.old }
     requires empty { out.old ≡ [] }
-    ensures object { IsSeatOf cache.now seat.new }
-    ensures same { IsSameSeat seat.old seat.new }
-    ensures begins { IsPrefix (seen_by seat.old) (seen_by seat.new) }
+    ensures read { HasOnlyRead cache.now seat.old seat.new }
     ensures done { IsDoneBy core.old now (seen_by seat.new) (Client client) octets.now
         (done_as result out.new core.new None) }
 {
@@ -112,9 +107,7 @@ fn query(
     out: &mut ReplyBuffer,
 ) -> Deed
     requires { IsSeatOf cache.now seat.old }
-    ensures object { IsSeatOf cache.now seat.new }
-    ensures same { IsSameSeat seat.old seat.new }
-    ensures begins { IsPrefix (seen_by seat.old) (seen_by seat.new) }
+    ensures read { HasOnlyRead cache.now seat.old seat.new }
     ensures done { done_as result out.new core.new None
         ≡ client_done core.old now (seen_by seat.new) client (Query question.now) }
 {
@@ -172,9 +165,7 @@ fn upstream_datagram<R: Wait>(
 ) -> Result<Deed, OutOfMemory>
     requires object { IsSeatOf cache.now seat.old }
     requires empty { out.old ≡ [] }
-    ensures object { IsSeatOf cache.now seat.new }
-    ensures number { number_by seat.new ≡ number_by seat.old }
-    ensures begins { IsPrefix (seen_by seat.old) (seen_by seat.new) }
+    ensures on { HasGoneOn cache.now seat.old seat.new }
     ensures done { IfOk result (λ deed. (batch : Option Batch) × IsKept seat.old seat.new batch
         × IsDoneBy core.old now (seen_by seat.new) Upstream octets.now
         (done_as deed out.new core.new batch)) }
@@ -193,10 +184,17 @@ fn upstream_datagram<R: Wait>(
     };
     match core.step(event) {
         Action::Relay { client, question } => {
-            store(rt, alloc, cache, seat, octets, now)?;
             write_relay(&question, &message, out);
-            let why = Why::Relayed;
-            Ok(Deed::ToClient { client, why })
+            match store(rt, alloc, cache, seat, message, now) {
+                Ok(()) => {
+                    let why = Why::Relayed;
+                    Ok(Deed::ToClient { client, why })
+                }
+                Err(fault) => {
+                    out.clear();
+                    Err(fault)
+                }
+            }
         }
         Action::Ignored => Ok(Deed::Ignored),
         Action::Send { id: _ } | Action::ServFail => unreachable!(),

@@ -2,7 +2,7 @@
 ghost use Rattle.std.specs.Prelude.{◌≡◌, ◌⊎◌, ◌<◌, ◌≤◌, length, map, take, IfOk, OnOk, OnErr};
 ghost use Rattle.std.specs.List.{All};
 ghost use Rattle.cache_versions.specs.Seats.{number_by};
-ghost use Rattle.resolver.specs.Caches.{IsSeatOf};
+ghost use Rattle.resolver.specs.Caches.{HasGoneOn, IsSeatOf};
 ghost use Rattle.outside_core.specs.Datagram.{IsClient};
 ghost use Rattle.outside_core.specs.Fault.{HasCause};
 ghost use Rattle.outside_core.specs.declared.datagram.Peer.{Peer};
@@ -12,12 +12,12 @@ ghost use Rattle.serving.specs.Serves.{DoesServe, IsUnmoved};
 ghost use Rattle.serving.specs.Turn.{sent_by};
 ghost use Rattle.serving.specs.Worker.{more_told};
 
-use crate::desk::Answer;
-use crate::{Deed, serve_datagram};
+use crate::workspace::Answer;
+use crate::{Deed, WorkerCore, serve_datagram};
 use dname::OutOfMemory;
 use outside_core::{Clock, Datagram, Failed, Link, Peer};
 use reply_core::ReplyBuffer;
-use resolver::{CacheSeat, SharedCache, WorkerCore};
+use resolver::{CacheSeat, SharedCache};
 use std::alloc::Global;
 use std::sync::Wait;
 
@@ -112,8 +112,7 @@ fn do_one<R: Wait>(
     answer: &mut Answer,
 ) -> Result<(), OutOfMemory>
     requires { IsSeatOf cache.now seat.old }
-    ensures object { IsSeatOf cache.now seat.new }
-    ensures number { number_by seat.new ≡ number_by seat.old }
+    ensures on { HasGoneOn cache.now seat.old seat.new }
     ensures done { OnOk result (DoesServe now seat.old seat.new core.old datagram.now
         answer.new.deed answer.new.octets core.new) }
     ensures upstream { OnErr result (datagram.now.peer ≡ Peer.Upstream) }

@@ -1,14 +1,15 @@
 //! What is stored of an upstream's answer.
-ghost use Rattle.std.specs.Prelude.{◌≡◌, Some, OnOk, OnErr};
-ghost use mathlib.Core.List.{IsPrefix};
+ghost use Rattle.std.specs.Prelude.{◌≡◌, ℕ, List, Some, OnOk, OnErr};
+ghost use Rattle.dnswire.specs.Message.{IsMessage};
+ghost use Rattle.intake.specs.Batch.{WasRead};
 ghost use Rattle.intake.specs.declared.intake_fault.IntakeFault.{IntakeFault};
-ghost use Rattle.cache_versions.specs.Seats.{number_by, seen_by};
-ghost use Rattle.resolver.specs.Caches.{IsSeatOf};
+ghost use Rattle.resolver.specs.Caches.{HasGoneOn, IsSeatOf};
 ghost use Rattle.serving.specs.Serves.{IsKept, IsUnmoved, Stores};
 
 use denial_records::Batch;
 use dname::OutOfMemory;
-use intake::{IntakeFault, batch_of};
+use dnswire::Message;
+use intake::{IntakeFault, batch_of_message};
 use resolver::{CacheFault, CacheSeat, SharedCache};
 use std::alloc::{AllocError, Global};
 use std::sync::Wait;
@@ -19,17 +20,17 @@ pub(crate) fn store<R: Wait>(
     alloc: Global,
     cache: &SharedCache,
     seat: &mut CacheSeat,
-    octets: &[u8],
+    message: Message,
     now: u32,
 ) -> Result<(), OutOfMemory>
-    requires { IsSeatOf cache.now seat.old }
-    ensures object { IsSeatOf cache.now seat.new }
-    ensures number { number_by seat.new ≡ number_by seat.old }
-    ensures begins { IsPrefix (seen_by seat.old) (seen_by seat.new) }
-    ensures stored { OnOk result (Stores now seat.old seat.new octets.now) }
+    requires object { IsSeatOf cache.now seat.old }
+    requires read { WasRead message }
+    ensures on { HasGoneOn cache.now seat.old seat.new }
+    ensures stored { OnOk result ((octets : List ℕ) → IsMessage octets message
+        → Stores now seat.old seat.new octets) }
     ensures unmoved { OnErr result (IsUnmoved seat.old seat.new) }
 {
-    match batch_of(alloc, octets, now) {
+    match batch_of_message(alloc, message, now) {
         Ok(taken) => insert(rt, alloc, cache, seat, &taken.batch),
         Err(fault) => pass_over(fault),
     }
@@ -58,9 +59,7 @@ fn insert<R: Wait>(
     batch: &Batch,
 ) -> Result<(), OutOfMemory>
     requires { IsSeatOf cache.now seat.old }
-    ensures object { IsSeatOf cache.now seat.new }
-    ensures number { number_by seat.new ≡ number_by seat.old }
-    ensures begins { IsPrefix (seen_by seat.old) (seen_by seat.new) }
+    ensures on { HasGoneOn cache.now seat.old seat.new }
     ensures kept { OnOk result (IsKept seat.old seat.new (Some batch.entry.now)) }
     ensures unmoved { OnErr result (IsUnmoved seat.old seat.new) }
 {

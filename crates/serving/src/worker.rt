@@ -1,94 +1,38 @@
-//! One worker over its link.
-ghost use Rattle.std.specs.Prelude.{◌≡◌, ◌≤◌, length, IfOk, IfErr, Err};
-ghost use Rattle.cache_versions.specs.Seats.{number_by};
+//! One worker of all.
 ghost use Rattle.resolver.specs.Caches.{IsSeatOf};
-ghost use Rattle.serving.specs.declared.desk.TheConstants.{AT_ONCE};
-ghost use Rattle.serving.specs.AtWork.{Halts, WorksOn};
-ghost use Rattle.serving.specs.Worker.{HasServed, HasFaults};
+ghost use Rattle.serving.specs.Workers.{HasWorkedOver};
 
 use crate::ServeFault;
-use crate::desk::Desk;
-use crate::parts::first;
-use crate::round::{do_all, receive_some, send_all};
+use crate::bound_link::BoundLink;
 use outside_core::{Clock, Link};
 use resolver::{CacheSeat, SharedCache};
 use std::alloc::Global;
 use std::sync::Wait;
 
-/// Receives so many datagrams, does each at a moment that the clock tells, and sends what is to be sent. Datagrams of clients
-/// that have come together are all received before the first is done, and all done before anything is sent, sixteen at most; one of
-/// the upstream is done alone. The link is waited for only once all is sent that is due. No query waits at first. It stops at the
-/// first fault; what was received, sent and stored before stays.
-pub fn serve_worker<R: Wait, L: Link, C: Clock>(
-    rt: &R,
-    alloc: Global,
-    cache: &SharedCache,
-    seat: &mut CacheSeat,
-    link: &mut L,
-    clock: &C,
-    datagrams: u32,
-) -> Result<(), ServeFault>
-    requires { IsSeatOf cache.now seat.old }
-    ensures object { IsSeatOf cache.now seat.new }
-    ensures number { number_by seat.new ≡ number_by seat.old }
-    ensures port { L.Link.port link.new ≡ L.Link.port link.old }
-    ensures upstream { L.Link.upstream link.new ≡ L.Link.upstream link.old }
-    ensures faults { HasFaults (L.Link.faults link.old) (L.Link.faults link.new) result }
-    ensures served { HasServed datagrams (C.Clock.moment clock.now) seat.old seat.new
-        (L.Link.events link.old) (L.Link.events link.new) result }
-{
-    let mut desk = Desk::new(alloc)?;
-    let mut left = datagrams as usize;
-    while left > 0 {
-        left -= serve_next(rt, alloc, cache, seat, link, clock, &mut desk, left)?;
-    }
-    Ok(())
+/// A worker's seat of the cache and its link, and how its work has ended.
+#[derive(Drop)]
+pub(crate) struct Worker<L: Link> {
+    pub(crate) seat: CacheSeat,
+    pub(crate) link: BoundLink<L>,
+    pub(crate) ended: Result<(), ServeFault>,
 }
 
-// Receives the next datagram, or some that came together, so many at most, does them and sends what they say. How many these were.
-fn serve_next<R: Wait, L: Link, C: Clock>(
-    rt: &R,
-    alloc: Global,
-    cache: &SharedCache,
-    seat: &mut CacheSeat,
-    link: &mut L,
-    clock: &C,
-    desk: &mut Desk,
-    most: usize,
-) -> Result<usize, ServeFault>
-    requires object { IsSeatOf cache.now seat.old }
-    requires some { 1 ≤ most }
-    requires datagrams { length desk.old.datagrams.items ≡ AT_ONCE }
-    requires answers { length desk.old.answers.items ≡ AT_ONCE }
-    ensures object { IsSeatOf cache.now seat.new }
-    ensures number { number_by seat.new ≡ number_by seat.old }
-    ensures datagrams { length desk.new.datagrams.items ≡ AT_ONCE }
-    ensures answers { length desk.new.answers.items ≡ AT_ONCE }
-    ensures port { L.Link.port link.new ≡ L.Link.port link.old }
-    ensures upstream { L.Link.upstream link.new ≡ L.Link.upstream link.old }
-    ensures some { IfOk result (λ count. 1 ≤ count) }
-    ensures most { IfOk result (λ count. count ≤ most) }
-    ensures unfailing { IfOk result (λ _. L.Link.faults link.new ≡ L.Link.faults link.old) }
-    ensures faults { IfErr result (λ fault.
-        HasFaults (L.Link.faults link.old) (L.Link.faults link.new) (Err fault)) }
-    ensures works { IfOk result (λ count. WorksOn count (C.Clock.moment clock.now)
-        seat.old seat.new desk.old.core desk.new.core
-        (L.Link.events link.old) (L.Link.events link.new)) }
-    ensures halts { IfErr result (Halts most (C.Clock.moment clock.now)
-        seat.old seat.new desk.old.core
-        (L.Link.events link.old) (L.Link.events link.new)) }
-{
-    let count = receive_some(rt, link, &mut desk.datagrams, most)?;
-    do_all(
-        rt,
-        alloc,
-        cache,
-        seat,
-        clock,
-        &mut desk.core,
-        first(&desk.datagrams, count),
-        &mut desk.answers,
-    )?;
-    send_all(link, first(&desk.answers, count))?;
-    Ok(count)
+impl<L: Link> Worker<L> {
+    /// Serves over the seat and the link until so many datagrams have come, the link fails, or memory is wanted.
+    pub(crate) fn serve<R: Wait, C: Clock>(
+        &mut self,
+        rt: &R,
+        alloc: Global,
+        cache: &SharedCache,
+        clock: &C,
+        datagrams: u32,
+    )
+        requires { IsSeatOf cache.now self.old.seat }
+        ensures { HasWorkedOver cache.now datagrams (C.Clock.moment clock.now)
+            self.old.seat self.new.seat self.old.link self.new.link self.new.ended }
+    {
+        self.ended = self
+            .link
+            .serve(rt, alloc, cache, &mut self.seat, clock, datagrams);
+    }
 }

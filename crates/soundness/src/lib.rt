@@ -1,5 +1,7 @@
 //! The laws that no true name is denied: what held records prove is what every zone says of which they are true.
-//! Read `specs/True.antt` (what a record says of its zone), then `specs/Sound.antt` (when a proof is sound).
+//!
+//! Specs, in reading order: `True` (what a record says of its zone), `Sound` (when a proof is sound), `Steps` (what each step of a
+//! proof goes on from); and of zones written out `Examples`, `HashedExamples` and `StoredRun`. Public clauses cite them all.
 #![tactic(auto)]
 
 mod examples;

@@ -1,6 +1,6 @@
 pub mod Turn
 pub mod Stream
 pub mod Served
-pub mod Desk
+pub mod ReplyPlaces
 pub mod Piece
 pub mod Next

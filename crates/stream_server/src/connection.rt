@@ -1,8 +1,7 @@
 //! One connection.
 ghost use Rattle.std.specs.Prelude.{◌≡◌, IsSome, length};
-ghost use mathlib.Core.List.{IsPrefix};
-ghost use Rattle.cache_versions.specs.Seats.{IsSameSeat, seen_by};
-ghost use Rattle.resolver.specs.Caches.{IsSeatOf};
+ghost use Rattle.cache_versions.specs.Seats.{seen_by};
+ghost use Rattle.resolver.specs.Caches.{HasOnlyRead, IsSeatOf};
 ghost use Rattle.stream_server.specs.Next.{HasServedNext, ended_as, noted};
 
 use crate::{ConnectFault, StreamFault, serve_stream};
@@ -31,9 +30,7 @@ pub(crate) fn serve_next<R: Wait, W: Gateway, C: Clock>(
 ) -> Result<Ended, ConnectFault>
     requires seat { IsSeatOf cache.now seat.old }
     requires listens { IsSome (W.Gateway.listens gateway.old) }
-    ensures object { IsSeatOf cache.now seat.new }
-    ensures same { IsSameSeat seat.old seat.new }
-    ensures begins { IsPrefix (seen_by seat.old) (seen_by seat.new) }
+    ensures read { HasOnlyRead cache.now seat.old seat.new }
     ensures listens { W.Gateway.listens gateway.new ≡ W.Gateway.listens gateway.old }
     ensures served { HasServedNext (C.Clock.moment clock.now)
         (length (seen_by seat.old)) (seen_by seat.new)

@@ -4,33 +4,33 @@ ghost use Rattle.byteorder.specs.Endian.{big_bytes};
 ghost use Rattle.outside_core.specs.Fault.{HasCause};
 ghost use Rattle.outside_core.specs.Told.{append_told};
 ghost use Rattle.stream_front.specs.Split.{framed};
-ghost use Rattle.stream_server.specs.Desk.{octets_at};
+ghost use Rattle.stream_server.specs.ReplyPlaces.{octets_at};
 ghost use Rattle.stream_server.specs.Stream.{IsCutShort};
-ghost use Rattle.stream_server.specs.declared.desk.TheConstants.{AT_ONCE};
+ghost use Rattle.stream_server.specs.declared.reply_places.TheConstants.{AT_ONCE};
 
-use crate::desk::{AT_ONCE, Answer, Desk};
+use crate::reply_places::{AT_ONCE, Answer, ReplyPlaces};
 use arrayvec::ArrayVec;
 use outside_core::{Failed, Sink, write_whole};
 
 /// The octets of a length.
 const LENGTH: usize = 2;
 
-/// Writes what the desk has for a message.
+/// Writes what the reply places have for a message.
 pub(crate) fn write_answer<K: Sink>(
     sink: &mut K,
     answer: Answer,
-    desk: &mut Desk,
+    places: &mut ReplyPlaces,
 ) -> Result<(), Failed>
     ensures written { OnOk result (K.written sink.new
-        ≡ append_told (K.written sink.old) (octets_at desk.old answer)) }
-    ensures part { OnErr result ((went : List ℕ) × IsCutShort went (octets_at desk.old answer)
+        ≡ append_told (K.written sink.old) (octets_at places.old answer)) }
+    ensures part { OnErr result ((went : List ℕ) × IsCutShort went (octets_at places.old answer)
         × (K.written sink.new ≡ append_told (K.written sink.old) went)) }
     ensures cause { HasCause (K.faults sink.old) (K.faults sink.new) result }
 {
     match answer {
         Answer::Nothing => Ok(()),
-        Answer::Short => write_framed(sink, desk.reply.as_slice(), &mut desk.first),
-        Answer::Long => write_framed(sink, desk.long.as_slice(), &mut desk.first),
+        Answer::Short => write_framed(sink, places.reply.as_slice(), &mut places.first),
+        Answer::Long => write_framed(sink, places.long.as_slice(), &mut places.first),
     }
 }
 

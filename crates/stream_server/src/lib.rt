@@ -1,15 +1,15 @@
 //! A server of streams: what a message gets from the cache, a stream from its beginning to its end, and connections that are
 //! accepted one after the other, served and given back.
 //!
-//! Of this crate's specs read `specs/Turn.antt`, `Stream` and `Served`, in this order; `Desk`, `Piece` and `Next` serve the inner
-//! steps.
+//! Of this crate's specs read `specs/Turn.antt`, `Stream` and `Served`, in this order; `ReplyPlaces`, `Piece` and `Next` serve
+//! the inner steps.
 #![tactic(auto)]
 
 mod connect_fault;
 mod connection;
-mod desk;
 mod framing;
 mod pieces;
+mod reply_places;
 mod replying;
 mod server;
 mod serving;

@@ -1,15 +1,14 @@
 //! The messages that have come whole.
 ghost use Rattle.std.specs.Prelude.{◌≡◌, None};
-ghost use mathlib.Core.List.{IsPrefix};
-ghost use Rattle.cache_versions.specs.Seats.{IsSameSeat, seen_by};
+ghost use Rattle.cache_versions.specs.Seats.{seen_by};
 ghost use Rattle.outside_core.specs.Fault.{HasCause};
-ghost use Rattle.resolver.specs.Caches.{IsSeatOf};
+ghost use Rattle.resolver.specs.Caches.{HasOnlyRead, IsSeatOf};
 ghost use Rattle.stream_front.specs.Split.{too_small_in};
 ghost use Rattle.stream_server.specs.Piece.{AreAnswered, HasAnswered, IsOneAnswered, SinkFaults};
 
 use crate::StreamFault;
-use crate::desk::Desk;
 use crate::framing::write_answer;
+use crate::reply_places::ReplyPlaces;
 use crate::turn::answer;
 use outside_core::{Clock, Failed, Sink};
 use resolver::{CacheSeat, SharedCache};
@@ -22,13 +21,11 @@ pub(crate) fn answer_read<K: Sink, C: Clock>(
     front: &mut Front,
     clock: &C,
     sink: &mut K,
-    desk: &mut Desk,
+    places: &mut ReplyPlaces,
 ) -> Result<(), StreamFault>
     requires seat { IsSeatOf cache.now seat.old }
     requires open { too_small_in front.old ≡ None }
-    ensures object { IsSeatOf cache.now seat.new }
-    ensures same { IsSameSeat seat.old seat.new }
-    ensures begins { IsPrefix (seen_by seat.old) (seen_by seat.new) }
+    ensures read { HasOnlyRead cache.now seat.old seat.new }
     ensures answered { HasAnswered (C.Clock.moment clock.now) (seen_by seat.old) (seen_by seat.new)
         front.old front.new (K.written sink.old) (K.written sink.new) result }
     ensures faults { SinkFaults (K.faults sink.old) (K.faults sink.new) result }
@@ -36,7 +33,7 @@ pub(crate) fn answer_read<K: Sink, C: Clock>(
     if front.waits() {
         return Ok(());
     }
-    let left = answer_all(cache, seat, front.rest(), clock.now(), sink, desk)?;
+    let left = answer_all(cache, seat, front.rest(), clock.now(), sink, places)?;
     front.keep(left);
     Ok(())
 }
@@ -48,12 +45,10 @@ fn answer_all<K: Sink>(
     octets: &[u8],
     now: u32,
     sink: &mut K,
-    desk: &mut Desk,
+    places: &mut ReplyPlaces,
 ) -> Result<usize, StreamFault>
     requires { IsSeatOf cache.now seat.old }
-    ensures object { IsSeatOf cache.now seat.new }
-    ensures same { IsSameSeat seat.old seat.new }
-    ensures begins { IsPrefix (seen_by seat.old) (seen_by seat.new) }
+    ensures read { HasOnlyRead cache.now seat.old seat.new }
     ensures answered { AreAnswered now (seen_by seat.old) (seen_by seat.new) octets.now
         (K.written sink.old) (K.written sink.new) result }
     ensures faults { SinkFaults (K.faults sink.old) (K.faults sink.new) result }
@@ -62,7 +57,7 @@ fn answer_all<K: Sink>(
     loop {
         match first(rest) {
             Ahead::Message { message, after } => {
-                match answer_one(cache, seat, message, now, sink, desk) {
+                match answer_one(cache, seat, message, now, sink, places) {
                     Ok(()) => rest = after,
                     Err(_) => return Err(StreamFault::Sink),
                 }
@@ -80,16 +75,14 @@ fn answer_one<K: Sink>(
     message: &[u8],
     now: u32,
     sink: &mut K,
-    desk: &mut Desk,
+    places: &mut ReplyPlaces,
 ) -> Result<(), Failed>
     requires { IsSeatOf cache.now seat.old }
-    ensures object { IsSeatOf cache.now seat.new }
-    ensures same { IsSameSeat seat.old seat.new }
-    ensures begins { IsPrefix (seen_by seat.old) (seen_by seat.new) }
+    ensures read { HasOnlyRead cache.now seat.old seat.new }
     ensures answered { IsOneAnswered now (seen_by seat.new) message.now
         (K.written sink.old) (K.written sink.new) result }
     ensures cause { HasCause (K.faults sink.old) (K.faults sink.new) result }
 {
-    let which = answer(cache, seat, message, now, desk);
-    write_answer(sink, which, desk)
+    let which = answer(cache, seat, message, now, places);
+    write_answer(sink, which, places)
 }

@@ -1,12 +1,11 @@
 //! One stream from its beginning to its end.
-ghost use mathlib.Core.List.{IsPrefix};
-ghost use Rattle.cache_versions.specs.Seats.{IsSameSeat, seen_by};
-ghost use Rattle.resolver.specs.Caches.{IsSeatOf};
+ghost use Rattle.cache_versions.specs.Seats.{seen_by};
+ghost use Rattle.resolver.specs.Caches.{HasOnlyRead, IsSeatOf};
 ghost use Rattle.stream_server.specs.Stream.{HasFaults, HasStreamed};
 
 use crate::StreamFault;
-use crate::desk::Desk;
 use crate::pieces::answer_read;
+use crate::reply_places::ReplyPlaces;
 use outside_core::{Clock, Sink, Source};
 use resolver::{CacheSeat, SharedCache};
 use std::alloc::Global;
@@ -30,9 +29,7 @@ pub fn serve_stream<S: Source, K: Sink, C: Clock>(
     clock: &C,
 ) -> Result<u32, StreamFault>
     requires { IsSeatOf cache.now seat.old }
-    ensures object { IsSeatOf cache.now seat.new }
-    ensures same { IsSameSeat seat.old seat.new }
-    ensures begins { IsPrefix (seen_by seat.old) (seen_by seat.new) }
+    ensures read { HasOnlyRead cache.now seat.old seat.new }
     ensures faults { HasFaults (S.faults source.old) (S.faults source.new)
         (K.faults sink.old) (K.faults sink.new) result }
     ensures streamed { HasStreamed (C.Clock.moment clock.now) (seen_by seat.old) (seen_by seat.new)
@@ -40,14 +37,14 @@ pub fn serve_stream<S: Source, K: Sink, C: Clock>(
         (K.written sink.old) (K.written sink.new) result }
 {
     let mut front = Front::fresh(alloc);
-    let mut desk = Desk::new();
+    let mut places = ReplyPlaces::new();
     let mut read = 0;
     while read <= MOST_OCTETS {
         let count = front.read(source, MOST_OCTETS + 1 - read)?;
         if count == 0 {
             return Ok(front.rest().len() as u32);
         }
-        answer_read(cache, seat, &mut front, clock, sink, &mut desk)?;
+        answer_read(cache, seat, &mut front, clock, sink, &mut places)?;
         read += count;
     }
     Err(StreamFault::TooLong)

@@ -1,19 +1,18 @@
 //! What a message is answered.
 ghost use Rattle.std.specs.Prelude.{◌≡◌, ◌≤◌};
-ghost use mathlib.Core.List.{IsPrefix};
 ghost use Rattle.dnswire.specs.declared.query_read.QueryRead.TheVariants as reads;
 ghost use Rattle.cache_meaning.specs.Held.{nothing_held};
 ghost use Rattle.cache_versions.specs.Lends.{seat_in};
-ghost use Rattle.cache_versions.specs.Seats.{IsSameSeat, opening_by, seen_by};
+ghost use Rattle.cache_versions.specs.Seats.{opening_by, seen_by};
 ghost use Rattle.reply_core.specs.Error.{error_octets};
-ghost use Rattle.resolver.specs.Caches.{IsSeatOf};
+ghost use Rattle.resolver.specs.Caches.{HasOnlyRead, IsSeatOf};
 ghost use Rattle.resolver.specs.Replies.{IsSoundAt};
 ghost use Rattle.stream_front.specs.Split.{framed};
-ghost use Rattle.stream_server.specs.Desk.{octets_at};
+ghost use Rattle.stream_server.specs.ReplyPlaces.{octets_at};
 ghost use Rattle.stream_server.specs.Turn.{IsAnswered, answer_of};
 
-use crate::desk::{Answer, Desk};
 use crate::long_reply;
+use crate::reply_places::{Answer, ReplyPlaces};
 use cache_versions::VersionRef;
 use dnswire::{Head, QueryRead, Question, read_query};
 use record_store::Store;
@@ -28,33 +27,31 @@ pub(crate) fn answer(
     seat: &mut CacheSeat,
     message: &[u8],
     now: u32,
-    desk: &mut Desk,
+    places: &mut ReplyPlaces,
 ) -> Answer
     requires { IsSeatOf cache.now seat.old }
-    ensures object { IsSeatOf cache.now seat.new }
-    ensures same { IsSameSeat seat.old seat.new }
-    ensures begins { IsPrefix (seen_by seat.old) (seen_by seat.new) }
-    ensures answered { IsAnswered (seen_by seat.new) now message.now (octets_at desk.new result) }
+    ensures read { HasOnlyRead cache.now seat.old seat.new }
+    ensures answered { IsAnswered (seen_by seat.new) now message.now (octets_at places.new result) }
 {
     match read_query(message) {
         QueryRead::Dropped => Answer::Nothing,
-        QueryRead::NotImp(head) => fault(&head, NOT_IMPLEMENTED, desk),
-        QueryRead::FormErr(head) => fault(&head, FORMAT_ERROR, desk),
+        QueryRead::NotImp(head) => fault(&head, NOT_IMPLEMENTED, places),
+        QueryRead::FormErr(head) => fault(&head, FORMAT_ERROR, places),
         QueryRead::BadVers(question) => {
-            write_plain(&question, BAD_VERSION, &mut desk.reply);
+            write_plain(&question, BAD_VERSION, &mut places.reply);
             Answer::Short
         }
-        QueryRead::Query(question) => query(cache, seat, &question, now, desk),
+        QueryRead::Query(question) => query(cache, seat, &question, now, places),
     }
 }
 
 // Tells of a fault by a header alone.
-fn fault(head: &Head, rcode: u16, desk: &mut Desk) -> Answer
+fn fault(head: &Head, rcode: u16, places: &mut ReplyPlaces) -> Answer
     requires opcode { head.now.opcode ≤ 15 }
     requires rcode { rcode ≤ 15 }
-    ensures { octets_at desk.new result ≡ framed (error_octets head.now rcode) }
+    ensures { octets_at places.new result ≡ framed (error_octets head.now rcode) }
 {
-    write_error(head, rcode, &mut desk.reply);
+    write_error(head, rcode, &mut places.reply);
     Answer::Short
 }
 
@@ -64,35 +61,33 @@ fn query(
     seat: &mut CacheSeat,
     question: &Question,
     now: u32,
-    desk: &mut Desk,
+    places: &mut ReplyPlaces,
 ) -> Answer
     requires { IsSeatOf cache.now seat.old }
-    ensures object { IsSeatOf cache.now seat.new }
-    ensures same { IsSameSeat seat.old seat.new }
-    ensures begins { IsPrefix (seen_by seat.old) (seen_by seat.new) }
-    ensures answered { octets_at desk.new result
+    ensures read { HasOnlyRead cache.now seat.old seat.new }
+    ensures answered { octets_at places.new result
         ≡ answer_of (seen_by seat.new) now (reads.Query question.now) }
     ensures sound { IsSoundAt (seen_by seat.new) question.now now }
 {
     let version = cache.read(seat);
-    at_version(&version, question, now, desk)
+    at_version(&version, question, now, places)
 }
 
 fn at_version(
     version: &VersionRef<'_, Store>,
     question: &Question,
     now: u32,
-    desk: &mut Desk,
+    places: &mut ReplyPlaces,
 ) -> Answer
     requires { opening_by (seat_in version.now) ≡ nothing_held }
-    ensures answered { octets_at desk.new result
+    ensures answered { octets_at places.new result
         ≡ answer_of (seen_by (seat_in version.now)) now (reads.Query question.now) }
     ensures sound { IsSoundAt (seen_by (seat_in version.now)) question.now now }
 {
-    if long_reply(version.state(), question, now, &mut desk.long) {
+    if long_reply(version.state(), question, now, &mut places.long) {
         Answer::Long
     } else {
-        write_plain(question, SERVER_FAILURE, &mut desk.reply);
+        write_plain(question, SERVER_FAILURE, &mut places.reply);
         Answer::Short
     }
 }

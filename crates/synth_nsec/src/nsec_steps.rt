@@ -1,12 +1,14 @@
-ghost use Rattle.std.specs.Prelude.{◌≡◌, IfSome, IsTrue};
+ghost use Rattle.std.specs.Prelude.{◌≡◌, [], ◌∷◌, IfSome, IsTrue};
 ghost use Rattle.std.specs.Option.{option_or};
 ghost use Rattle.cache_meaning.specs.Zones.{IsInArc};
 ghost use Rattle.cache_meaning.specs.Evidence.{nsec_matches, nsec_covers};
-ghost use Rattle.cache_meaning.specs.NsecSteps.{no_data_by_match, no_data_by_wildcard, name_error, denial_at_source, by_cover, nsec_steps, nsec_proof};
+ghost use Rattle.cache_meaning.specs.NsecSteps.{nsecs_once, no_data_by_match, no_data_by_wildcard, name_error, denial_at_source, by_cover, nsec_steps, nsec_proof};
 ghost use Rattle.soundness.specs.Steps.{IsAsked};
 ghost use Rattle.soundness.specs.Sound.{IsSound};
 ghost use Rattle.synth_nsec.specs.NsecEvidence.{record_of, Says};
 
+use crate::at_source::AtSource;
+use crate::covering::Covering;
 use crate::nsec_evidence::{NsecEvidence, nsec_evidence};
 use crate::source::source_of;
 use cache_meaning::{
@@ -57,7 +59,7 @@ fn nsec_steps<'a, Z: HeldZone<'a>>(
     match evidence {
         NsecEvidence::Matches(matching) => no_data_by_match(zone, now, name, qtype, matching),
         NsecEvidence::ShowsEmpty(covering) => no_data(zone, now, Denials::nsec(covering)),
-        NsecEvidence::Covers(covering) => by_cover(zone, now, name, qtype, covering),
+        NsecEvidence::Covers(nsec) => by_cover(zone, now, name, qtype, Covering { nsec }),
     }
 }
 
@@ -87,15 +89,16 @@ fn by_cover<'a, Z: HeldZone<'a>>(
     now: u32,
     name: &Name,
     qtype: u16,
-    covering: &'a KeptNsec,
+    covering: Covering<'a>,
 ) -> Option<Proven<'a>>
-    requires inside { IsInArc name.now covering.now }
-    requires covered { IsTrue (nsec_covers covering.now name.now) }
+    requires inside { IsInArc name.now covering.nsec.now }
+    requires covered { IsTrue (nsec_covers covering.nsec.now name.now) }
     ensures { result
-        ≡ by_cover (Z.zone zone.now).held now (Z.zone zone.now).apex name.now qtype covering.now }
+        ≡ by_cover (Z.zone zone.now).held now (Z.zone zone.now).apex name.now qtype
+        covering.entry.nsec.now }
 {
     let source = source_of(covering, name);
-    let denials = Denials::nsec(covering);
+    let denials = Denials::nsec(covering.nsec);
     if let Some(proof) = answer_by_wildcard(zone, now, qtype, &source, denials) {
         return Some(proof);
     }
@@ -108,11 +111,11 @@ fn denial_at_source<'a, Z: HeldZone<'a>>(
     now: u32,
     qtype: u16,
     source: &Name,
-    covering: &'a KeptNsec,
+    covering: Covering<'a>,
 ) -> Option<Proven<'a>>
     ensures { result
         ≡ denial_at_source (Z.zone zone.now).held now (Z.zone zone.now).apex qtype source.now
-        covering.now }
+        covering.entry.nsec.now }
 {
     let evidence = nsec_evidence(zone, now, source)?;
     denial_by(zone, now, qtype, source, covering, evidence)
@@ -123,25 +126,25 @@ fn denial_by<'a, Z: HeldZone<'a>>(
     now: u32,
     qtype: u16,
     source: &Name,
-    covering: &'a KeptNsec,
+    covering: Covering<'a>,
     evidence: NsecEvidence<'a>,
 ) -> Option<Proven<'a>>
     requires { Says source.now evidence }
     ensures { result ≡ option_or
         (no_data_by_wildcard (Z.zone zone.now).held now (Z.zone zone.now).apex qtype source.now
-        covering.now (record_of evidence.entry))
-        (name_error (Z.zone zone.now).held now (Z.zone zone.now).apex source.now covering.now
-        (record_of evidence.entry)) }
+        covering.entry.nsec.now (record_of evidence.entry))
+        (name_error (Z.zone zone.now).held now (Z.zone zone.now).apex source.now
+        covering.entry.nsec.now (record_of evidence.entry)) }
 {
     match evidence {
-        NsecEvidence::Matches(at_source) => {
-            no_data_by_wildcard(zone, now, qtype, source, covering, at_source)
+        NsecEvidence::Matches(nsec) => {
+            no_data_by_wildcard(zone, now, qtype, source, covering, AtSource { nsec })
         }
-        NsecEvidence::ShowsEmpty(at_source) => {
-            no_data(zone, now, Denials::nsecs_once(covering, at_source))
+        NsecEvidence::ShowsEmpty(nsec) => {
+            no_data(zone, now, each_once(covering, AtSource { nsec }))
         }
-        NsecEvidence::Covers(at_source) => {
-            name_error(zone, now, Denials::nsecs_once(covering, at_source))
+        NsecEvidence::Covers(nsec) => {
+            name_error(zone, now, each_once(covering, AtSource { nsec }))
         }
     }
 }
@@ -152,17 +155,24 @@ fn no_data_by_wildcard<'a, Z: HeldZone<'a>>(
     now: u32,
     qtype: u16,
     source: &Name,
-    covering: &'a KeptNsec,
-    at_source: &'a KeptNsec,
+    covering: Covering<'a>,
+    at_source: AtSource<'a>,
 ) -> Option<Proven<'a>>
-    requires { IsTrue (nsec_matches at_source.now source.now) }
+    requires { IsTrue (nsec_matches at_source.nsec.now source.now) }
     ensures { result
         ≡ no_data_by_wildcard (Z.zone zone.now).held now (Z.zone zone.now).apex qtype source.now
-        covering.now at_source.now }
+        covering.entry.nsec.now at_source.entry.nsec.now }
 {
-    if deny_type_below(&at_source.types(), qtype) {
-        no_data(zone, now, Denials::nsecs_once(covering, at_source))
+    if deny_type_below(&at_source.nsec.types(), qtype) {
+        no_data(zone, now, each_once(covering, at_source))
     } else {
         None
     }
+}
+
+// The records of a denial of a name that doesn't exist, in the order of their roles.
+fn each_once<'a>(covering: Covering<'a>, at_source: AtSource<'a>) -> Denials<'a>
+    ensures { result ≡ nsecs_once (covering.entry.nsec.now ∷ at_source.entry.nsec.now ∷ []) }
+{
+    Denials::nsecs_once(covering.nsec, at_source.nsec)
 }

@@ -1,16 +1,19 @@
-ghost use Rattle.std.specs.Prelude.{◌≡◌, ◌∷◌, IfSome, IsTrue, if◌then◌else◌, Some, None};
+ghost use Rattle.std.specs.Prelude.{◌≡◌, [], ◌∷◌, IfSome, IsTrue, if◌then◌else◌, Some, None};
 ghost use Rattle.std.specs.Option.{option_or, option_and_then};
 ghost use Rattle.dname.specs.Name.{Label, asterisk};
 ghost use Rattle.cache_meaning.specs.Lent.{parameters_by};
 ghost use Rattle.cache_meaning.specs.Evidence.{nsec3_matches, nsec3_covers};
-ghost use Rattle.cache_meaning.specs.Nsec3Steps.{no_data_by_match, shows_encloser, no_data_by_wildcard, name_error, denial_at_source, denial_below, by_cover, by_enclosers, nsec3_proof};
+ghost use Rattle.cache_meaning.specs.Nsec3Steps.{nsec3s_once, no_data_by_match, shows_encloser, no_data_by_wildcard, name_error, denial_at_source, denial_below, by_cover, by_enclosers, nsec3_proof};
 ghost use Rattle.soundness.specs.Steps.{IsAsked};
 ghost use Rattle.soundness.specs.Sound.{IsSound};
 ghost use Rattle.synth_nsec3.specs.ChainAt.{chain_at, speaker};
 ghost use Rattle.synth_nsec3.specs.Nsec3Evidence.{record_of, Says, IsFound, IsAskedOf};
 ghost use Rattle.synth_nsec3.specs.declared.nsec3_evidence.Nsec3Evidence.{Nsec3Evidence};
 
+use crate::at_source::AtSource;
+use crate::covering::Covering;
 use crate::hashed_chain::HashedChain;
+use crate::matching::Matching;
 use crate::nsec3_evidence::{Asked, Nsec3Evidence};
 use cache_meaning::{
     Denials, HeldZone, Proven, answer_by_wildcard, deny_type, deny_type_below, hand_nothing_on,
@@ -145,8 +148,8 @@ fn at_encloser<'a, Z: HeldZone<'a>>(
     ensures asked { IsAskedOf (chain_at Z.zone chain.now) encloser.now result.1 }
 {
     match asked.evidence(chain, next_closer) {
-        Some(Nsec3Evidence::Covers(covering)) => {
-            by_cover(chain, qtype, next_closer, encloser, covering)
+        Some(Nsec3Evidence::Covers(nsec3)) => {
+            by_cover(chain, qtype, next_closer, encloser, Covering { nsec3 })
         }
         _ => (None, Asked::NotYet),
     }
@@ -158,19 +161,19 @@ fn by_cover<'a, Z: HeldZone<'a>>(
     qtype: u16,
     next_closer: &Name,
     encloser: &Name,
-    covering: &'a KeptNsec3,
+    covering: Covering<'a>,
 ) -> (Option<Proven<'a>>, Asked<'a>)
     requires covered { IsFound (chain_at Z.zone chain.now) next_closer.now
-        (Some (Nsec3Evidence.Covers covering)) }
+        (Some (Nsec3Evidence.Covers covering.nsec3)) }
     requires below { (label : Label) × (next_closer.now ≡ label ∷ encloser.now) }
     ensures proof { let at = chain_at Z.zone chain.now in
         result.0
         ≡ by_cover at.held at.moment at.apex at.parameters qtype next_closer.now encloser.now
-        covering.now }
+        covering.entry.nsec3.now }
     ensures asked { IsAskedOf (chain_at Z.zone chain.now) encloser.now result.1 }
 {
     let source = wildcard_below(next_closer, encloser);
-    let denials = Denials::nsec3(covering);
+    let denials = Denials::nsec3(covering.nsec3);
     if let Some(proof) = answer_by_wildcard(chain.zone, chain.moment, qtype, &source, denials) {
         return (Some(proof), Asked::NotYet);
     }
@@ -185,14 +188,14 @@ fn asked_before<'a, Z: HeldZone<'a>>(
     chain: &HashedChain<'_, Z>,
     next_closer: &Name,
     source: &Name,
-    covering: &'a KeptNsec3,
+    covering: Covering<'a>,
 ) -> Asked<'a>
     requires { IsFound (chain_at Z.zone chain.now) next_closer.now
-        (Some (Nsec3Evidence.Covers covering)) }
+        (Some (Nsec3Evidence.Covers covering.nsec3)) }
     ensures { IsAskedOf (chain_at Z.zone chain.now) source.now result }
 {
     if source == next_closer {
-        Asked::Before(Some(Nsec3Evidence::Covers(covering)))
+        Asked::Before(Some(Nsec3Evidence::Covers(covering.nsec3)))
     } else {
         Asked::NotYet
     }
@@ -204,7 +207,7 @@ fn denial_below<'a, Z: HeldZone<'a>>(
     qtype: u16,
     encloser: &Name,
     source: &Name,
-    covering: &'a KeptNsec3,
+    covering: Covering<'a>,
     evidence: Option<Nsec3Evidence<'a>>,
     of_source: Asked<'a>,
 ) -> Option<Proven<'a>>
@@ -213,12 +216,14 @@ fn denial_below<'a, Z: HeldZone<'a>>(
     requires wildcard { source.now ≡ asterisk ∷ encloser.now }
     ensures { let at = chain_at Z.zone chain.now in
         result
-        ≡ denial_below at.held at.moment at.apex at.parameters qtype encloser.now covering.now }
+        ≡ denial_below at.held at.moment at.apex at.parameters qtype encloser.now
+        covering.entry.nsec3.now }
 {
     match evidence {
-        Some(Nsec3Evidence::Matches(matching)) => {
+        Some(Nsec3Evidence::Matches(nsec3)) => {
+            let matching = Matching { nsec3 };
             below_encloser(
-                chain, qtype, encloser, source, covering, matching, of_source,
+                chain, qtype, encloser, source, matching, covering, of_source,
             )
         }
         _ => None,
@@ -231,22 +236,23 @@ fn below_encloser<'a, Z: HeldZone<'a>>(
     qtype: u16,
     encloser: &Name,
     source: &Name,
-    covering: &'a KeptNsec3,
-    matching: &'a KeptNsec3,
+    matching: Matching<'a>,
+    covering: Covering<'a>,
     of_source: Asked<'a>,
 ) -> Option<Proven<'a>>
     requires asked { IsAskedOf (chain_at Z.zone chain.now) source.now of_source }
     requires matches { IsTrue
-        (nsec3_matches (chain_at Z.zone chain.now).parameters matching.now encloser.now) }
+        (nsec3_matches (chain_at Z.zone chain.now).parameters matching.nsec3.now encloser.now) }
     requires wildcard { source.now ≡ asterisk ∷ encloser.now }
     ensures { let at = chain_at Z.zone chain.now in
         result
-        ≡ (if shows_encloser at.parameters at.apex encloser.now matching.now
+        ≡ (if shows_encloser at.parameters at.apex encloser.now matching.entry.nsec3.now
         then denial_at_source at.held at.moment at.apex at.parameters qtype
-        (asterisk ∷ encloser.now) matching.now covering.now
+        (asterisk ∷ encloser.now) matching.entry.nsec3.now covering.entry.nsec3.now
         else None) }
 {
-    if hand_nothing_on(&matching.types(), chain.apex().lent(), encloser.lent()) {
+    let types = matching.nsec3.types();
+    if hand_nothing_on(&types, chain.apex().lent(), encloser.lent()) {
         denial_at_source(chain, qtype, source, matching, covering, of_source)
     } else {
         None
@@ -258,15 +264,15 @@ fn denial_at_source<'a, Z: HeldZone<'a>>(
     chain: &HashedChain<'_, Z>,
     qtype: u16,
     source: &Name,
-    matching: &'a KeptNsec3,
-    covering: &'a KeptNsec3,
+    matching: Matching<'a>,
+    covering: Covering<'a>,
     of_source: Asked<'a>,
 ) -> Option<Proven<'a>>
     requires { IsAskedOf (chain_at Z.zone chain.now) source.now of_source }
     ensures { let at = chain_at Z.zone chain.now in
         result
-        ≡ denial_at_source at.held at.moment at.apex at.parameters qtype source.now matching.now
-        covering.now }
+        ≡ denial_at_source at.held at.moment at.apex at.parameters qtype source.now
+        matching.entry.nsec3.now covering.entry.nsec3.now }
 {
     let evidence = of_source.evidence(chain, source)?;
     denial_by(chain, qtype, source, matching, covering, evidence)
@@ -276,27 +282,26 @@ fn denial_by<'a, Z: HeldZone<'a>>(
     chain: &HashedChain<'_, Z>,
     qtype: u16,
     source: &Name,
-    matching: &'a KeptNsec3,
-    covering: &'a KeptNsec3,
+    matching: Matching<'a>,
+    covering: Covering<'a>,
     evidence: Nsec3Evidence<'a>,
 ) -> Option<Proven<'a>>
     requires { Says (chain_at Z.zone chain.now) source.now evidence }
     ensures { let at = chain_at Z.zone chain.now in
         result ≡ option_or
-        (no_data_by_wildcard at.held at.moment at.apex at.parameters qtype source.now matching.now
-        covering.now (record_of evidence.entry))
-        (name_error at.held at.moment at.apex at.parameters source.now matching.now covering.now
-        (record_of evidence.entry)) }
+        (no_data_by_wildcard at.held at.moment at.apex at.parameters qtype source.now
+        matching.entry.nsec3.now covering.entry.nsec3.now (record_of evidence.entry))
+        (name_error at.held at.moment at.apex at.parameters source.now matching.entry.nsec3.now
+        covering.entry.nsec3.now (record_of evidence.entry)) }
 {
     match evidence {
-        Nsec3Evidence::Matches(at_source) => {
-            no_data_by_wildcard(chain, qtype, source, matching, covering, at_source)
+        Nsec3Evidence::Matches(nsec3) => {
+            no_data_by_wildcard(chain, qtype, source, matching, covering, AtSource { nsec3 })
         }
-        Nsec3Evidence::Covers(at_source) => name_error(
-            chain.zone,
-            chain.moment,
-            Denials::nsec3s_once(matching, covering, at_source),
-        ),
+        Nsec3Evidence::Covers(nsec3) => {
+            let denials = each_once(matching, covering, AtSource { nsec3 });
+            name_error(chain.zone, chain.moment, denials)
+        }
         Nsec3Evidence::Spans(_) => None,
     }
 }
@@ -306,24 +311,33 @@ fn no_data_by_wildcard<'a, Z: HeldZone<'a>>(
     chain: &HashedChain<'_, Z>,
     qtype: u16,
     source: &Name,
-    matching: &'a KeptNsec3,
-    covering: &'a KeptNsec3,
-    at_source: &'a KeptNsec3,
+    matching: Matching<'a>,
+    covering: Covering<'a>,
+    at_source: AtSource<'a>,
 ) -> Option<Proven<'a>>
     requires { IsTrue
-        (nsec3_matches (chain_at Z.zone chain.now).parameters at_source.now source.now) }
+        (nsec3_matches (chain_at Z.zone chain.now).parameters at_source.nsec3.now source.now) }
     ensures { let at = chain_at Z.zone chain.now in
         result
         ≡ no_data_by_wildcard at.held at.moment at.apex at.parameters qtype source.now
-        matching.now covering.now at_source.now }
+        matching.entry.nsec3.now covering.entry.nsec3.now at_source.entry.nsec3.now }
 {
-    if deny_type_below(&at_source.types(), qtype) {
-        no_data(
-            chain.zone,
-            chain.moment,
-            Denials::nsec3s_once(matching, covering, at_source),
-        )
+    if deny_type_below(&at_source.nsec3.types(), qtype) {
+        let denials = each_once(matching, covering, at_source);
+        no_data(chain.zone, chain.moment, denials)
     } else {
         None
     }
+}
+
+// The records of a denial below an encloser, in the order of their roles.
+fn each_once<'a>(
+    matching: Matching<'a>,
+    covering: Covering<'a>,
+    at_source: AtSource<'a>,
+) -> Denials<'a>
+    ensures { result ≡ nsec3s_once (matching.entry.nsec3.now ∷ covering.entry.nsec3.now
+        ∷ at_source.entry.nsec3.now ∷ []) }
+{
+    Denials::nsec3s_once(matching.nsec3, covering.nsec3, at_source.nsec3)
 }

@@ -24,7 +24,7 @@ use Rattle.worker_seats.specs.Shift.{IsInTurn, IsShift}
 use Rattle.worker_seats.specs.Workers.{HasSameWorker, HaveWorked, inputs_of, outputs_of}
 use Rattle.worker_seats.specs.Laws.{AreShifts}
 use Rattle.worker_seats.specs.WalkReplay.{IsReplayBy}
-use Rattle.worker_seats.specs.declared.answering.Answering.{Answering}
+use Rattle.resolver.specs.declared.answering.Answering.{Answering}
 use Rattle.cache_versions.proofs.Fronts.{prefix_length}
 use Rattle.worker_seats.proofs.AnswerLemmas.{answered_more, placed_above, answered_for}
 use Rattle.worker_seats.proofs.OwnLemmas.{zip_own, pairs_own, parts_sum, parts_few, at_least}

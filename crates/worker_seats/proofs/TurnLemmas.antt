@@ -1,12 +1,14 @@
 -- What one frame does over a seat.
-use Rattle.std.proofs.Common.{◌≡◌, ℕ, ◌+◌, ◌-◌, ◌^◌, ◌≤◌, ◌⊎◌, inl, inr, Bool, false, cond, List, [], ◌∷◌, ◌++◌, length, take, Option, slice_get, refl, sym, ◌∙◌, ap, subst, arith, length-append}
+use Rattle.std.proofs.Common.{◌≡◌, ℕ, ◌+◌, ◌-◌, ◌^◌, ◌≤◌, ◌⊎◌, inl, inr, Bool, false, cond, List, [], ◌∷◌, ◌++◌, length, take, Option, Some, slice_get, refl, sym, ◌∙◌, ap, subst, arith, length-append}
 use Rattle.std.specs.Prelude.{Result, Ok, Err, OnOk}
 use Rattle.std.proofs.lemmas.Bool.{false≢true}
 use Rattle.std.proofs.lemmas.List.{append-nil, take_all}
+use Rattle.std.proofs.lemmas.Option.{none-some, same_Some}
 use Rattle.facts.proofs.Lists.{at_end}
 use Rattle.dnswire.specs.Query.{IsReadAs}
 use Rattle.dnswire.specs.declared.question.Question.{Question}
 use Rattle.dnswire.specs.declared.query_read.QueryRead.{QueryRead}
+use Rattle.dnswire.specs.declared.query_read.QueryRead.TheVariants as reads
 use Rattle.intake.specs.Batch.{Gives, IsFault}
 use Rattle.intake.specs.declared.taken.Taken.{Taken}
 use Rattle.intake.specs.declared.intake_fault.IntakeFault.{IntakeFault}
@@ -26,9 +28,10 @@ use Rattle.replay_meaning.specs.Step.{Query, Insert, Tell, query_step, answer_st
 use Rattle.replay_meaning.specs.Fits.{Rule, is_placed, query_output, told_output}
 use Rattle.replay_meaning.specs.declared.frame.FrameKind.TheVariants as kinds
 use Rattle.replay_meaning.specs.declared.out_frame.OutKind.{OutKind}
-use Rattle.replay_meaning.specs.declared.out_frame.OutKind.TheVariants.{Stored}
+use Rattle.replay_meaning.specs.declared.out_frame.OutKind.TheVariants.{Stored, Error}
 use Rattle.replay_meaning.proofs.StepLemmas.{tells_no_call}
 use Rattle.replay_meaning.proofs.OneOutputLemmas.{query_worker}
+use Rattle.resolver.specs.QueryStep.{fault_octets}
 use Rattle.worker_seats.specs.Answer.{IsAnswered}
 use Rattle.worker_seats.specs.OneFrame.{DoesOneFrame, IsDone, Writes, WritesCall, places_of}
 use Rattle.worker_seats.proofs.AnswerLemmas.{query_places_none, query_version}
@@ -149,6 +152,17 @@ module _ {g : Ghosts Held Batch (Unit {0})} where
 
 pub query_does : (input : Input) (read : QueryRead) → input.kind ≡ kinds.Query → IsReadAs input.message read → Does input (query_step read)
 query_does input read kind reads = subst (λ k. DoesBy k input.now input.message (query_step read)) (sym kind) (read, reads, refl)
+
+-- a fault is told by its octets
+fault_step : (read : QueryRead) (octets : List ℕ) → fault_octets read ≡ Some octets → query_step read ≡ Tell Error octets
+fault_step reads.Dropped octets is = absurd (none-some octets is)
+fault_step (reads.NotImp head) octets is = ap (Tell Error) (same_Some _ octets is)
+fault_step (reads.FormErr head) octets is = ap (Tell Error) (same_Some _ octets is)
+fault_step (reads.BadVers question) octets is = ap (Tell Error) (same_Some _ octets is)
+fault_step (reads.Query question) octets is = absurd (none-some octets is)
+
+pub fault_does : (input : Input) (read : QueryRead) (octets : List ℕ) → input.kind ≡ kinds.Query → IsReadAs input.message read → fault_octets read ≡ Some octets → Does input (Tell Error octets)
+fault_does input read octets kind reads is = subst (Does input) (fault_step read octets is) (query_does input read kind reads)
 
 pub answer_does : (input : Input) (given : Result Taken IntakeFault) → input.kind ≡ kinds.Upstream → Gives input.message input.now given → Does input (answer_step given)
 answer_does input given kind gives = subst (λ k. DoesBy k input.now input.message (answer_step given)) (sym kind) (given, gives, refl)

@@ -23,16 +23,16 @@ use Rattle.replay_meaning.proofs.FrameLemmas.{inputs_have_one}
 use Rattle.replay_meaning.proofs.OneOutputLemmas.{has_one_output}
 use Rattle.replay_meaning.proofs.SoundLemmas.{asks_by, replies_are_sound}
 use Rattle.replay_meaning.proofs.StepLemmas.{tells_no_call}
-use Rattle.alias_chain.specs.Walk.{Walk, walk_of}
-use Rattle.alias_chain.specs.SoundWalk.{IsSoundWalk}
-use Rattle.alias_chain.specs.WalkReply.{octets_at, walk_in, walk_reply_in}
-use Rattle.alias_chain.specs.declared.rule.Rule.{Rule}
-use Rattle.alias_chain.proofs.SoundLemmas.{walk_sound}
+use Rattle.resolver.specs.Walk.{Walk, walk_of}
+use Rattle.resolver.specs.SoundWalk.{IsSoundWalk}
+use Rattle.resolver.specs.WalkReply.{octets_at, walk_in, walk_reply_in}
+use Rattle.resolver.specs.declared.rule.Rule.{Rule}
+use Rattle.resolver.proofs.SoundLemmas.{walk_sound}
 use Rattle.worker_seats.specs.Answering.{rule_of}
 use Rattle.worker_seats.specs.Laws.{HasOneWalkReplay, WalkRepliesAreSound}
 use Rattle.worker_seats.specs.WalkReplay.{IsSoundWalkReply, IsReplayBy}
-use Rattle.worker_seats.specs.declared.answering.Answering.{Answering}
-use Rattle.worker_seats.specs.declared.answering.Answering.TheVariants.{ByProof, ByWalk}
+use Rattle.resolver.specs.declared.answering.Answering.{Answering}
+use Rattle.resolver.specs.declared.answering.Answering.TheVariants.{ByProof, ByWalk}
 
 -- ---- a walk for a question is sound
 

@@ -3,18 +3,15 @@ use Rattle.std.specs.Prelude.{◌≡◌, ℕ, List, length, Some, None}
 use Rattle.dnswire.specs.declared.question.Question.{Question}
 use Rattle.denial_records.specs.declared.batch.Batch.{Batch}
 use Rattle.cache_meaning.specs.Held.{held_of}
-use Rattle.reply_core.specs.Answered.{reply_in}
 use Rattle.resolver.specs.declared.outcome.Outcome.{Outcome}
 use Rattle.resolver.specs.declared.outcome.Outcome.TheVariants.{Answered, Forward}
 use Rattle.replay_meaning.specs.Fits.{Rule}
-use Rattle.alias_chain.specs.WalkReply.{walk_reply_in}
-use Rattle.worker_seats.specs.declared.answering.Answering.{Answering}
-use Rattle.worker_seats.specs.declared.answering.Answering.TheVariants.{ByProof, ByWalk}
+use Rattle.resolver.specs.Answering.{reply_by}
+use Rattle.resolver.specs.declared.answering.Answering.{Answering}
 
 -- by what is proved of the question itself, or by a walk
 abbrev pub rule_of : Answering → Rule
-rule_of ByProof = reply_in
-rule_of (ByWalk rule) = walk_reply_in rule
+rule_of answering = reply_by answering
 
 -- ---- no public clause cites what follows
 

@@ -7,8 +7,8 @@ use Rattle.cache_versions.specs.Hands.{AreAllBelow}
 use Rattle.replay_meaning.specs.Frame.{Input}
 use Rattle.replay_meaning.specs.OutFrame.{Output}
 use Rattle.replay_meaning.specs.Fits.{Rule, Fits}
-use Rattle.alias_chain.specs.WalkReply.{walk_reply_in}
-use Rattle.alias_chain.specs.declared.rule.Rule.{Rule as WalkRule}
+use Rattle.resolver.specs.WalkReply.{walk_reply_in}
+use Rattle.resolver.specs.declared.rule.Rule.{Rule as WalkRule}
 use Rattle.worker_seats.specs.Answer.{AreFewEnough}
 use Rattle.worker_seats.specs.Shift.{IsShift}
 use Rattle.worker_seats.specs.Workers.{HasSameWorker, inputs_of, outputs_of}

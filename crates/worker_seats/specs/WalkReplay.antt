@@ -11,12 +11,12 @@ use Rattle.replay_meaning.specs.OutFrame.{Output, IsOutput, outputs_spelling}
 use Rattle.replay_meaning.specs.Fits.{Fits}
 use Rattle.replay_meaning.specs.Replay.{SpellsFrames, IsReplay}
 use Rattle.replay_meaning.specs.declared.out_frame.OutKind.TheVariants.{Reply}
-use Rattle.alias_chain.specs.Walk.{Walk}
-use Rattle.alias_chain.specs.SoundWalk.{IsSoundWalk}
-use Rattle.alias_chain.specs.WalkReply.{octets_at, walk_in, walk_reply_in}
-use Rattle.alias_chain.specs.declared.rule.Rule.{Rule}
-use Rattle.worker_seats.specs.declared.answering.Answering.{Answering}
-use Rattle.worker_seats.specs.declared.answering.Answering.TheVariants.{ByProof, ByWalk}
+use Rattle.resolver.specs.Walk.{Walk}
+use Rattle.resolver.specs.SoundWalk.{IsSoundWalk}
+use Rattle.resolver.specs.WalkReply.{octets_at, walk_in, walk_reply_in}
+use Rattle.resolver.specs.declared.rule.Rule.{Rule}
+use Rattle.resolver.specs.declared.answering.Answering.{Answering}
+use Rattle.resolver.specs.declared.answering.Answering.TheVariants.{ByProof, ByWalk}
 
 -- the reply is the octets of the walk that the records held at its version have for the question, and the walk is sound
 pub record IsWalked (rule : Rule) (placed : List Batch) (input : Input) (output : Output) : Type 0 where

@@ -8,8 +8,7 @@ use Rattle.cache_versions.specs.declared.seat.Seat.{Seat}
 use Rattle.replay_meaning.specs.Frame.{Input}
 use Rattle.replay_meaning.specs.OutFrame.{Output, IsOutput, outputs_spelling}
 use Rattle.replay_meaning.specs.Fits.{Rule}
-use Rattle.cache_versions.specs.Seats.{number_by}
-use Rattle.resolver.specs.Caches.{IsSeatOf}
+use Rattle.resolver.specs.Caches.{HasGoneOn}
 use Rattle.resolver.specs.declared.shared_cache.SharedCache.{SharedCache}
 use Rattle.worker_seats.specs.declared.cut.Cut.{Cut}
 use Rattle.worker_seats.specs.declared.cut.TheConstants.{RANGE}
@@ -29,8 +28,7 @@ module _ {g : Ghosts Held Batch (Unit {0})} where
 
 -- the worker did its work over its seat of the cache, and leaves this
 pub record IsShiftOf (rule : Rule) (cache : SharedCache) (job : Job) (inputs : List Input) (shift : Shift) : Type 0 where
-  pub object : IsSeatOf cache shift.seat
-  pub number : number_by shift.seat ≡ number_by job.seat
+  pub on : HasGoneOn cache job.seat shift.seat
   pub work : IsWork rule job.worker job.seat shift.seat inputs shift.octets.items
   pub cuts : AreCuts job.worker inputs shift.octets.items shift.cuts.items
 

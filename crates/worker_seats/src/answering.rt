@@ -1,11 +1,10 @@
-ghost use Rattle.std.specs.Prelude.{◌≡◌, ◌<◌, ◌≤◌, ◌^◌, [], ◌∷◌, length, OnOk, OnErr, IsSome};
-ghost use mathlib.Core.List.{IsPrefix};
+ghost use Rattle.std.specs.Prelude.{◌≡◌, ◌<◌, ◌^◌, [], ◌∷◌, length, OnOk, OnErr};
 ghost use Rattle.dnswire.specs.Query.{IsReadAs};
 ghost use Rattle.intake.specs.Batch.{IsTaken};
-ghost use Rattle.reply_core.specs.Error.{error_octets, plain_octets};
-ghost use Rattle.reply_core.specs.declared.rcode.TheConstants.{BAD_VERSION};
-ghost use Rattle.cache_versions.specs.Seats.{IsSameSeat, number_by, places_by, seen_by};
-ghost use Rattle.resolver.specs.Caches.{IsSeatOf};
+ghost use Rattle.cache_meaning.specs.Held.{nothing_held};
+ghost use Rattle.cache_versions.specs.Lends.{seat_in};
+ghost use Rattle.cache_versions.specs.Seats.{opening_by, seen_by};
+ghost use Rattle.resolver.specs.Caches.{HasGoneOn, HasOnlyRead, IsSeatOf};
 ghost use Rattle.replay_meaning.specs.Frame.{input_of};
 ghost use Rattle.replay_meaning.specs.Outcome.{stored_octets, refusal_code};
 ghost use Rattle.replay_meaning.specs.declared.frame.FrameKind.{FrameKind};
@@ -15,25 +14,19 @@ ghost use Rattle.replay_meaning.specs.Fits.{Rule as AnyRule};
 ghost use Rattle.worker_seats.specs.Answering.{IsOutcomeBy, rule_of};
 ghost use Rattle.worker_seats.specs.OneFrame.{DoesOneFrame, HasPlacedAtMost, Writes, WritesCall, output_for};
 
-use alias_chain::Rule;
+use cache_versions::VersionRef;
 use dname::OutOfMemory;
-use dnswire::{Head, QueryRead, Question, read_query};
+use dnswire::{Question, read_query};
 use intake::{IntakeFault, Taken, batch_of};
+use record_store::Store;
 use replay_meaning::{Frame, FrameKind, OutFrame, OutKind};
-use reply_core::rcode::{BAD_VERSION, FORMAT_ERROR, NOT_IMPLEMENTED};
-use reply_core::{ReplyBuffer, write_error, write_plain};
-use resolver::{CacheFault, CacheSeat, Outcome, SharedCache};
+use reply_core::ReplyBuffer;
+use resolver::{
+    Answering, CacheFault, CacheSeat, Counts, Outcome, QueryStep, SharedCache, query_step_of,
+    reply_by,
+};
 use std::alloc::{AllocError, Global};
 use std::sync::Wait;
-
-/// By what queries are answered.
-#[derive(Clone, Copy, Debug, PartialEq, Eq)]
-pub enum Answering {
-    /// By what is proved of the question itself.
-    ByProof,
-    /// By a walk from the question's name on, of such links.
-    ByWalk { rule: Rule },
-}
 
 /// The code of a call whose version has no number that an output frame can tell.
 const NUMBERS_SPENT: u8 = 8;
@@ -51,9 +44,7 @@ pub fn one_frame<R: Wait>(
     out: &mut Vec<u8>,
 ) -> Result<(), OutOfMemory>
     requires { IsSeatOf cache.now seat.old }
-    ensures object { IsSeatOf cache.now seat.new }
-    ensures number { number_by seat.new ≡ number_by seat.old }
-    ensures begins { IsPrefix (seen_by seat.old) (seen_by seat.new) }
+    ensures on { HasGoneOn cache.now seat.old seat.new }
     ensures done { OnOk result (DoesOneFrame (rule_of answering)
         seat.old seat.new (input_of frame.entry.now) out.old.items out.new.items) }
     ensures kept { OnErr result (out.new.items ≡ out.old.items) }
@@ -75,20 +66,15 @@ fn query_frame(
 ) -> Result<(), OutOfMemory>
     requires kind { frame.now.kind ≡ FrameKind.Query }
     requires object { IsSeatOf cache.now seat.old }
-    ensures object { IsSeatOf cache.now seat.new }
-    ensures number { number_by seat.new ≡ number_by seat.old }
-    ensures begins { IsPrefix (seen_by seat.old) (seen_by seat.new) }
-    ensures places { places_by seat.new ≡ places_by seat.old }
+    ensures read { HasOnlyRead cache.now seat.old seat.new }
     ensures done { OnOk result (DoesOneFrame (rule_of answering)
         seat.old seat.new (input_of frame.entry.now) out.old.items out.new.items) }
     ensures kept { OnErr result (out.new.items ≡ out.old.items) }
 {
-    match &read_query(frame.message) {
-        QueryRead::Dropped => write_output(frame, OutKind::Dropped, 0, &[], out),
-        QueryRead::NotImp(head) => write_error_output(frame, head, NOT_IMPLEMENTED, reply, out),
-        QueryRead::FormErr(head) => write_error_output(frame, head, FORMAT_ERROR, reply, out),
-        QueryRead::BadVers(question) => write_bad_version_output(frame, question, reply, out),
-        QueryRead::Query(question) => ask(cache, seat, answering, frame, question, reply, out),
+    match query_step_of(&read_query(frame.message), reply) {
+        QueryStep::Dropped => write_output(frame, OutKind::Dropped, 0, &[], out),
+        QueryStep::Error => write_output(frame, OutKind::Error, 0, reply.as_slice(), out),
+        QueryStep::Query(question) => ask(cache, seat, answering, frame, question, reply, out),
     }
 }
 
@@ -105,10 +91,7 @@ fn ask(
     requires kind { frame.now.kind ≡ FrameKind.Query }
     requires read { IsReadAs frame.now.message.now (QueryRead.Query question.now) }
     requires object { IsSeatOf cache.now seat.old }
-    ensures object { IsSeatOf cache.now seat.new }
-    ensures number { number_by seat.new ≡ number_by seat.old }
-    ensures begins { IsPrefix (seen_by seat.old) (seen_by seat.new) }
-    ensures places { places_by seat.new ≡ places_by seat.old }
+    ensures read { HasOnlyRead cache.now seat.old seat.new }
     ensures done { OnOk result (DoesOneFrame (rule_of answering)
         seat.old seat.new (input_of frame.entry.now) out.old.items out.new.items) }
     ensures kept { OnErr result (out.new.items ≡ out.old.items) }
@@ -130,15 +113,31 @@ fn answer(
     reply: &mut ReplyBuffer,
 ) -> Outcome
     requires { IsSeatOf cache.now seat.old }
-    ensures object { IsSeatOf cache.now seat.new }
-    ensures same { IsSameSeat seat.old seat.new }
-    ensures begins { IsPrefix (seen_by seat.old) (seen_by seat.new) }
+    ensures read { HasOnlyRead cache.now seat.old seat.new }
     ensures outcome { IsOutcomeBy
         (rule_of answering) (seen_by seat.new) question.now now result reply.new }
 {
-    match answering {
-        Answering::ByProof => cache.query(seat, question, now, reply),
-        Answering::ByWalk { rule } => alias_chain::answer(cache, seat, rule, question, now, reply),
+    let version = cache.read(seat);
+    outcome_at(&version, answering, question, now, reply)
+}
+
+// What becomes of a query at a moment, in seconds, at a version.
+fn outcome_at(
+    version: &VersionRef<'_, Store>,
+    answering: Answering,
+    question: &Question,
+    now: u32,
+    out: &mut ReplyBuffer,
+) -> Outcome
+    requires { opening_by (seat_in version.now) ≡ nothing_held }
+    ensures { IsOutcomeBy
+        (rule_of answering) (seen_by (seat_in version.now)) question.now now result out.new }
+{
+    let number = version.number();
+    if reply_by(version.state(), answering, question, now, out) {
+        Outcome::Answered { version: number }
+    } else {
+        Outcome::Forward { version: number }
     }
 }
 
@@ -152,9 +151,7 @@ fn upstream_frame<R: Wait>(
 ) -> Result<(), OutOfMemory>
     requires kind { frame.now.kind ≡ FrameKind.Upstream }
     requires object { IsSeatOf cache.now seat.old }
-    ensures object { IsSeatOf cache.now seat.new }
-    ensures number { number_by seat.new ≡ number_by seat.old }
-    ensures begins { IsPrefix (seen_by seat.old) (seen_by seat.new) }
+    ensures on { HasGoneOn cache.now seat.old seat.new }
     ensures done { OnOk result ((rule : AnyRule) → DoesOneFrame rule
         seat.old seat.new (input_of frame.entry.now) out.old.items out.new.items) }
     ensures kept { OnErr result (out.new.items ≡ out.old.items) }
@@ -179,9 +176,7 @@ fn insert<R: Wait>(
     requires kind { frame.now.kind ≡ FrameKind.Upstream }
     requires taken { IsTaken frame.now.message.now frame.now.now taken }
     requires object { IsSeatOf cache.now seat.old }
-    ensures object { IsSeatOf cache.now seat.new }
-    ensures number { number_by seat.new ≡ number_by seat.old }
-    ensures begins { IsPrefix (seen_by seat.old) (seen_by seat.new) }
+    ensures on { HasGoneOn cache.now seat.old seat.new }
     ensures done { OnOk result ((rule : AnyRule) → DoesOneFrame rule
         seat.old seat.new (input_of frame.entry.now) out.old.items out.new.items) }
     ensures kept { OnErr result (out.new.items ≡ out.old.items) }
@@ -248,42 +243,6 @@ fn write_output(
     output.write(out)
 }
 
-// Writes the frame of an error that is a header alone.
-fn write_error_output(
-    frame: &Frame<'_>,
-    head: &Head,
-    rcode: u16,
-    reply: &mut ReplyBuffer,
-    out: &mut Vec<u8>,
-) -> Result<(), OutOfMemory>
-    requires opcode { head.now.opcode ≤ 15 }
-    requires rcode { rcode ≤ 15 }
-    ensures written { OnOk result
-        (Writes (output_for frame.entry.now OutKind.Error 0 (error_octets head.now rcode))
-        out.old.items out.new.items) }
-    ensures kept { OnErr result (out.new.items ≡ out.old.items) }
-{
-    write_error(head, rcode, reply);
-    write_output(frame, OutKind::Error, 0, reply.as_slice(), out)
-}
-
-// Writes the frame of the error that tells of an OPT record of another version.
-fn write_bad_version_output(
-    frame: &Frame<'_>,
-    question: &Question,
-    reply: &mut ReplyBuffer,
-    out: &mut Vec<u8>,
-) -> Result<(), OutOfMemory>
-    requires { IsSome question.now.edns }
-    ensures written { OnOk result
-        (Writes (output_for frame.entry.now OutKind.Error 0 (plain_octets question.now BAD_VERSION))
-        out.old.items out.new.items) }
-    ensures kept { OnErr result (out.new.items ≡ out.old.items) }
-{
-    write_plain(question, BAD_VERSION, reply);
-    write_output(frame, OutKind::Error, 0, reply.as_slice(), out)
-}
-
 // Writes the frame of an upstream answer that intake refuses.
 fn write_refused_output(
     frame: &Frame<'_>,
@@ -311,8 +270,9 @@ fn write_refused_output(
 fn stored_body(taken: &Taken) -> [u8; 4]
     ensures { result ≡ stored_octets taken.now }
 {
-    let stored = (taken.batch.records.len() % 0x1_0000) as u16;
-    let skipped = (taken.skipped % 0x1_0000) as u16;
+    let counts = Counts::of(taken);
+    let stored = (counts.stored % 0x1_0000) as u16;
+    let skipped = (counts.skipped % 0x1_0000) as u16;
     let [a, b] = stored.to_be_bytes();
     let [c, d] = skipped.to_be_bytes();
     [a, b, c, d]

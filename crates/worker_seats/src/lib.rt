@@ -2,7 +2,7 @@
 //! inputs. A replay answers by what is proved of a query's question, or by walks from its name on.
 //!
 //! Of this crate's specs read `specs/Answering.antt`, `WalkReplay`, `Answer`, `OneFrame`, `Shift`, `Workers`, `Merge`, `Cuts`
-//! and `Laws`, in this order, and `Frames`.
+//! and `Laws`, in this order, and `Frames`; `Work`, `Ranges` and `Gather` serve the inner steps.
 #![tactic(auto)]
 
 mod answering;
@@ -18,9 +18,10 @@ mod shift;
 mod starts;
 mod workers;
 
-pub use answering::{Answering, one_frame};
+pub use answering::one_frame;
 pub use frames::Frames;
 pub use laws::{one_walk_replay, shifts_fit, walk_replies_are_sound};
 pub use merge::write_outputs;
 pub use outputs::Outputs;
+pub use resolver::Answering;
 pub use workers::run_workers;

@@ -1,6 +1,5 @@
-ghost use Rattle.std.specs.Prelude.{◌≡◌, ◌<◌, ◌^◌, IfOk, length};
-ghost use Rattle.cache_versions.specs.Seats.{number_by};
-ghost use Rattle.resolver.specs.Caches.{IsSeatOf};
+ghost use Rattle.std.specs.Prelude.{◌<◌, ◌^◌, IfOk, length};
+ghost use Rattle.resolver.specs.Caches.{HasGoneOn, IsSeatOf};
 ghost use Rattle.worker_seats.specs.Answering.{rule_of};
 ghost use Rattle.worker_seats.specs.Cuts.{AreCuts};
 ghost use Rattle.worker_seats.specs.Work.{HasPassed, IsWork};
@@ -42,8 +41,7 @@ pub(crate) fn work_shift<R: Wait, G: Gate>(
 ) -> Result<Shift, OutOfMemory>
     requires object { IsSeatOf cache.now job.seat }
     requires few { length frames.now < 2 ^ 32 }
-    ensures object { IfOk result (λ shift. IsSeatOf cache.now shift.seat) }
-    ensures number { IfOk result (λ shift. number_by shift.seat ≡ number_by job.seat) }
+    ensures on { IfOk result (λ shift. HasGoneOn cache.now job.seat shift.seat) }
     ensures cuts { IfOk result (λ shift.
         AreCuts job.worker frames.now shift.octets.items shift.cuts.items) }
     ensures work { IfOk result (λ shift.

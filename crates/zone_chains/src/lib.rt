@@ -1,7 +1,7 @@
 //! The denial records of one zone that a store holds, by chain, found by search.
 //!
 //! Of this crate's specs read `specs/Zone.antt`; its words are those of `cache_meaning` (`specs/Held.antt`,
-//! `specs/Zones.antt`).
+//! `specs/Zones.antt`). For the inner steps there are, in reading order, `Spans`, `Chains`, `Views`, `Changes` and `ApexHashes`.
 #![tactic(auto)]
 
 mod apex_hashes;

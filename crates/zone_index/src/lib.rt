@@ -1,7 +1,7 @@
 //! A zone that is found by search: which records it has, which names are live and which exist, by name and by hash; and
 //! whether a kept record is true of it.
 //!
-//! Specs, in reading order: `Entries`, `Live`, `Hashes`. Public clauses cite `Live` and `Hashes`.
+//! Public clauses cite `Live`. Specs of the inner steps, in reading order: `Entries`, `Hashes`, `Truth`.
 #![tactic(auto)]
 
 mod entry;

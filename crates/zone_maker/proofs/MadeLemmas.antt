@@ -7,9 +7,9 @@ use Rattle.dname.specs.Name.{IsUnder, wire_of}
 use Rattle.dname.specs.declared.types.TheConstants.{A_TYPE, NS_TYPE, SOA_TYPE}
 use Rattle.zone_meaning.specs.Zone.{ZoneRecord, IsZone, IsProofType}
 use Rattle.zone_meaning.specs.ZoneTable.{zone_record}
-use Rattle.zone_maker.specs.Made.{made_example, name_server, name_at, Turn, Host, Above, Cut, Wild, turn_at, owner_in, type_in, record_in, soa_data, made_zone}
+use Rattle.zone_maker.specs.Made.{made_example, name_server, name_at, NameKind, Host, Above, Cut, Wild, kind_at, owner_in, type_in, record_in, soa_data, made_zone}
 
-pub below : (turn : Turn) (i : ℕ) → IsUnder (owner_in turn (name_at i)) made_example
+pub below : (kind : NameKind) (i : ℕ) → IsUnder (owner_in kind (name_at i)) made_example
 below Host i = (_ ∷ [], refl)
 below Above i = (_ ∷ _ ∷ [], refl)
 below Cut i = (_ ∷ [], refl)
@@ -26,7 +26,7 @@ no_proof rtype (inl is) proof = not_number rtype A_TYPE is (omega arith) proof
 no_proof rtype (inr (inl is)) proof = not_number rtype NS_TYPE is (omega arith) proof
 no_proof rtype (inr (inr is)) proof = not_number rtype SOA_TYPE is (omega arith) proof
 
-plain : (turn : Turn) → IsProofType (type_in turn) → ⊥
+plain : (kind : NameKind) → IsProofType (type_in kind) → ⊥
 plain Host = no_proof A_TYPE (inl refl)
 plain Above = no_proof A_TYPE (inl refl)
 plain Cut = no_proof NS_TYPE (inr (inl refl))
@@ -36,14 +36,14 @@ pub made_is_zone : (seed names : ℕ) → IsZone (made_zone seed names)
 made_is_zone seed names = record {
   owners =
       let P : ZoneRecord → Type 0 = λ (r : ZoneRecord). IsUnder r.owner made_example in
-      let rest : List ZoneRecord = map (λ i. record_in (turn_at i) seed i) (range_with_len 0 names) in
+      let rest : List ZoneRecord = map (λ i. record_in (kind_at i) seed i) (range_with_len 0 names) in
       All-cons P (zone_record made_example SOA_TYPE soa_data) (zone_record made_example NS_TYPE (wire_of name_server) ∷ rest) ([], refl)
       (All-cons P (zone_record made_example NS_TYPE (wire_of name_server)) rest ([], refl)
-      (All-map P (λ i. record_in (turn_at i) seed i) (range_with_len 0 names) (λ k d short. let i : ℕ = slice_index_or (range_with_len 0 names) k d in below (turn_at i) i)));
+      (All-map P (λ i. record_in (kind_at i) seed i) (range_with_len 0 names) (λ k d short. let i : ℕ = slice_index_or (range_with_len 0 names) k d in below (kind_at i) i)));
   types =
       let P : ZoneRecord → Type 0 = λ (r : ZoneRecord). IsProofType r.rtype → ⊥ in
-      let rest : List ZoneRecord = map (λ i. record_in (turn_at i) seed i) (range_with_len 0 names) in
+      let rest : List ZoneRecord = map (λ i. record_in (kind_at i) seed i) (range_with_len 0 names) in
       All-cons P (zone_record made_example SOA_TYPE soa_data) (zone_record made_example NS_TYPE (wire_of name_server) ∷ rest) (no_proof SOA_TYPE (inr (inr refl)))
       (All-cons P (zone_record made_example NS_TYPE (wire_of name_server)) rest (no_proof NS_TYPE (inr (inl refl)))
-      (All-map P (λ i. record_in (turn_at i) seed i) (range_with_len 0 names) (λ k d short. let i : ℕ = slice_index_or (range_with_len 0 names) k d in plain (turn_at i))));
+      (All-map P (λ i. record_in (kind_at i) seed i) (range_with_len 0 names) (λ k d short. let i : ℕ = slice_index_or (range_with_len 0 names) k d in plain (kind_at i))));
 }

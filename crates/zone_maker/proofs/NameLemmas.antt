@@ -4,7 +4,7 @@ use Rattle.std.specs.Prelude.{codes}
 use Rattle.std.specs.Char.{to_ascii_lowercase}
 use Rattle.std.proofs.lemmas.Str.Ascii.{lowercase_is}
 use Rattle.dname.specs.Name.{Label, lowered}
-use Rattle.zone_maker.specs.Made.{made_example, digit, six_digits, name_at, Turn, Host, Above, Cut, Wild, owner_in}
+use Rattle.zone_maker.specs.Made.{made_example, digit, six_digits, name_at, NameKind, Host, Above, Cut, Wild, owner_in}
 
 -- ---- digits
 
@@ -56,17 +56,17 @@ label_lower i = ap (λ l. 110 ∷ l)
 
 -- ---- owners
 
-third_from_the_right : (turn : Turn) (label : Label) → get_or (reverse (owner_in turn (label ∷ made_example))) 2 [] ≡ label
+third_from_the_right : (kind : NameKind) (label : Label) → get_or (reverse (owner_in kind (label ∷ made_example))) 2 [] ≡ label
 third_from_the_right Host label = refl
 third_from_the_right Above label = refl
 third_from_the_right Cut label = refl
 third_from_the_right Wild label = refl
 
-pub owner_gives_number : (turn turn' : Turn) (i j : ℕ) → i < 1000000 → j < 1000000 → owner_in turn (name_at i) ≡ owner_in turn' (name_at j) → i ≡ j
-owner_gives_number turn turn' i j small small' same = label_gives_number i j small small'
-    (sym (third_from_the_right turn (label_at i)) ∙ ap (λ (o : List Label). get_or (reverse o) 2 []) same ∙ third_from_the_right turn' (label_at j))
+pub owner_gives_number : (kind kind' : NameKind) (i j : ℕ) → i < 1000000 → j < 1000000 → owner_in kind (name_at i) ≡ owner_in kind' (name_at j) → i ≡ j
+owner_gives_number kind kind' i j small small' same = label_gives_number i j small small'
+    (sym (third_from_the_right kind (label_at i)) ∙ ap (λ (o : List Label). get_or (reverse o) 2 []) same ∙ third_from_the_right kind' (label_at j))
 
-pub owner_is_no_apex : (turn : Turn) (i : ℕ) → owner_in turn (name_at i) ≢ made_example
+pub owner_is_no_apex : (kind : NameKind) (i : ℕ) → owner_in kind (name_at i) ≢ made_example
 owner_is_no_apex Host i same = omega (arith, ap length same)
 owner_is_no_apex Above i same = omega (arith, ap length same)
 owner_is_no_apex Cut i same = omega (arith, ap length same)

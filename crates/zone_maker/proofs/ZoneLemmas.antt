@@ -10,7 +10,7 @@ use Rattle.dname.specs.Name.{Label, wire_of}
 use Rattle.dname.specs.declared.types.TheConstants.{NS_TYPE, SOA_TYPE}
 use Rattle.zone_meaning.specs.Zone.{ZoneRecord}
 use Rattle.zone_meaning.specs.ZoneTable.{zone_record}
-use Rattle.zone_maker.specs.Made.{made_example, name_server, name_at, turn_at, owner_in, type_in, data_in, record_in, soa_data, made_zone}
+use Rattle.zone_maker.specs.Made.{made_example, name_server, name_at, kind_at, owner_in, type_in, data_in, record_in, soa_data, made_zone}
 use Rattle.zone_maker.proofs.NameLemmas.{owner_gives_number, owner_is_no_apex}
 
 abbrev soa : ZoneRecord
@@ -44,30 +44,30 @@ both_in seed owner octets rs ss is is2 first second =
 
 -- ---- one name more
 
-one_more : (seed i : ℕ) → (made_zone seed (i + 1)).records ≡ (made_zone seed i).records ++ record_in (turn_at i) seed i ∷ []
-one_more seed i = ap (λ rs. soa ∷ ns ∷ rs) (map-range_with_len_more (λ j. record_in (turn_at j) seed j) 0 i i (omega arith))
+one_more : (seed i : ℕ) → (made_zone seed (i + 1)).records ≡ (made_zone seed i).records ++ record_in (kind_at i) seed i ∷ []
+one_more seed i = ap (λ rs. soa ∷ ns ∷ rs) (map-range_with_len_more (λ j. record_in (kind_at j) seed j) 0 i i (omega arith))
 
-no_such_owner : (seed i : ℕ) → i < 1000000 → All (λ (r : ZoneRecord). r.owner ≢ owner_in (turn_at i) (name_at i)) (made_zone seed i).records
+no_such_owner : (seed i : ℕ) → i < 1000000 → All (λ (r : ZoneRecord). r.owner ≢ owner_in (kind_at i) (name_at i)) (made_zone seed i).records
 no_such_owner seed i small =
-    let P : ZoneRecord → Type 0 = λ (r : ZoneRecord). r.owner ≢ owner_in (turn_at i) (name_at i) in
-    let rest : List ZoneRecord = map (λ j. record_in (turn_at j) seed j) (range_with_len 0 i) in
-    All-cons P soa (ns ∷ rest) (λ same. owner_is_no_apex (turn_at i) i (sym same))
-    (All-cons P ns rest (λ same. owner_is_no_apex (turn_at i) i (sym same))
-    (All-map P (λ j. record_in (turn_at j) seed j) (range_with_len 0 i) (λ k d short same.
+    let P : ZoneRecord → Type 0 = λ (r : ZoneRecord). r.owner ≢ owner_in (kind_at i) (name_at i) in
+    let rest : List ZoneRecord = map (λ j. record_in (kind_at j) seed j) (range_with_len 0 i) in
+    All-cons P soa (ns ∷ rest) (λ same. owner_is_no_apex (kind_at i) i (sym same))
+    (All-cons P ns rest (λ same. owner_is_no_apex (kind_at i) i (sym same))
+    (All-map P (λ j. record_in (kind_at j) seed j) (range_with_len 0 i) (λ k d short same.
     let j : ℕ = slice_index_or (range_with_len 0 i) k d in
     let less : k < i = omega (arith, short, length-range_with_len 0 i) in
     let at : j ≡ 0 + k = get_or-range_with_len 0 i k d less in
-    omega (arith, less, at, owner_gives_number (turn_at j) (turn_at i) j i (omega (arith, less, at, small)) small same))))
+    omega (arith, less, at, owner_gives_number (kind_at j) (kind_at i) j i (omega (arith, less, at, small)) small same))))
 
-pub name_is_fresh : (seed i : ℕ) (owner : List Label) (rtype : ℕ) (octets : List ℕ) (rs : List ZoneRecord) → i < 10000 → owner ≡ owner_in (turn_at i) (name_at i) → IsPermutation (made_zone seed i).records rs → Contains rs (zone_record owner rtype octets) → ⊥
+pub name_is_fresh : (seed i : ℕ) (owner : List Label) (rtype : ℕ) (octets : List ℕ) (rs : List ZoneRecord) → i < 10000 → owner ≡ owner_in (kind_at i) (name_at i) → IsPermutation (made_zone seed i).records rs → Contains rs (zone_record owner rtype octets) → ⊥
 name_is_fresh seed i owner rtype octets rs small is moved in' =
     let r = zone_record owner rtype octets in
     let made : List ZoneRecord = (made_zone seed i).records in
-    All-contains (λ (s : ZoneRecord). s.owner ≢ owner_in (turn_at i) (name_at i)) made r (no_such_owner seed i (omega (arith, small)))
+    All-contains (λ (s : ZoneRecord). s.owner ≢ owner_in (kind_at i) (name_at i)) made r (no_such_owner seed i (omega (arith, small)))
     (Contains-permutation rs made r (IsPermutation-sym made rs moved) in') is
 
-pub name_in : (seed i : ℕ) (owner : List Label) (rtype : ℕ) (octets : List ℕ) (rs ss : List ZoneRecord) → owner ≡ owner_in (turn_at i) (name_at i) → rtype ≡ type_in (turn_at i) → octets ≡ data_in (turn_at i) seed i → IsPermutation (made_zone seed i).records rs → IsPermutation (zone_record owner rtype octets ∷ rs) ss → IsPermutation (made_zone seed (i + 1)).records ss
+pub name_in : (seed i : ℕ) (owner : List Label) (rtype : ℕ) (octets : List ℕ) (rs ss : List ZoneRecord) → owner ≡ owner_in (kind_at i) (name_at i) → rtype ≡ type_in (kind_at i) → octets ≡ data_in (kind_at i) seed i → IsPermutation (made_zone seed i).records rs → IsPermutation (zone_record owner rtype octets ∷ rs) ss → IsPermutation (made_zone seed (i + 1)).records ss
 name_in seed i owner rtype octets rs ss is is2 is3 first second =
-    let r = record_in (turn_at i) seed i in
-    let second' : IsPermutation (r ∷ rs) ss = subst (λ (s : ZoneRecord). IsPermutation (s ∷ rs) ss) (same_record owner (owner_in (turn_at i) (name_at i)) rtype (type_in (turn_at i)) octets (data_in (turn_at i) seed i) is is2 is3) second in
+    let r = record_in (kind_at i) seed i in
+    let second' : IsPermutation (r ∷ rs) ss = subst (λ (s : ZoneRecord). IsPermutation (s ∷ rs) ss) (same_record owner (owner_in (kind_at i) (name_at i)) rtype (type_in (kind_at i)) octets (data_in (kind_at i) seed i) is is2 is3) second in
     subst (λ (made : List ZoneRecord). IsPermutation made ss) (sym (one_more seed i)) (IsPermutation-push_more (made_zone seed i).records rs ss r first second')

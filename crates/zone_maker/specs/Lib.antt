@@ -1,4 +1,4 @@
 pub mod Made
 pub mod Messages
 pub mod Questions
-pub mod Turns
+pub mod NameKinds

@@ -4,7 +4,7 @@ use Rattle.std.specs.List.{range_with_len}
 use Rattle.byteorder.specs.Endian.{big_bytes}
 use Rattle.dname.specs.Name.{Label, wire_of, without_asterisk}
 use Rattle.dname.specs.declared.types.TheConstants.{A_TYPE, IN_CLASS, NSEC_TYPE, RRSIG_TYPE, SOA_TYPE}
-use Rattle.zone_maker.specs.Made.{made_example, Turn, Host, Above, Cut, Wild, turn_at, address_at, soa_data, made_owner, next_owner}
+use Rattle.zone_maker.specs.Made.{made_example, NameKind, Host, Above, Cut, Wild, kind_at, address_at, soa_data, made_owner, next_owner}
 
 -- ---- pieces
 
@@ -40,7 +40,7 @@ abbrev pub type_map : ℕ → List ℕ
 type_map first = 0 ∷ 6 ∷ first ∷ 0 ∷ 0 ∷ 0 ∷ 0 ∷ 3 ∷ []
 
 -- A, or at a cut NS
-abbrev pub first_in : Turn → ℕ
+abbrev pub first_in : NameKind → ℕ
 first_in Host = 0x40
 first_in Above = 0x40
 first_in Cut = 0x20
@@ -49,7 +49,7 @@ first_in Wild = 0x40
 -- NS and SOA at the apex
 abbrev pub first_of : ℕ → ℕ
 first_of zero = 0x22
-first_of (suc i) = first_in (turn_at i)
+first_of (suc i) = first_in (kind_at i)
 
 -- the next owner and the owner's types (RFC 4034, section 4.1)
 abbrev pub nsec_data : ℕ → ℕ → List ℕ
@@ -58,13 +58,13 @@ nsec_data names k = wire_of (next_owner names k) ++ type_map (first_of k)
 -- ---- messages
 
 -- the answer that a wildcard gives, and none for the others
-abbrev pub answer_in : Turn → ℕ → ℕ → List ℕ
+abbrev pub answer_in : NameKind → ℕ → ℕ → List ℕ
 answer_in Host seed i = []
 answer_in Above seed i = []
 answer_in Cut seed i = []
 answer_in Wild seed i = signed_octets (made_owner (suc i)) A_TYPE (address_at seed i)
 
-abbrev pub answers_in : Turn → ℕ
+abbrev pub answers_in : NameKind → ℕ
 answers_in Host = 0
 answers_in Above = 0
 answers_in Cut = 0
@@ -72,11 +72,11 @@ answers_in Wild = 2
 
 abbrev pub answer_of : ℕ → ℕ → List ℕ
 answer_of seed zero = []
-answer_of seed (suc i) = answer_in (turn_at i) seed i
+answer_of seed (suc i) = answer_in (kind_at i) seed i
 
 abbrev pub answers_of : ℕ → ℕ
 answers_of zero = 0
-answers_of (suc i) = answers_in (turn_at i)
+answers_of (suc i) = answers_in (kind_at i)
 
 -- QR, RD, RA and AD (RFC 1035, section 4.1.1; RFC 4035, section 3.2.3)
 abbrev pub message_flags : ℕ

@@ -3,7 +3,7 @@ use Rattle.std.specs.Prelude.{ℕ, ◌+◌, ◌*◌, ◌/◌, ◌%◌, ◌==◌,
 use Rattle.byteorder.specs.Endian.{big_bytes}
 use Rattle.dname.specs.Name.{Label, wire_of}
 use Rattle.dname.specs.declared.types.TheConstants.{A_TYPE, DS_TYPE, OPT_TYPE, TXT_TYPE}
-use Rattle.zone_maker.specs.Made.{Turn, Host, Above, Cut, Wild, turn_at, name_at}
+use Rattle.zone_maker.specs.Made.{NameKind, Host, Above, Cut, Wild, kind_at, name_at}
 use Rattle.zone_maker.specs.Messages.{header_octets, question_octets}
 
 -- a name and a type
@@ -12,13 +12,13 @@ pub record Asked : Type 0 where
   pub qtype : ℕ
 
 -- what is asked of a name the first time, and the second
-abbrev pub asked_first : Turn → List Label → Asked
+abbrev pub asked_first : NameKind → List Label → Asked
 asked_first Host name = record { name = name; qtype = TXT_TYPE }
 asked_first Above name = record { name = name; qtype = A_TYPE }
 asked_first Cut name = record { name = name; qtype = DS_TYPE }
 asked_first Wild name = record { name = codes "w" ∷ name; qtype = A_TYPE }
 
-abbrev pub asked_second : Turn → List Label → Asked
+abbrev pub asked_second : NameKind → List Label → Asked
 asked_second Host name = record { name = codes "z" ∷ name; qtype = A_TYPE }
 asked_second Above name = record { name = codes "y" ∷ name; qtype = A_TYPE }
 asked_second Cut name = record { name = name; qtype = A_TYPE }
@@ -31,7 +31,7 @@ asked_number seed names j = (seed + 7921 * j) % names
 abbrev pub asked_at : ℕ → ℕ → ℕ → Asked
 asked_at seed names j =
     let i = asked_number seed names j in
-    if (j / 4) % 2 == 0 then asked_first (turn_at i) (name_at i) else asked_second (turn_at i) (name_at i)
+    if (j / 4) % 2 == 0 then asked_first (kind_at i) (name_at i) else asked_second (kind_at i) (name_at i)
 
 -- an OPT record: the root, 1232 octets of payload, DO, no data (RFC 6891, section 6.1.2; RFC 3225, section 3)
 abbrev pub opt_octets : List ℕ

@@ -1,13 +1,13 @@
 ghost use Rattle.std.specs.Prelude.{◌≡◌, ◌≤◌, ◌<◌, ◌^◌, ◌++◌, length, OnOk, IfOk};
 ghost use Rattle.zone_maker.specs.Messages.{record_octets, signed_octets, question_octets, first_of, answer_in, answer_of, answers_of, nsec_data, message_at, messages_of};
 ghost use Rattle.zone_maker.specs.Made.{made_owner};
-ghost use Rattle.zone_maker.specs.Turns.{turn_of};
+ghost use Rattle.zone_maker.specs.NameKinds.{kind_of};
 
+use crate::name_kind::{NameKind, kind_at};
 use crate::names::{apex, made_owner, next_owner, owner_at};
 use crate::pieces::{
     SOA_DATA, address_at, header, question_tail, record_head, signature_data, type_map,
 };
-use crate::turn::{Turn, turn_at};
 use dname::types::{A_TYPE, NSEC_TYPE, RRSIG_TYPE, SOA_TYPE};
 use dname::{Name, Octets, OctetsList, OutOfMemory};
 use std::alloc::Global;
@@ -63,9 +63,9 @@ fn answers_of(k: u32) -> u16
     if k == 0 {
         return 0;
     }
-    match turn_at(k - 1) {
-        Turn::Wild => 2,
-        Turn::Host | Turn::Above | Turn::Cut => 0,
+    match kind_at(k - 1) {
+        NameKind::Wild => 2,
+        NameKind::Host | NameKind::Above | NameKind::Cut => 0,
     }
 }
 
@@ -76,16 +76,16 @@ fn put_answer(out: &mut Octets, seed: u32, k: u32) -> Result<(), OutOfMemory>
     if k == 0 {
         return Ok(());
     }
-    put_answer_in(out, turn_at(k - 1), seed, k - 1)?;
+    put_answer_in(out, kind_at(k - 1), seed, k - 1)?;
     Ok(())
 }
 
-fn put_answer_in(out: &mut Octets, turn: Turn, seed: u32, i: u32) -> Result<(), OutOfMemory>
-    ensures { OnOk result (out.new ≡ out.old ++ answer_in (turn_of turn) seed i) }
+fn put_answer_in(out: &mut Octets, kind: NameKind, seed: u32, i: u32) -> Result<(), OutOfMemory>
+    ensures { OnOk result (out.new ≡ out.old ++ answer_in (kind_of kind) seed i) }
 {
-    match turn {
-        Turn::Wild => put_signed(out, &owner_at(i), A_TYPE, &address_at(seed, i)),
-        Turn::Host | Turn::Above | Turn::Cut => Ok(()),
+    match kind {
+        NameKind::Wild => put_signed(out, &owner_at(i), A_TYPE, &address_at(seed, i)),
+        NameKind::Host | NameKind::Above | NameKind::Cut => Ok(()),
     }
 }
 
@@ -107,9 +107,9 @@ fn first_of(k: u32) -> u8
     if k == 0 {
         return NS_AND_SOA;
     }
-    match turn_at(k - 1) {
-        Turn::Cut => ONLY_NS,
-        Turn::Host | Turn::Above | Turn::Wild => ONLY_A,
+    match kind_at(k - 1) {
+        NameKind::Cut => ONLY_NS,
+        NameKind::Host | NameKind::Above | NameKind::Wild => ONLY_A,
     }
 }
 

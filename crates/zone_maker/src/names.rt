@@ -1,9 +1,9 @@
 ghost use Rattle.std.specs.Prelude.{◌≡◌, ◌≤◌, ◌∷◌, ◌++◌, length, codes};
 ghost use Rattle.dname.specs.Name.{HasLabelLength, lowered, wire_of};
-ghost use Rattle.zone_maker.specs.Made.{made_example, name_server, digit, six_digits, name_at, turn_at, owner_in, made_owner, next_owner};
-ghost use Rattle.zone_maker.specs.Turns.{turn_of};
+ghost use Rattle.zone_maker.specs.Made.{made_example, name_server, digit, six_digits, name_at, kind_at, owner_in, made_owner, next_owner};
+ghost use Rattle.zone_maker.specs.NameKinds.{kind_of};
 
-use crate::turn::{Turn, turn_at};
+use crate::name_kind::{NameKind, kind_at};
 use dname::Name;
 
 /// The name at the zone's top.
@@ -29,9 +29,9 @@ pub(crate) fn name_at(i: u32) -> Name
 
 /// The owner that name number i gives.
 pub(crate) fn owner_at(i: u32) -> Name
-    ensures { result ≡ owner_in (turn_at i) (name_at i) }
+    ensures { result ≡ owner_in (kind_at i) (name_at i) }
 {
-    owner_in(turn_at(i), i)
+    owner_in(kind_at(i), i)
 }
 
 /// Owner number k in canonical order, the apex being number 0.
@@ -61,14 +61,14 @@ pub(crate) fn below(label: &[u8], name: &Name) -> Name
     }
 }
 
-fn owner_in(turn: Turn, i: u32) -> Name
-    ensures { result ≡ owner_in (turn_of turn) (name_at i) }
+fn owner_in(kind: NameKind, i: u32) -> Name
+    ensures { result ≡ owner_in (kind_of kind) (name_at i) }
 {
     let name = name_at(i);
-    match turn {
-        Turn::Host | Turn::Cut => name,
-        Turn::Above => below(b"x", &name),
-        Turn::Wild => below(b"*", &name),
+    match kind {
+        NameKind::Host | NameKind::Cut => name,
+        NameKind::Above => below(b"x", &name),
+        NameKind::Wild => below(b"*", &name),
     }
 }
 

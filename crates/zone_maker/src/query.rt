@@ -1,13 +1,13 @@
 ghost use Rattle.std.specs.Prelude.{◌≡◌, ◌≤◌, ◌+◌, ◌++◌, length};
 ghost use Rattle.arrayvec.specs.ArrayVec.{array_vec_len};
-ghost use Rattle.zone_maker.specs.Made.{turn_at, name_at};
+ghost use Rattle.zone_maker.specs.Made.{kind_at, name_at};
 ghost use Rattle.zone_maker.specs.Questions.{asked_first, asked_second, asked_number, asked_at, query_at};
-ghost use Rattle.zone_maker.specs.Turns.{turn_of};
+ghost use Rattle.zone_maker.specs.NameKinds.{kind_of};
 ghost use Rattle.zone_maker.specs.declared.query.TheConstants.{MAX_QUERY};
 
+use crate::name_kind::{NameKind, kind_at};
 use crate::names::{below, name_at};
 use crate::pieces::{header, opt, question_tail};
-use crate::turn::{Turn, turn_at};
 use arrayvec::ArrayVec;
 use dname::types::{A_TYPE, DS_TYPE, TXT_TYPE};
 use dname::{MAX_WIRE, Name};
@@ -54,9 +54,9 @@ fn asked_at(seed: u32, names: u32, j: u32) -> Asked
 {
     let i = asked_number(seed, names, j);
     if (j / 4) % 2 == 0 {
-        asked_first(turn_at(i), i)
+        asked_first(kind_at(i), i)
     } else {
-        asked_second(turn_at(i), i)
+        asked_second(kind_at(i), i)
     }
 }
 
@@ -69,31 +69,31 @@ fn asked_number(seed: u32, names: u32, j: u32) -> u32
 }
 
 // What is asked of a name the first time.
-fn asked_first(turn: Turn, i: u32) -> Asked
-    ensures name { result.name ≡ (asked_first (turn_of turn) (name_at i)).name }
-    ensures qtype { result.qtype ≡ (asked_first (turn_of turn) (name_at i)).qtype }
+fn asked_first(kind: NameKind, i: u32) -> Asked
+    ensures name { result.name ≡ (asked_first (kind_of kind) (name_at i)).name }
+    ensures qtype { result.qtype ≡ (asked_first (kind_of kind) (name_at i)).qtype }
 {
     let name = name_at(i);
-    let (name, qtype) = match turn {
-        Turn::Host => (name, TXT_TYPE),
-        Turn::Above => (name, A_TYPE),
-        Turn::Cut => (name, DS_TYPE),
-        Turn::Wild => (below(b"w", &name), A_TYPE),
+    let (name, qtype) = match kind {
+        NameKind::Host => (name, TXT_TYPE),
+        NameKind::Above => (name, A_TYPE),
+        NameKind::Cut => (name, DS_TYPE),
+        NameKind::Wild => (below(b"w", &name), A_TYPE),
     };
     Asked { name, qtype }
 }
 
 // What is asked of a name the second time.
-fn asked_second(turn: Turn, i: u32) -> Asked
-    ensures name { result.name ≡ (asked_second (turn_of turn) (name_at i)).name }
-    ensures qtype { result.qtype ≡ (asked_second (turn_of turn) (name_at i)).qtype }
+fn asked_second(kind: NameKind, i: u32) -> Asked
+    ensures name { result.name ≡ (asked_second (kind_of kind) (name_at i)).name }
+    ensures qtype { result.qtype ≡ (asked_second (kind_of kind) (name_at i)).qtype }
 {
     let name = name_at(i);
-    let (name, qtype) = match turn {
-        Turn::Host => (below(b"z", &name), A_TYPE),
-        Turn::Above => (below(b"y", &name), A_TYPE),
-        Turn::Cut => (name, A_TYPE),
-        Turn::Wild => (below(b"w", &name), TXT_TYPE),
+    let (name, qtype) = match kind {
+        NameKind::Host => (below(b"z", &name), A_TYPE),
+        NameKind::Above => (below(b"y", &name), A_TYPE),
+        NameKind::Cut => (name, A_TYPE),
+        NameKind::Wild => (below(b"w", &name), TXT_TYPE),
     };
     Asked { name, qtype }
 }

@@ -4,11 +4,11 @@ ghost use Rattle.dname.specs.Name.{IsUnder};
 ghost use Rattle.zone_meaning.specs.Zone.{IsProofType, HasData};
 ghost use Rattle.zone_meaning.specs.ZoneTable.{zone_record};
 ghost use Rattle.zone_maker.specs.Made.{made_example, made_zone, type_in, data_in};
-ghost use Rattle.zone_maker.specs.Turns.{turn_of};
+ghost use Rattle.zone_maker.specs.NameKinds.{kind_of};
 
+use crate::name_kind::{NameKind, kind_at};
 use crate::names::{apex, name_server, owner_at};
 use crate::pieces::{SOA_DATA, address_at};
-use crate::turn::{Turn, turn_at};
 use dname::types::{A_TYPE, NS_TYPE, SOA_TYPE};
 use dname::{Name, Octets, OutOfMemory};
 use std::alloc::{AllocError, Global};
@@ -51,9 +51,9 @@ fn put_name(alloc: Global, zone: &mut ZoneTable, seed: u32, i: u32) -> Result<()
     ensures records { OnOk result
         (IsPermutation (made_zone seed (i + 1)).records zone.new.records) }
 {
-    let turn = turn_at(i);
-    let data = data_in(alloc, turn, seed, i)?;
-    put(zone, owner_at(i), type_in(turn), data)?;
+    let kind = kind_at(i);
+    let data = data_in(alloc, kind, seed, i)?;
+    put(zone, owner_at(i), type_in(kind), data)?;
     Ok(())
 }
 
@@ -73,20 +73,23 @@ fn put(zone: &mut ZoneTable, owner: Name, rtype: u16, octets: Octets) -> Result<
     }
 }
 
-fn type_in(turn: Turn) -> u16
-    ensures { result ≡ type_in (turn_of turn) }
+fn type_in(kind: NameKind) -> u16
+    ensures { result ≡ type_in (kind_of kind) }
 {
-    match turn {
-        Turn::Cut => NS_TYPE,
-        Turn::Host | Turn::Above | Turn::Wild => A_TYPE,
+    match kind {
+        NameKind::Cut => NS_TYPE,
+        NameKind::Host | NameKind::Above | NameKind::Wild => A_TYPE,
     }
 }
 
-fn data_in(alloc: Global, turn: Turn, seed: u32, i: u32) -> Result<Octets, OutOfMemory>
-    ensures { IfOk result (λ octets. octets ≡ data_in (turn_of turn) seed i) }
+fn data_in(alloc: Global, kind: NameKind, seed: u32, i: u32) -> Result<Octets, OutOfMemory>
+    ensures { IfOk result (λ octets. octets ≡ data_in (kind_of kind) seed i) }
 {
-    match turn {
-        Turn::Cut => Octets::of(alloc, name_server().wire()),
-        Turn::Host | Turn::Above | Turn::Wild => Octets::of(alloc, &address_at(seed, i)),
+    match kind {
+        NameKind::Cut => Octets::of(alloc, name_server().wire()),
+        NameKind::Host | NameKind::Above | NameKind::Wild => Octets::of(
+            alloc,
+            &address_at(seed, i),
+        ),
     }
 }

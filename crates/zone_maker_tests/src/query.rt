@@ -1,7 +1,7 @@
 use reply_core::ReplyBuffer;
 use zone_maker::question;
 
-// Queries to the zone of seed 3 and eight names, as dnspython 2.3 writes them. Each case of a name's turn and of the first
+// Queries to the zone of seed 3 and eight names, as dnspython 2.3 writes them. Each case of a name's kind and of the first
 // and the second time is there once, and the last has a number that an ID can't hold.
 const QUERIES: [(u32, &[u8]); 8] = [
     (

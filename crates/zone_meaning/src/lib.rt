@@ -1,6 +1,7 @@
 //! What a signed zone means: which names exist in it, what it answers to a name and a type, when signed records are true
 //! of it, and what denials prove of every zone that they are true of. It has definitions, to be read in the order `Zone`,
-//! `Lookup`, `Consistent`, `Denial`, `Hashed`, `HashedDenial`, and laws of them as functions with an empty body.
+//! `Lookup`, `Consistent`, `Denial`, `Hashed`, `HashedDenial`, and laws of them as functions with an empty body. Zones and records
+//! written out, of which the laws speak, have `Examples`, `DenialExamples` and `HashedExamples`; `ZoneTable` has the steps of a lookup.
 #![tactic(auto)]
 
 mod add_fault;

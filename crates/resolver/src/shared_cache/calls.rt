@@ -8,8 +8,8 @@ ghost use Rattle.cache_versions.specs.Hands.{AreAllBelow};
 ghost use Rattle.cache_versions.specs.Inserts.{Inserted};
 ghost use Rattle.cache_versions.specs.Lends.{lender_of, seat_in};
 ghost use Rattle.cache_versions.specs.Rows.{AreNumbered};
-ghost use Rattle.cache_versions.specs.Seats.{IsSameSeat, noted_by, number_by, opening_by, places_by, seen_by};
-ghost use Rattle.resolver.specs.Caches.{IsFreshSeat, IsNoteOf, IsSeatOf, NotPlaced, seats_of};
+ghost use Rattle.cache_versions.specs.Seats.{IsSameSeat, noted_by, opening_by, places_by, seen_by};
+ghost use Rattle.resolver.specs.Caches.{HasGoneOn, HasOnlyRead, IsFreshSeat, IsNoteOf, IsSeatOf, NotPlaced, seats_of};
 ghost use Rattle.resolver.specs.Replies.{IsOutcome, IsSoundAt};
 
 use super::{CacheSeat, SharedCache};
@@ -57,9 +57,7 @@ impl SharedCache {
     /// which may be a whole cache: one that is idle lets it go so.
     pub fn move_on(&self, seat: &mut CacheSeat)
         requires { IsSeatOf self.now seat.old }
-        ensures object { IsSeatOf self.now seat.new }
-        ensures same { IsSameSeat seat.old seat.new }
-        ensures begins { IsPrefix (seen_by seat.old) (seen_by seat.new) }
+        ensures read { HasOnlyRead self.now seat.old seat.new }
     {
         self.shared.move_on(seat);
     }
@@ -83,9 +81,7 @@ impl SharedCache {
         out: &mut ReplyBuffer,
     ) -> Outcome
         requires { IsSeatOf self.now seat.old }
-        ensures object { IsSeatOf self.now seat.new }
-        ensures same { IsSameSeat seat.old seat.new }
-        ensures begins { IsPrefix (seen_by seat.old) (seen_by seat.new) }
+        ensures read { HasOnlyRead self.now seat.old seat.new }
         ensures outcome { IsOutcome (seen_by seat.new) question.now now result out.new }
         ensures sound { IsSoundAt (seen_by seat.new) question.now now }
     {
@@ -102,9 +98,7 @@ impl SharedCache {
         batch: &Batch,
     ) -> Result<Placed<Store>, CacheFault>
         requires { IsSeatOf self.now seat.old }
-        ensures object { IsSeatOf self.now seat.new }
-        ensures number { number_by seat.new ≡ number_by seat.old }
-        ensures begins { IsPrefix (seen_by seat.old) (seen_by seat.new) }
+        ensures on { HasGoneOn self.now seat.old seat.new }
         ensures answer { MatchResult result (Inserted seat.old seat.new batch.entry.now)
             (NotPlaced seat.old seat.new batch.entry.now) }
         ensures note { IfOk result (λ p. IsNoteOf self.now p.note) }
@@ -126,9 +120,7 @@ impl SharedCache {
     pub fn learn(&self, seat: &mut CacheSeat, note: Note<Store>)
         requires seat { IsSeatOf self.now seat.old }
         requires note { IsNoteOf self.now note }
-        ensures object { IsSeatOf self.now seat.new }
-        ensures same { IsSameSeat seat.old seat.new }
-        ensures begins { IsPrefix (seen_by seat.old) (seen_by seat.new) }
+        ensures read { HasOnlyRead self.now seat.old seat.new }
         ensures learnt { IsPrefix (noted_by note) (seen_by seat.new) }
         ensures one { (seen_by seat.new ≡ seen_by seat.old)
             ⊎ (seen_by seat.new ≡ noted_by note) }

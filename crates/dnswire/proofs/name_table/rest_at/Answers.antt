@@ -6,14 +6,14 @@ use Rattle.dnswire.proofs.name_table.rest_at.Goals as goal
 pub returns-then-known-room-clause-none : goal.returns-then-known-room-clause-none
 returns-then-known-room-clause-none c =
     let inv = c.loop-known.invariant in
-    let kept = kept_at c.args.message.now c.loop-known.table.octets.items c.loop-known.table.places.items c.loop-known.start c.place_at-known.result inv.table.kept c.place_at-known.ensures (omega (arith, c.if-known-room.true)) in
+    let kept = kept_at c.args.message.now c.loop-known.table.octets.items c.loop-known.table.extents.items c.loop-known.start c.extent_at-known.result inv.table.kept c.extent_at-known.ensures (omega (arith, c.if-known-room.true)) in
     expands_long _ _ c.loop-known.start _ _ _ inv.expands kept.octets (omega (arith, size_kept _ _ _ _ kept, c.if-known-room.true, inv.within, c.len.ensures.value))
 
 pub returns-then-known-gt0-clause-read : goal.returns-then-known-gt0-clause-read
 returns-then-known-gt0-clause-read c =
     let inv = c.loop-known.invariant in
-    let kept = kept_at c.args.message.now c.loop-known.table.octets.items c.loop-known.table.places.items c.loop-known.start c.place_at-known.result inv.table.kept c.place_at-known.ensures (omega (arith, c.if-known-gt0.true)) in
-    let out : c.append.new.octets.items ≡ c.loop-known.octets.items ++ octets_in c.loop-known.table.octets.items c.place_at-known.result = c.append.ensures.octets ∙ ap (λ o. c.loop-known.octets.items ++ o) c.octets_of.ensures in
+    let kept = kept_at c.args.message.now c.loop-known.table.octets.items c.loop-known.table.extents.items c.loop-known.start c.extent_at-known.result inv.table.kept c.extent_at-known.ensures (omega (arith, c.if-known-gt0.true)) in
+    let out : c.append.new.octets.items ≡ c.loop-known.octets.items ++ octets_in c.loop-known.table.octets.items c.extent_at-known.result = c.append.ensures.octets ∙ ap (λ o. c.loop-known.octets.items ++ o) c.octets_of.ensures in
     let fits : length c.append.new.octets.items ≤ c.args.room = omega (arith, c.append.ensures.size, ap length c.octets_of.ensures, size_kept _ _ _ _ kept, c.if-known-room.false, inv.within, c.len.ensures.value) in
     (expands_kept _ _ c.loop-known.start _ _ _ inv.expands kept.octets out (omega (arith, fits, c.requires.room)), fits)
 

@@ -1,7 +1,6 @@
-use Rattle.std.proofs.Common.{inr, sym, arith}
+use Rattle.std.proofs.Common.{arith}
 use Rattle.intake.specs.Batch.{IsTaken}
-use Rattle.intake.proofs.BringLemmas.{rrs_long, few_rrs}
-use Rattle.intake.proofs.FaultLemmas.{no_taken, wire_told, header_refused}
+use Rattle.intake.proofs.FaultLemmas.{no_taken, wire_told, refused_read, taken_read}
 use Rattle.intake.proofs.intake.outcome_of.Goals as goal
 
 pub returns-in_err-message : goal.returns-in_err-message
@@ -10,14 +9,17 @@ returns-in_err-message c = record {
   refused = wire_told c.args.octets.now c.args.now c.from_residual.result c.in_err-message.field-0.0 c.from_residual.ensures.1 c.in_err-message.ensures.refused;
 }
 
-pub returns-in-Some-clause-refused : goal.returns-in-Some-clause-refused
-returns-in-Some-clause-refused c = inr (header_refused c.args.octets.now c.args.now c.in_ok-message.message c.in-Some.fault c.in_ok-message.ensures.read (sym c.in-Some.ensures))
+pub taken_or_fault-requires : goal.taken_or_fault-requires
+taken_or_fault-requires c = record {
+  octets = c.args.octets.now;
+  small = λ i. omega (arith, c.type_inv.octets i);
+  reads = c.in_ok-message.ensures.read;
+}
 
-pub taken_of-requires-clause-answer : goal.taken_of-requires-clause-answer
-taken_of-requires-clause-answer c = rrs_long c.args.octets.now _ c.in_ok-message.message.answer _ c.in_ok-message.ensures.read.answer
-
-pub taken_of-requires-clause-authority : goal.taken_of-requires-clause-authority
-taken_of-requires-clause-authority c = rrs_long c.args.octets.now _ c.in_ok-message.message.authority _ c.in_ok-message.ensures.read.authority
-
-pub taken_of-requires-clause-few : goal.taken_of-requires-clause-few
-taken_of-requires-clause-few c = few_rrs c.args.octets.now c.in_ok-message.message (λ i. omega (arith, c.type_inv.octets i)) c.in_ok-message.ensures.read
+pub returns : goal.returns
+returns c =
+    let found = c.taken_or_fault.result in
+    let reads = c.in_ok-message.ensures.read in record {
+      taken = taken_read c.args.octets.now c.args.now c.in_ok-message.message found reads c.taken_or_fault.ensures.taken;
+      refused = refused_read c.args.octets.now c.args.now c.in_ok-message.message found reads c.taken_or_fault.ensures.refused;
+    }

@@ -2,7 +2,7 @@ use Rattle.std.proofs.Common.{◌≡◌, ◌⊎◌, ◌∙◌, sym, subst}
 use Rattle.command_line.specs.Words.{texts}
 use Rattle.command_line.specs.declared.command.Command.TheVariants.{Replay, Selfrun, Serve, Tcp, Audit}
 use Rattle.command_line.proofs.CommandLemmas.{replay_in_range, same_selfrun, selfrun_in_range}
-use Rattle.server.specs.Back.{CameBack, AllServedWhole}
+use Rattle.serving.specs.Back.{CameBack, AllServedWhole}
 use Rattle.running.specs.Serve.{EndedInWant, ServedInPart}
 use Rattle.running.proofs.AskLemmas.{asks_replay, none_asked}
 use Rattle.running.proofs.ServeLemmas.{found_means, none_found, few_datagrams, same_service, same_tcp, workers_in_range}
@@ -127,8 +127,8 @@ returns-in-Serve-clause-served_in_want g c = λ l u w d means ends.
     (same_service c.in-Ok-Some.command c.in-Serve.listen c.in-Serve.upstream c.in-Serve.workers c.in-Serve.datagrams l u w d c.in-Serve.is (sym c.in-Ok-Some.field-0-is ∙ c.in-Ok-Some.ensures.every (Serve l u w d) means))
     (c.run_serve.ensures.in_want ends)
 
-pub returns-in-Serve-clause-unmoored : goal.returns-in-Serve-clause-unmoored
-returns-in-Serve-clause-unmoored g c = λ none. absurd (none c.in-Serve.listen c.in-Serve.upstream c.in-Serve.workers c.in-Serve.datagrams
+pub returns-in-Serve-clause-unbound : goal.returns-in-Serve-clause-unbound
+returns-in-Serve-clause-unbound g c = λ none. absurd (none c.in-Serve.listen c.in-Serve.upstream c.in-Serve.workers c.in-Serve.datagrams
     (found_means c.args.words.now c.in-Ok-Some.field-0 c.in-Ok-Some.command (Serve c.in-Serve.listen c.in-Serve.upstream c.in-Serve.workers c.in-Serve.datagrams) c.in-Ok-Some.field-0-is c.in-Serve.is c.in-Ok-Some.ensures.read))
 
 pub returns-in-Tcp-clause-connected : goal.returns-in-Tcp-clause-connected

@@ -10,7 +10,7 @@ all_of g c =
     let merged = c.in-Ok-worked.ensures.merge in
     loaded c.in-Ok.seats.items c.in-Ok-worked.seats.items c.index_mut-seat.result.now c.listen_and_serve-ended.new.seat (journal_at c.close-closed.result) c.args.frames.now merged.0
     c.in-Ok.ensures.all.1 c.in-Ok-worked.ensures.all c.index_mut-seat.ensures.value c.requires.below c.requires.few (λ k d within. (c.in-Ok.ensures.fresh k d within).2)
-    (c.in-Ok-worked.ensures.worked merged.0 merged.1) c.listen_and_serve-ended.ensures.begins c.listen_and_serve-ended.ensures.same.1
+    (c.in-Ok-worked.ensures.worked merged.0 merged.1) c.listen_and_serve-ended.ensures.read.on.begins c.listen_and_serve-ended.ensures.read.places
     c.close-closed.ensures.seen c.close-closed.ensures.places
 
 pub returns-clause-served : goal.returns-clause-served

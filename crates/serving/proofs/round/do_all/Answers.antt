@@ -14,8 +14,8 @@ loop-i-init g c = record {
 
 pub loop-i-preserved : goal.loop-i-preserved
 loop-i-preserved g c = record {
-  object = c.in_ok-do_one.ensures.object;
-  number = c.in_ok-do_one.ensures.number ∙ c.loop-i.invariant.number;
+  object = c.in_ok-do_one.ensures.on.object;
+  number = c.in_ok-do_one.ensures.on.number ∙ c.loop-i.invariant.number;
   room = length-set c.loop-i.answers.items c.loop-i.i c.do_one.new.answer ∙ c.loop-i.invariant.room;
   done = does_more c.loop-i.i (g.C.Clock.moment c.args.clock.now) c.args.seat.now c.loop-i.seat c.do_one.new.seat c.args.core.now c.loop-i.core c.do_one.new.core
       c.args.datagrams.now c.loop-i.answers.items c.index-datagrams-i.result c.do_one.new.answer c.now-now.result

@@ -1,15 +1,12 @@
 use Rattle.std.proofs.Common.{◌≡◌, length}
-use mathlib.Core.List.{IsPrefix}
-use Rattle.cache_versions.specs.Seats.{IsSameSeat, seen_by}
-use Rattle.resolver.specs.Caches.{IsSeatOf}
+use Rattle.cache_versions.specs.Seats.{seen_by}
+use Rattle.resolver.specs.Caches.{HasOnlyRead}
 use Rattle.stream_server.proofs.PieceLemmas.{SoFar}
 use Rattle.stream_server.proofs.pieces.answer_all.Given as goal
 
 abbrev pub invariant-loop-message : goal.invariant-loop-message
 invariant-loop-message g l = record {
-  object : IsSeatOf l.cache l.seat;
-  same : IsSameSeat l.initial.seat l.seat;
-  begins : IsPrefix (seen_by l.initial.seat) (seen_by l.seat);
+  read : HasOnlyRead l.cache l.initial.seat l.seat;
   so_far : SoFar l.now (seen_by l.initial.seat) (seen_by l.seat) l.octets l.rest (g.K.Sink.written l.initial.sink) (g.K.Sink.written l.sink);
   faults : g.K.Sink.faults l.sink ≡ g.K.Sink.faults l.initial.sink;
 }

@@ -1,9 +1,9 @@
-use Rattle.std.proofs.Common.{◌≡◌, [], inl, length, Err, ◌∙◌, ap, refl, subst, sym, arith}
+use Rattle.std.proofs.Common.{◌≡◌, inl, length, Err, ◌∙◌, ap, refl, subst, sym, arith}
 use Rattle.std.specs.Prelude.{IfErr}
-use Rattle.std.proofs.lemmas.List.{append-nil}
 use Rattle.std.proofs.lemmas.Result.{err_from_is_err_and}
 use Rattle.cache_versions.specs.Seats.{seen_by}
-use Rattle.stream_server.proofs.TurnLemmas.{prefix_length, prefix_trans}
+use Rattle.resolver.proofs.GoneOnLemmas.{only_read_self, only_read_then}
+use Rattle.stream_server.proofs.TurnLemmas.{prefix_length}
 use Rattle.stream_server.specs.Served.{AreAllServed, AreServed, CameBack, EndsEarly}
 use Rattle.stream_server.proofs.BackLemmas.{begun, step, stopped}
 use Rattle.stream_server.proofs.server.serve_connections.Goals as goal
@@ -13,9 +13,7 @@ loop-init g c =
     let gateway = g.W.Gateway in
     let at = c.args.gateway.now in
     record {
-      object = c.requires.seat;
-      same = (refl, refl);
-      begins = ([], append-nil (seen_by c.args.seat.now));
+      read = only_read_self c.args.cache.now c.args.seat.now c.requires.seat;
       listens = refl;
       serving = begun (g.C.Clock.moment c.args.clock.now) (length (seen_by c.args.seat.now)) (seen_by c.args.seat.now) (gateway.came_back at) (gateway.failures at) (gateway.faults at);
     }
@@ -32,15 +30,13 @@ loop-preserved g c =
     let at = c.loop.invariant in
     let next = c.in_ok-serve_next.ensures in
     record {
-      object = next.object;
-      same = (next.same.0 ∙ at.same.0, next.same.1 ∙ at.same.1);
-      begins = prefix_trans (seen_by c.args.seat.now) (seen_by c.loop.seat) (seen_by c.serve_next.new.seat) at.begins next.begins;
+      read = only_read_then c.args.cache.now c.args.seat.now c.loop.seat c.serve_next.new.seat at.read next.read;
       listens = next.listens ∙ at.listens;
       serving =
           rw c.noted-failed.ensures
           (step c.loop.counter (g.C.Clock.moment c.args.clock.now) (length (seen_by c.args.seat.now)) (length (seen_by c.loop.seat)) (seen_by c.loop.seat) (seen_by c.serve_next.new.seat)
           (gateway.came_back first) (gateway.came_back before) (gateway.came_back after) (gateway.failures first) (gateway.failures before) (gateway.failures after) (gateway.faults first) (gateway.faults before) (gateway.faults after)
-          (prefix_length (seen_by c.args.seat.now) (seen_by c.loop.seat) at.begins) next.begins c.loop.failed _ at.serving next.served);
+          (prefix_length (seen_by c.args.seat.now) (seen_by c.loop.seat) at.read.on.begins) next.read.on.begins c.loop.failed _ at.serving next.served);
     }
 
 pub returns-in_err-serve_next-clause-early : goal.returns-in_err-serve_next-clause-early
@@ -55,7 +51,7 @@ returns-in_err-serve_next-clause-early g c =
     (gateway.came_back first) (gateway.came_back after) (gateway.failures first) (gateway.failures after) (gateway.faults first) (gateway.faults after))) (sym (p.1 ∙ ap Err p.2))
     (stopped c.loop.counter (g.C.Clock.moment c.args.clock.now) (length (seen_by c.args.seat.now)) (length (seen_by c.loop.seat)) (seen_by c.loop.seat) (seen_by c.serve_next.new.seat)
     (gateway.came_back first) (gateway.came_back before) (gateway.came_back after) (gateway.failures first) (gateway.failures before) (gateway.failures after) (gateway.faults first) (gateway.faults before) (gateway.faults after)
-    (prefix_length (seen_by c.args.seat.now) (seen_by c.loop.seat) at.begins) c.serve_next.ensures.begins c.args.connections c.loop.failed _ at.serving c.in_err-serve_next.ensures.served)
+    (prefix_length (seen_by c.args.seat.now) (seen_by c.loop.seat) at.read.on.begins) c.serve_next.ensures.read.on.begins c.args.connections c.loop.failed _ at.serving c.in_err-serve_next.ensures.served)
 
 pub returns-then-failed-clause-early : goal.returns-then-failed-clause-early
 returns-then-failed-clause-early g c =

@@ -1,19 +1,15 @@
-use Rattle.std.proofs.Common.{◌+◌, ◌-◌, [], Err, ◌∙◌, ap, refl, subst, sym, arith}
-use Rattle.std.proofs.lemmas.List.{append-nil}
+use Rattle.std.proofs.Common.{Err, ◌∙◌, ap, refl, subst, sym, arith}
 use Rattle.std.proofs.lemmas.Result.{err_from_is_err_and}
 use Rattle.cache_versions.specs.Seats.{seen_by}
+use Rattle.resolver.proofs.GoneOnLemmas.{only_read_self, only_read_then}
 use Rattle.stream_server.specs.Stream.{HasFaults, HasStreamed}
-use Rattle.stream_server.specs.declared.serving.TheConstants.{MOST_OCTETS}
 use Rattle.stream_server.proofs.StreamLemmas.{begun, read_failed, read_faults, read_out, piece_failed, piece_done, too_long}
-use Rattle.stream_server.proofs.TurnLemmas.{prefix_trans}
 use Rattle.stream_server.proofs.serving.serve_stream.Goals as goal
 
 pub loop-read-init : goal.loop-read-init
 loop-read-init g c = record {
   few = omega arith;
-  object = c.requires;
-  same = (refl, refl);
-  begins = ([], append-nil (seen_by c.args.seat.now));
+  has_read = only_read_self c.args.cache.now c.args.seat.now c.requires;
   under_way =
       rw c.fresh-front.ensures
       (begun (g.C.Clock.moment c.args.clock.now) (seen_by c.args.seat.now) (g.S.Source.taken c.args.source.now) (g.S.Source.left c.args.source.now) (g.K.Sink.written c.args.sink.now));
@@ -56,7 +52,7 @@ returns-in_err-answer_read-clause-streamed g c =
     let written = g.K.Sink.written in
     subst (HasStreamed (g.C.Clock.moment c.args.clock.now) (seen_by c.args.seat.now) (seen_by c.answer_read.new.seat) (taken c.args.source.now) (taken c.read.new.source) (left c.args.source.now) (left c.read.new.source) (written c.args.sink.now) (written c.answer_read.new.sink)) (sym (p.1 ∙ ap Err p.2))
     (piece_failed c.loop-read.read (g.C.Clock.moment c.args.clock.now) (seen_by c.args.seat.now) (seen_by c.loop-read.seat) (seen_by c.answer_read.new.seat) (taken c.args.source.now) (taken c.loop-read.source) (taken c.read.new.source) (left c.args.source.now) (left c.loop-read.source) (left c.read.new.source) (written c.args.sink.now) (written c.loop-read.sink) (written c.answer_read.new.sink)
-    c.loop-read.front c.read.new.self c.answer_read.new.front _ c.loop-read.invariant.under_way c.in_ok-count.ensures.taken c.loop-read.invariant.begins c.in_err-answer_read.ensures.begins (omega (arith, c.in_ok-count.ensures.few, c.loop-read-test.true)) _ c.in_err-answer_read.ensures.answered)
+    c.loop-read.front c.read.new.self c.answer_read.new.front _ c.loop-read.invariant.under_way c.in_ok-count.ensures.taken c.loop-read.invariant.has_read.on.begins c.in_err-answer_read.ensures.read.on.begins (omega (arith, c.in_ok-count.ensures.few, c.loop-read-test.true)) _ c.in_err-answer_read.ensures.answered)
 
 pub loop-read-preserved : goal.loop-read-preserved
 loop-read-preserved g c =
@@ -68,12 +64,10 @@ loop-read-preserved g c =
     let all = c.in_ok-answer_read.ensures in
     record {
       few = omega (arith, more.few, c.loop-read-test.true);
-      object = all.object;
-      same = (all.same.0 ∙ at.same.0, all.same.1 ∙ at.same.1);
-      begins = prefix_trans (seen_by c.args.seat.now) (seen_by c.loop-read.seat) (seen_by c.answer_read.new.seat) at.begins all.begins;
+      has_read = only_read_then c.args.cache.now c.args.seat.now c.loop-read.seat c.answer_read.new.seat at.has_read all.read;
       under_way =
           piece_done c.loop-read.read (g.C.Clock.moment c.args.clock.now) (seen_by c.args.seat.now) (seen_by c.loop-read.seat) (seen_by c.answer_read.new.seat) (taken c.args.source.now) (taken c.loop-read.source) (taken c.read.new.source) (left c.args.source.now) (left c.loop-read.source) (left c.read.new.source) (written c.args.sink.now) (written c.loop-read.sink) (written c.answer_read.new.sink)
-          c.loop-read.front c.read.new.self c.answer_read.new.front _ at.under_way more.taken at.begins all.begins all.answered;
+          c.loop-read.front c.read.new.self c.answer_read.new.front _ at.under_way more.taken at.has_read.on.begins all.read.on.begins all.answered;
       source_faults = more.cause ∙ at.source_faults;
       sink_faults = all.faults ∙ at.sink_faults;
     }

@@ -1,7 +1,6 @@
 use Rattle.std.proofs.Common.{◌≡◌, ◌≤◌, ◌+◌, ◌-◌}
-use mathlib.Core.List.{IsPrefix}
-use Rattle.cache_versions.specs.Seats.{IsSameSeat, seen_by}
-use Rattle.resolver.specs.Caches.{IsSeatOf}
+use Rattle.cache_versions.specs.Seats.{seen_by}
+use Rattle.resolver.specs.Caches.{HasOnlyRead}
 use Rattle.stream_server.specs.declared.serving.TheConstants.{MOST_OCTETS}
 use Rattle.stream_server.proofs.StreamLemmas.{UnderWay}
 use Rattle.stream_server.proofs.serving.serve_stream.Given as goal
@@ -12,9 +11,7 @@ invariant-loop-read g l =
     let written = g.K.Sink.written in
     record {
       few : l.read ≤ MOST_OCTETS + 1;
-      object : IsSeatOf l.cache l.seat;
-      same : IsSameSeat l.initial.seat l.seat;
-      begins : IsPrefix (seen_by l.initial.seat) (seen_by l.seat);
+      has_read : HasOnlyRead l.cache l.initial.seat l.seat;
       under_way : UnderWay l.read (g.C.Clock.moment l.clock) (seen_by l.initial.seat) (seen_by l.seat) (source.taken l.initial.source) (source.taken l.source) (source.left l.initial.source) (source.left l.source) (written l.initial.sink) (written l.sink) l.front;
       source_faults : source.faults l.source ≡ source.faults l.initial.source;
       sink_faults : g.K.Sink.faults l.sink ≡ g.K.Sink.faults l.initial.sink;

@@ -9,4 +9,4 @@ use Rattle.synth_nsec3.proofs.nsec3_steps.asked_before.Goals as goal
 pub returns-then-eq : goal.returns-then-eq
 returns-then-eq g c =
     let same : c.args.source.now ≡ c.args.next_closer.now = (pointwise_decides bytes_decides c.args.source.now c.args.next_closer.now).0 (sym c.eq.ensures ∙ c.if-eq.true) in
-    subst (λ (name : List Label). IsFound (chain_at g.Z.HeldZone.zone c.args.chain.now) name (Some (Covers c.args.covering))) (sym same) c.requires
+    subst (λ (name : List Label). IsFound (chain_at g.Z.HeldZone.zone c.args.chain.now) name (Some (Covers c.args.covering.nsec3))) (sym same) c.requires

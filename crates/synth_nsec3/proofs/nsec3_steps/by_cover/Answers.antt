@@ -15,7 +15,7 @@ wildcard_below-source-requires-clause-apart g c = λ e. omega (arith, ap length 
 pub returns-in-Some-clause-proof : goal.returns-in-Some-clause-proof
 returns-in-Some-clause-proof g c =
     let chain = chain_at g.Z.HeldZone.zone c.args.chain.now in
-    first_gives _ (answer_by_wildcard chain.held chain.moment chain.apex c.args.qtype (asterisk ∷ c.args.encloser.now) (Nsec3 c.args.covering.now ∷ [])) _ c.in-Some.proof
+    first_gives _ (answer_by_wildcard chain.held chain.moment chain.apex c.args.qtype (asterisk ∷ c.args.encloser.now) (Nsec3 c.args.covering.nsec3.now ∷ [])) _ c.in-Some.proof
     c.requires.covered.says
     (sym (λ k. answer_by_wildcard chain.held chain.moment chain.apex c.args.qtype (c.wildcard_below-source.ensures k) (c.nsec3-denials.ensures k))
     ∙ sym c.answer_by_wildcard.ensures ∙ c.in-Some.is)
@@ -24,7 +24,7 @@ pub returns-clause-proof : goal.returns-clause-proof
 returns-clause-proof g c =
     let chain = chain_at g.Z.HeldZone.zone c.args.chain.now in
     c.denial_below-proof.ensures
-    ∙ second_of _ (answer_by_wildcard chain.held chain.moment chain.apex c.args.qtype (asterisk ∷ c.args.encloser.now) (Nsec3 c.args.covering.now ∷ [])) _
+    ∙ second_of _ (answer_by_wildcard chain.held chain.moment chain.apex c.args.qtype (asterisk ∷ c.args.encloser.now) (Nsec3 c.args.covering.nsec3.now ∷ [])) _
     c.requires.covered.says
     (sym (λ k. answer_by_wildcard chain.held chain.moment chain.apex c.args.qtype (c.wildcard_below-source.ensures k) (c.nsec3-denials.ensures k))
     ∙ sym c.answer_by_wildcard.ensures ∙ c.in_default.is)

@@ -14,11 +14,11 @@ pub returns-in-Covers : goal.returns-in-Covers
 returns-in-Covers g c =
     let chain = chain_at g.Z.HeldZone.zone c.args.chain.now in
     let source = c.args.source.now in
-    let matching = c.args.matching.now in
-    let covering = c.args.covering.now in
-    let at_source = c.in-Covers.at_source.now in
+    let matching = c.args.matching.nsec3.now in
+    let covering = c.args.covering.nsec3.now in
+    let at_source = c.in-Covers.nsec3.now in
     c.name_error.ensures
-    ∙ (λ k. nsec.denial_by chain.held chain.moment chain.apex NxDomain (c.nsec3s_once.ensures k))
+    ∙ (λ k. nsec.denial_by chain.held chain.moment chain.apex NxDomain (c.each_once-denials.ensures k))
     ∙ at_cover (nsec3_matches chain.parameters at_source source) at_source.opt_out (deny_type_below at_source.types c.args.qtype) _ _ (subst (Says chain source) c.in-Covers.is c.requires)
     ∙ ap (λ (e : Nsec3Evidence). option_or
     (no_data_by_wildcard chain.held chain.moment chain.apex chain.parameters c.args.qtype source matching covering (record_of e))

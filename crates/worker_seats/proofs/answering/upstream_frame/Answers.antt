@@ -1,12 +1,12 @@
 use Rattle.std.proofs.Common.{inl, refl}
 use Rattle.std.specs.Prelude.{Err}
 use Rattle.replay_meaning.specs.Frame.{input_of}
-use Rattle.cache_versions.proofs.Fronts.{prefix_self}
+use Rattle.resolver.proofs.GoneOnLemmas.{gone_on_self}
 use Rattle.worker_seats.proofs.TurnLemmas.{on_both, told_by_any, answer_does, fault_is}
 use Rattle.worker_seats.proofs.answering.upstream_frame.Goals as goal
 
-pub returns-in-Err-clause-begins : goal.returns-in-Err-clause-begins
-returns-in-Err-clause-begins g c = prefix_self _
+pub returns-in-Err-clause-on : goal.returns-in-Err-clause-on
+returns-in-Err-clause-on g c = gone_on_self c.args.cache.now c.args.seat.now c.requires.object
 
 pub returns-in-Err-clause-done : goal.returns-in-Err-clause-done
 returns-in-Err-clause-done g c =

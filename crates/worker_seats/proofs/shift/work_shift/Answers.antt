@@ -1,4 +1,5 @@
 use Rattle.std.proofs.Common.{rules, ◌-◌, ◌∙◌, length, refl, arith}
+use Rattle.resolver.proofs.GoneOnLemmas.{gone_on_self, gone_on_then}
 use Rattle.worker_seats.proofs.FramesLemmas.{other_front, own_front}
 use Rattle.worker_seats.specs.Answering.{rule_of}
 use Rattle.worker_seats.proofs.ShiftLemmas.{calls_few, cuts_done, frame_own, frame_other, shift_done, under_way_none}
@@ -6,8 +7,7 @@ use Rattle.worker_seats.proofs.shift.work_shift.Goals as goal
 
 pub loop-own-init : goal.loop-own-init
 loop-own-init g c = record {
-  object = c.requires.object;
-  number = refl;
+  on = gone_on_self c.args.cache.now c.args.job.seat c.requires.object;
   way = under_way_none (rule_of c.args.answering) c.args.job.worker c.args.job.seat c.args.frames.now c.octets-rest.result.now c.reserve_exact.new.self.items c.new-cuts.result.items c.octets-rest.ensures (c.reserve_exact.ensures.items ∙ c.new-octets.ensures.items) c.new-cuts.ensures.items;
 }
 
@@ -23,11 +23,10 @@ loop-own-preserved-in_ok-one_frame g c =
     let whole = c.octets-whole.result.now in
     let (fits, is, own) = own_front at.invariant.way.walk.left _ _ c.args.job.worker c.in-Some.own c.in-Some-own.frame c.in-Some-own.is at.invariant.way.walk.spelled c.in-Some.ensures.shorter c.in-Some.ensures.every in
     record {
-      object = c.in_ok-one_frame.ensures.object;
-      number = c.in_ok-one_frame.ensures.number ∙ at.invariant.number;
+      on = gone_on_then c.args.cache.now c.args.job.seat at.seat c.one_frame.new.seat at.invariant.on c.in_ok-one_frame.ensures.on;
       way = frame_own (rule_of c.args.answering) c.args.job.worker c.args.job.seat at.seat c.args.frames.now _ _ _ at.call at.octets.items at.cuts.items at.passed at.invariant.way fits is
           whole (record { from = length whole - length at.rest.now; place = c.len.result }) c.count_frame.new.cuts.items c.in_ok-passed.passed c.octets-whole.ensures refl (search rules) c.in_ok-passed.ensures
-          c.one_frame.new.seat c.one_frame.new.out.items own c.in_ok-one_frame.ensures.begins c.in_ok-one_frame.ensures.done c.in_ok-one_frame.ensures.placed;
+          c.one_frame.new.seat c.one_frame.new.out.items own c.in_ok-one_frame.ensures.on.begins c.in_ok-one_frame.ensures.done c.in_ok-one_frame.ensures.placed;
     }
 
 pub loop-own-preserved : goal.loop-own-preserved
@@ -36,8 +35,7 @@ loop-own-preserved g c =
     let whole = c.octets-whole.result.now in
     let (input, fits, is, other) = other_front at.invariant.way.walk.left _ _ c.args.job.worker c.in-Some.own c.in_default-own.not-Some at.invariant.way.walk.spelled c.in-Some.ensures.shorter c.in-Some.ensures.every in
     record {
-      object = at.invariant.object;
-      number = at.invariant.number;
+      on = at.invariant.on;
       way = frame_other (rule_of c.args.answering) c.args.job.worker c.args.job.seat at.seat c.args.frames.now _ _ _ at.call at.octets.items at.cuts.items at.passed at.invariant.way fits is
           whole (record { from = length whole - length at.rest.now; place = c.len.result }) c.count_frame.new.cuts.items c.in_ok-passed.passed c.octets-whole.ensures refl (search rules) c.in_ok-passed.ensures other;
     }

@@ -38,7 +38,7 @@ returns-clause-object g c =
     (all_map (λ s. IsSeatOf c.args.cache.now s) (λ shift. shift.seat) shifts
     (λ worker d lt. shift_at (λ shift. IsSeatOf c.args.cache.now shift.seat) c.in_ok-results.results.items shifts worker d c.in_ok-shifts.ensures lt
     (let e = some_of seats worker (omega (arith, lt, same)) in
-    IfOk-weaker _ (IsShiftOf (rule_of c.args.answering) c.args.cache.now (record { worker = worker; seat = get_or seats worker e }) c.args.frames.now) (λ shift. IsSeatOf c.args.cache.now shift.seat) (λ shift is. is.object) (c.in_ok-results.ensures.each worker (Ok d) e (omega (arith, lt, same))))))) c.split.ensures.seats
+    IfOk-weaker _ (IsShiftOf (rule_of c.args.answering) c.args.cache.now (record { worker = worker; seat = get_or seats worker e }) c.args.frames.now) (λ shift. IsSeatOf c.args.cache.now shift.seat) (λ shift is. is.on.object) (c.in_ok-results.ensures.each worker (Ok d) e (omega (arith, lt, same))))))) c.split.ensures.seats
 
 pub returns-clause-numbers : goal.returns-clause-numbers
 returns-clause-numbers g c =
@@ -48,7 +48,7 @@ returns-clause-numbers g c =
     IfOk-weaker c.split.result (λ done. done.0.items ≡ map (λ shift. shift.seat) shifts) (λ done. AreNumbered done.0.items) (λ done is. subst AreNumbered (sym is)
     (numbers_all (rule_of c.args.answering) (λ shift. shift.seat) (λ shift. shift.octets.items) seats shifts same c.requires.numbers
     (λ worker e d lt. shift_at (λ shift. number_by shift.seat ≡ number_by (get_or seats worker e)) c.in_ok-results.results.items shifts worker d c.in_ok-shifts.ensures lt
-    (IfOk-weaker _ (IsShiftOf (rule_of c.args.answering) c.args.cache.now (record { worker = worker; seat = get_or seats worker e }) c.args.frames.now) (λ shift. number_by shift.seat ≡ number_by (get_or seats worker e)) (λ shift is. is.number) (c.in_ok-results.ensures.each worker (Ok d) e (omega (arith, lt, same))))))) c.split.ensures.seats
+    (IfOk-weaker _ (IsShiftOf (rule_of c.args.answering) c.args.cache.now (record { worker = worker; seat = get_or seats worker e }) c.args.frames.now) (λ shift. number_by shift.seat ≡ number_by (get_or seats worker e)) (λ shift is. is.on.number) (c.in_ok-results.ensures.each worker (Ok d) e (omega (arith, lt, same))))))) c.split.ensures.seats
 
 pub returns-clause-merge : goal.returns-clause-merge
 returns-clause-merge g c =

@@ -1,5 +1,0 @@
-use Rattle.alias_chain.proofs.SoundLemmas.{walk_sound}
-use Rattle.alias_chain.proofs.laws.each_walk_is_sound.Goals as goal
-
-pub returns : goal.returns
-returns c = λ rule held now name qtype walk ordinary is. walk_sound c.each_answer_is_sound.ensures rule held now qtype ordinary name walk is

@@ -1,8 +1,0 @@
-use Rattle.std.proofs.Common.{◌≡◌, take, false}
-use Rattle.std.specs.List.{list_any}
-use Rattle.alias_chain.specs.WalkReply.{same_set}
-use Rattle.alias_chain.specs.Lent.{dnames_by}
-use Rattle.alias_chain.proofs.once.go_by.Given as goal
-
-abbrev pub invariant-loop-way : goal.invariant-loop-way
-invariant-loop-way l = list_any (λ each. same_set each l.set) (dnames_by (take l.way-index l.links)) ≡ false

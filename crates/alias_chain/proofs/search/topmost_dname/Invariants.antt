@@ -1,7 +1,0 @@
-use Rattle.std.proofs.Common.{◌≡◌, None}
-use Rattle.alias_chain.specs.Dname.{topmost_dname}
-use Rattle.alias_chain.proofs.SearchLemmas.{last_labels}
-use Rattle.alias_chain.proofs.search.topmost_dname.Given as goal
-
-abbrev pub invariant-loop-labels : goal.invariant-loop-labels
-invariant-loop-labels l = topmost_dname l.zone.held l.now l.zone.apex (last_labels l.labels l.name) ≡ None

@@ -1,8 +1,0 @@
-use Rattle.std.proofs.Common.{List}
-use Rattle.dname.specs.Name.{Label}
-use Rattle.alias_chain.specs.Lent.{end_by}
-use Rattle.alias_chain.proofs.WritingLemmas.{PutsDenials}
-use Rattle.alias_chain.proofs.writing.put_denials.Given as goal
-
-abbrev pub invariant-loop-place : goal.invariant-loop-place
-invariant-loop-place l = (last : List Label) → PutsDenials l.links (end_by last l.end) l.initial.sections l.place l.sections

@@ -1,0 +1,14 @@
+use Rattle.std.proofs.Common.{refl}
+use Rattle.std.proofs.lemmas.Bool.{false≢true}
+use Rattle.resolver.proofs.WalkReplyLemmas.{zone_proof_replies, zone_beyond_replies}
+use Rattle.resolver.proofs.walk_replying.reply_from.Goals as goal
+
+pub returns-in-Some : goal.returns-in-Some
+returns-in-Some c =
+    zone_proof_replies c.args.rule c.args.store.now c.args.question.now c.args.now c.args.zone.now c.in-Some.verdict c.write_reply.new.out
+    c.requires c.in-Some.ensures.proved (c.in-Some.ensures.exact.0 refl) c.write_reply.ensures.value
+
+pub returns : goal.returns
+returns c =
+    zone_beyond_replies c.args.rule c.args.store.now c.args.question.now c.args.now c.args.zone.now c.reply_by_walk.result c.reply_by_walk.new.out
+    c.requires (λ some. false≢true (c.in_default.ensures.exact.1 some)) c.reply_by_walk.ensures

@@ -1,7 +1,0 @@
-use Rattle.std.proofs.Common.{◌≡◌, length}
-use Rattle.std.specs.List.{All}
-use Rattle.resolver.specs.declared.latest.Latest.{Latest}
-use Rattle.resolver.proofs.worker_core.WorkerCore.new.Given as goal
-
-abbrev pub invariant-loop : goal.invariant-loop
-invariant-loop l = (length l.latest.items ≡ l.counter) × All (λ (x : Latest). x.turn ≡ 255) l.latest.items

@@ -1,5 +1,0 @@
-use Rattle.resolver.proofs.MarkLemmas.{AreKeptBelow}
-use Rattle.resolver.proofs.worker_core.keep.Given as goal
-
-abbrev pub invariant-loop-slot : goal.invariant-loop-slot
-invariant-loop-slot l = AreKeptBelow l.slot l.now l.initial.taken l.sent l.taken

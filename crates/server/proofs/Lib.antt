@@ -1,4 +1,0 @@
-pub mod NewLemmas
-pub mod BackLemmas
-pub mod EndedLemmas
-pub mod ServedLemmas
