@@ -1,0 +1,3 @@
+pub mod OnceLemmas
+pub mod SlotLemmas
+pub mod IndexLemmas

@@ -1,0 +1,4 @@
+pub mod Waiting
+pub mod Steps
+pub mod Laws
+pub mod Index
