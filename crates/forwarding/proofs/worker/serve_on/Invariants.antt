@@ -1,0 +1,10 @@
+use Rattle.cache_versions.specs.Seats.{seen_by}
+use Rattle.resolver.specs.Caches.{IsSeatOf}
+use Rattle.forwarding.specs.Lawful.{IsAtWork}
+use Rattle.forwarding.proofs.worker.serve_on.Given as goal
+
+abbrev pub invariant-loop : goal.invariant-loop
+invariant-loop g l = record {
+  object : IsSeatOf l.cache l.seat;
+  work : IsAtWork l.passed (seen_by l.seat) l.table (g.O.Outlet.told l.outlet);
+}

@@ -1,0 +1,9 @@
+use Rattle.cache_versions.specs.Seats.{seen_by}
+use Rattle.forwarding.proofs.LawfulLemmas.{begun}
+use Rattle.forwarding.proofs.worker.serve_some.Goals as goal
+
+pub loop-init : goal.loop-init
+loop-init g c = record {
+  object = c.requires.object;
+  work = begun c.args.passed.now (seen_by c.args.seat.now) c.args.table.now (g.O.Outlet.told c.args.outlet.now) c.requires.table c.requires.outlet;
+}

@@ -1,0 +1,91 @@
+-- What may be sent: what the events received so far call for, by the history of the cache.
+use Rattle.std.specs.Prelude.{◌≡◌, ℕ, ◌<◌, Bool, List, [], ◌∷◌, ◌++◌, length, map, Option, option_map, IfSome}
+use Rattle.std.specs.List.{All}
+use mathlib.Core.List.{IsPrefix}
+use Rattle.dname.specs.Name.{Label}
+use Rattle.denial_records.specs.declared.batch.Batch.{Batch}
+use Rattle.waiting_table.specs.Waiting.{Slot, empty_table}
+use Rattle.forwarding.specs.Done.{Done, IsDone}
+use Rattle.forwarding.specs.Turn.{Turn, AreTurns, IsKeptAt, sends_of}
+use Rattle.forwarding.specs.declared.event.Event.{Event}
+use Rattle.forwarding.specs.declared.sent.Sent.{Sent}
+use Rattle.forwarding.specs.declared.want.Want.{Want}
+
+-- what an outlet carried so far
+pub record Told : Type 0 where
+  pub received : List Event
+  pub sent : List Sent
+
+-- the events received so far did these turns, by this history, from an empty table; what was sent is what they say, up to some of it
+pub record IsLawful (passed : List (List Label)) (history : List Batch) (told : Told) : Type 0 where
+  pub turns : List Turn
+  pub events_are : told.received ≡ map (λ turn. turn.event) turns
+  pub are : AreTurns passed history empty_table turns
+  pub begins : IsPrefix told.sent (sends_of turns)
+
+abbrev pub with_event : Event → Told → Told
+with_event event before = record { received = before.received ++ event ∷ []; sent = before.sent }
+
+abbrev pub with_sends : List Sent → Told → Told
+with_sends sends before = record { received = before.received; sent = before.sent ++ sends }
+
+-- and then this was received
+abbrev pub more_received : Option Told → Event → Option Told
+more_received told event = option_map (with_event event) told
+
+-- and then these were sent
+abbrev pub more_sent : Option Told → List Sent → Option Told
+more_sent told sends = option_map (with_sends sends) told
+
+-- where the outlet tells what it carried, it is lawful with these sent too, in order
+abbrev pub MaySendAll : List (List Label) → List Batch → Option Told → List Sent → Type 0
+MaySendAll passed history told sends = IfSome (more_sent told sends) (IsLawful passed history)
+
+-- with this one sent too
+abbrev pub MaySend : List (List Label) → List Batch → Option Told → Sent → Type 0
+MaySend passed history told one = MaySendAll passed history told (one ∷ [])
+
+-- nothing was carried yet
+abbrev pub IsNew : Option Told → Type 0
+IsNew told = IfSome told (λ before. (before.received ≡ []) × (before.sent ≡ []))
+
+-- ---- a worker
+
+-- the table that the turns leave
+abbrev pub left_by : List Slot → List Turn → List Slot
+left_by table [] = table
+left_by table (turn ∷ later) = left_by turn.done.table later
+
+-- all that was received was done, and all of it was sent
+pub record HasServed (passed : List (List Label)) (history : List Batch) (table : List Slot) (told : Told) : Type 0 where
+  pub turns : List Turn
+  pub events_are : told.received ≡ map (λ turn. turn.event) turns
+  pub are : AreTurns passed history empty_table turns
+  pub sent_are : told.sent ≡ sends_of turns
+  pub left : table ≡ left_by empty_table turns
+
+-- where the outlet tells what it carried
+abbrev pub IsAtWork : List (List Label) → List Batch → List Slot → Option Told → Type 0
+IsAtWork passed history table told = IfSome told (HasServed passed history table)
+
+-- so it was, and then this event came
+pub record HasCome (passed : List (List Label)) (history : List Batch) (table : List Slot) (event : Event) (told : Told) : Type 0 where
+  pub before : Told
+  pub served : HasServed passed history table before
+  pub told_is : told ≡ with_event event before
+
+abbrev pub IsCalled : List (List Label) → List Batch → List Slot → Event → Option Told → Type 0
+IsCalled passed history table event told = IfSome told (HasCome passed history table event)
+
+-- What an event does by the version that was seen, with these IDs drawn, may be sent, all of it; once it was sent, the worker has
+-- served
+abbrev pub EachTurnIsLawful : Type 0
+EachTurnIsLawful =
+    (passed : List (List Label)) (history : List Batch) (table : List Slot) (event : Event)
+    (ids : List ℕ) (want : Want) (done : Done) (placed : Bool) (told told' : Option Told)
+    → IsCalled passed history table event told
+    → IsDone passed table history event ids want done
+    → All (λ id. id < 65536) ids
+    → IsKeptAt history (length history) done.batch placed
+    → MaySendAll passed history told done.sends
+    × (told' ≡ more_sent told done.sends → IsAtWork passed history done.table told')

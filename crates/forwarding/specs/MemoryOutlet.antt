@@ -1,0 +1,53 @@
+-- An outlet in memory.
+use Rattle.std.specs.Prelude.{ℕ, ◌-◌, List, [], ◌∷◌, ◌++◌}
+use Rattle.std.specs.List.{flat_map}
+use Rattle.forwarding.specs.Lawful.{Told}
+use Rattle.forwarding.specs.declared.carried.Carried.{Carried}
+use Rattle.forwarding.specs.declared.carried.Carried.TheVariants.{Received, Given}
+use Rattle.forwarding.specs.declared.event.Event.{Event}
+use Rattle.forwarding.specs.declared.sent.Receiver.{Receiver}
+use Rattle.forwarding.specs.declared.sent.Sent.{Sent}
+
+-- what went over it, in turn, the events that are still to come, and how many more datagrams it has room to send
+pub record Carrying : Type 0 where
+  pub carried : List Carried
+  pub left : List Event
+  pub room : ℕ
+
+-- the outlet before its first call
+abbrev pub outlet_of : List Event → ℕ → Carrying
+outlet_of events room = record { carried = []; left = events; room = room }
+
+-- the events that were received
+abbrev pub received_by : Carried → List Event
+received_by (Received event) = event ∷ []
+received_by (Given sent) = []
+
+-- what was given to be sent
+abbrev pub given_by : Carried → List Sent
+given_by (Received event) = []
+given_by (Given sent) = sent ∷ []
+
+-- what it tells
+abbrev pub told_by : Carrying → Told
+told_by outlet = record {
+  received = flat_map received_by outlet.carried;
+  sent = flat_map given_by outlet.carried;
+}
+
+abbrev pub sent_to : Receiver → List ℕ → Sent
+sent_to receiver octets = record { receiver = receiver; octets = octets }
+
+-- after the receipt of this event, before these
+abbrev pub after_receipt : Event → List Event → Carrying → Carrying
+after_receipt event rest outlet = record outlet {
+  carried = outlet.carried ++ Received event ∷ [];
+  left = rest;
+}
+
+-- after this was given to be sent
+abbrev pub after_giving : Sent → Carrying → Carrying
+after_giving sent outlet = record outlet {
+  carried = outlet.carried ++ Given sent ∷ [];
+  room = outlet.room - 1;
+}

@@ -1,0 +1,114 @@
+//! A client waits for the upstream's answer.
+ghost use Rattle.std.specs.Prelude.{◌≡◌, ◌<◌, ◌∷◌, [], map};
+ghost use Rattle.cache_versions.specs.Seats.{seen_by};
+ghost use Rattle.resolver.specs.Caches.{IsSeatOf};
+ghost use Rattle.reply_core.specs.Ask.{ask_octets};
+ghost use Rattle.waiting_table.specs.Waiting.{client_of};
+ghost use Rattle.waiting_table.specs.Steps.{given_up, place_slot};
+ghost use Rattle.waiting_table.specs.declared.waiting_table.TheConstants.{SLOTS};
+ghost use Rattle.forwarding.specs.Done.{asking, failed, to_upstream, waits};
+ghost use Rattle.forwarding.specs.Lawful.{MaySend, MaySendAll, more_sent};
+
+use crate::telling::fail_all;
+use crate::{Outlet, PassedNames};
+use dnswire::Question;
+use reply_core::{ReplyBuffer, write_ask};
+use resolver::{CacheSeat, SharedCache};
+use waiting_table::{Place, WaitingTable};
+
+/// The client waits from now on, in milliseconds: it joins, or its question is asked with the ID. Those of a question that is given
+/// up for it are told first.
+pub(crate) fn wait<O: Outlet>(
+    outlet: &mut O,
+    cache: &SharedCache,
+    seat: &CacheSeat,
+    passed: &PassedNames,
+    table: &mut WaitingTable,
+    client: u64,
+    question: &Question,
+    id: u16,
+    now: u64,
+    out: &mut ReplyBuffer,
+)
+    requires object { IsSeatOf cache.now seat.now }
+    requires lawful { MaySendAll passed.now (seen_by seat.now) (O.Outlet.told outlet.old)
+        (waits table.old now id (client_of client question.now)).sends }
+    ensures table { table.new ≡ (waits table.old now id (client_of client question.now)).table }
+    ensures told { O.Outlet.told outlet.new ≡ more_sent (O.Outlet.told outlet.old)
+        (waits table.old now id (client_of client question.now)).sends }
+{
+    let place = table.place_for(question);
+    give_up(outlet, cache, seat, passed, table, place, out);
+    ask_at(outlet, cache, seat, passed, place, question, id, out);
+    table.enter(place, client, question, id, now);
+}
+
+// Those who wait where another question is to wait are told of a failed server.
+fn give_up<O: Outlet>(
+    outlet: &mut O,
+    cache: &SharedCache,
+    seat: &CacheSeat,
+    passed: &PassedNames,
+    table: &WaitingTable,
+    place: Place,
+    out: &mut ReplyBuffer,
+)
+    requires object { IsSeatOf cache.now seat.now }
+    requires within { place_slot place < SLOTS }
+    requires lawful { MaySendAll passed.now (seen_by seat.now) (O.Outlet.told outlet.old)
+        (map failed (given_up table.now place)) }
+    ensures { O.Outlet.told outlet.new ≡ more_sent (O.Outlet.told outlet.old)
+        (map failed (given_up table.now place)) }
+{
+    match place {
+        Place::Joins { slot: _ } => {}
+        Place::Fills { slot: _ } => {}
+        Place::Replaces { slot } => fail_all(outlet, cache, seat, passed, table, slot, out),
+    }
+}
+
+// The question is asked, unless its client joins.
+fn ask_at<O: Outlet>(
+    outlet: &mut O,
+    cache: &SharedCache,
+    seat: &CacheSeat,
+    passed: &PassedNames,
+    place: Place,
+    question: &Question,
+    id: u16,
+    out: &mut ReplyBuffer,
+)
+    requires object { IsSeatOf cache.now seat.now }
+    requires lawful { MaySendAll passed.now (seen_by seat.now) (O.Outlet.told outlet.old)
+        (asking id question.now place) }
+    ensures { O.Outlet.told outlet.new
+        ≡ more_sent (O.Outlet.told outlet.old) (asking id question.now place) }
+{
+    match place {
+        Place::Joins { slot: _ } => {}
+        Place::Fills { slot } | Place::Replaces { slot } => {
+            ask(outlet, cache, seat, passed, slot, question, id, out);
+        }
+    }
+}
+
+/// The question is asked of the upstream, for the slot.
+pub(crate) fn ask<O: Outlet>(
+    outlet: &mut O,
+    cache: &SharedCache,
+    seat: &CacheSeat,
+    passed: &PassedNames,
+    slot: usize,
+    question: &Question,
+    id: u16,
+    out: &mut ReplyBuffer,
+)
+    requires object { IsSeatOf cache.now seat.now }
+    requires lawful { MaySend passed.now (seen_by seat.now) (O.Outlet.told outlet.old)
+        (to_upstream slot (ask_octets question.now id)) }
+    ensures { O.Outlet.told outlet.new ≡ more_sent (O.Outlet.told outlet.old)
+        (to_upstream slot (ask_octets question.now id) ∷ []) }
+{
+    write_ask(question, id, out);
+    outlet.ask(cache, seat, passed, slot, out.as_slice());
+}

@@ -1,0 +1,9 @@
+use crate::{Event, Sent};
+
+/// What goes over an outlet.
+#[derive(Debug, Drop)]
+pub enum Carried {
+    Received(Event),
+    /// What was given to be sent.
+    Given(Sent),
+}

@@ -1,0 +1,51 @@
+//! A worker's way to its clients and to the upstream.
+ghost use Rattle.std.specs.Prelude.{◌≡◌, ◌≤◌, ◌∷◌, [], length, Option};
+ghost use Rattle.cache_versions.specs.Seats.{seen_by};
+ghost use Rattle.resolver.specs.Caches.{IsSeatOf};
+ghost use Rattle.forwarding.specs.Done.{to_client, to_upstream};
+ghost use Rattle.forwarding.specs.Lawful.{MaySend, Told, more_received, more_sent};
+
+use crate::{Event, PassedNames};
+use resolver::{CacheSeat, SharedCache};
+use std::sync::Wait;
+
+/// Where events come from, and what is sent goes to. What goes out is lawful when it goes out, whatever ends the worker: so
+/// `reply` and `ask` require. A datagram that the system refuses is one that was lawful; it is counted as a fault.
+pub trait Outlet {
+    /// What it carried so far, where it tells that.
+    ghost told: { Self → Option Told };
+
+    /// Waits for the next event, for a quarter of a second at most, and puts it into `into`. A failed call is a tick.
+    fn receive<R: Wait>(&mut self, rt: &R, into: &mut Event)
+        ensures { told self.new ≡ more_received (told self.old) into.new };
+
+    /// Gives a reply to be sent to a client.
+    fn reply(
+        &mut self,
+        cache: &SharedCache,
+        seat: &CacheSeat,
+        passed: &PassedNames,
+        client: u64,
+        octets: &[u8],
+    )
+        requires object { IsSeatOf cache.now seat.now }
+        requires fits { length octets.now ≤ 4096 }
+        requires lawful { MaySend passed.now (seen_by seat.now) (told self.old)
+            (to_client client octets.now) }
+        ensures { told self.new ≡ more_sent (told self.old) (to_client client octets.now ∷ []) };
+
+    /// Gives a question to be sent to the upstream, over a new socket that is the slot's from then on.
+    fn ask(
+        &mut self,
+        cache: &SharedCache,
+        seat: &CacheSeat,
+        passed: &PassedNames,
+        slot: usize,
+        octets: &[u8],
+    )
+        requires object { IsSeatOf cache.now seat.now }
+        requires fits { length octets.now ≤ 4096 }
+        requires lawful { MaySend passed.now (seen_by seat.now) (told self.old)
+            (to_upstream slot octets.now) }
+        ensures { told self.new ≡ more_sent (told self.old) (to_upstream slot octets.now ∷ []) };
+}

@@ -1,0 +1,83 @@
+//! Names that are the resolver's own.
+ghost use Rattle.std.specs.Prelude.{◌≡◌, [], ◌∷◌, ◌++◌, IfOk, OnOk};
+ghost use Rattle.dname.specs.Tests.{is_under};
+ghost use Rattle.forwarding.specs.Passed.{is_passed};
+
+use crate::name_ends::NameEnds;
+use crate::own_names::OWN_NAMES;
+use dname::{LentName, Name, OutOfMemory};
+use std::alloc::Global;
+use std::marker::Model;
+
+/// The names that are passed, seen as their list.
+#[derive(Drop)]
+pub struct PassedNames {
+    names: Vec<Name>,
+    ends: NameEnds,
+}
+
+impl Model for PassedNames {
+    ghost use Rattle.std.specs.Prelude.{List, ℕ};
+    ghost use Rattle.forwarding.specs.Ends.{AreMarksOf};
+
+    ghost Value = { List (List (List ℕ)) };
+
+    ghost view = { λ p. p.names.items };
+
+    ghost invariant = { λ p. AreMarksOf p.ends.marks p.names.items };
+}
+
+impl PassedNames {
+    /// No name.
+    #[tactic(auto, using(crate::proofs::NameEndLemmas::marks_of_none))]
+    pub fn none(alloc: Global) -> PassedNames
+        ensures { result ≡ [] }
+    {
+        PassedNames {
+            names: Vec::new(alloc),
+            ends: NameEnds::none(),
+        }
+    }
+
+    /// The names that resolvers answer themselves: without them a neighbour's denial in the zone above would take them away.
+    pub fn own(alloc: Global) -> Result<PassedNames, OutOfMemory> {
+        let mut passed = PassedNames::none(alloc);
+        for wire in OWN_NAMES {
+            if let Ok((name, _)) = Name::read(wire) {
+                passed.pass(name)?;
+            }
+        }
+        Ok(passed)
+    }
+
+    /// One name more.
+    #[tactic(auto, using(crate::proofs::NameEndLemmas::marks_wider, crate::proofs::NameEndLemmas::marks_push))]
+    pub fn pass(&mut self, name: Name) -> Result<(), OutOfMemory>
+        ensures { OnOk result (self.new ≡ self.old ++ name ∷ []) }
+    {
+        self.ends.add(&name);
+        self.names.push(name)?;
+        Ok(())
+    }
+
+    /// Whether the name is at or below one of them.
+    pub fn has(&self, name: &LentName<'_>) -> bool
+        ensures { result ≡ is_passed self.now name.now }
+    {
+        if !self.ends.has(name) {
+            return false;
+        }
+        for i in 0..self.names.len() {
+            if is_at_or_below(name, &self.names[i]) {
+                return true;
+            }
+        }
+        false
+    }
+}
+
+fn is_at_or_below(name: &LentName<'_>, top: &Name) -> bool
+    ensures { result ≡ is_under name.now top.now }
+{
+    name.is_under(&top.lent())
+}

@@ -1,0 +1,128 @@
+//! A worker that never ends.
+ghost use Rattle.std.specs.Prelude.{◌≡◌};
+ghost use Rattle.cache_versions.specs.Seats.{seen_by};
+ghost use Rattle.resolver.specs.Caches.{IsSeatOf};
+ghost use Rattle.waiting_table.specs.Waiting.{empty_table};
+ghost use Rattle.forwarding.specs.Lawful.{IsAtWork, IsCalled, IsNew};
+
+use crate::answering::serve_answer;
+use crate::querying::serve_query;
+use crate::ticking::serve_tick;
+use crate::{Came, Dice, Event, Outlet, PassedNames};
+use reply_core::ReplyBuffer;
+use resolver::{CacheSeat, SharedCache};
+use std::alloc::Global;
+use std::sync::Wait;
+use waiting_table::WaitingTable;
+
+/// Serves without end. Whatever it sends is lawful when it is sent, as `Outlet` requires; so it held whenever something was sent,
+/// whatever ends the program. No event ends it: where memory is wanted at an answer, it is relayed and not stored. `event` is a
+/// place for what comes.
+pub fn serve_on<R: Wait, O: Outlet, D: Dice>(
+    rt: &R,
+    alloc: Global,
+    cache: &SharedCache,
+    seat: &mut CacheSeat,
+    passed: &PassedNames,
+    table: &mut WaitingTable,
+    event: &mut Event,
+    outlet: &mut O,
+    dice: &D,
+)
+    requires object { IsSeatOf cache.now seat.old }
+    requires table { table.old ≡ empty_table }
+    requires outlet { IsNew (O.Outlet.told outlet.old) }
+    ensures { ⊥ }
+{
+    let mut out = ReplyBuffer::new();
+    for _ in rt.forever() {
+        serve_next(
+            rt, alloc, cache, seat, passed, table, event, outlet, dice, &mut out,
+        );
+    }
+    unreachable!()
+}
+
+/// Serves so many events, and then lets go.
+pub fn serve_some<R: Wait, O: Outlet, D: Dice>(
+    rt: &R,
+    alloc: Global,
+    cache: &SharedCache,
+    seat: &mut CacheSeat,
+    passed: &PassedNames,
+    table: &mut WaitingTable,
+    event: &mut Event,
+    outlet: &mut O,
+    dice: &D,
+    events: usize,
+)
+    requires object { IsSeatOf cache.now seat.old }
+    requires table { table.old ≡ empty_table }
+    requires outlet { IsNew (O.Outlet.told outlet.old) }
+    ensures object { IsSeatOf cache.now seat.new }
+    ensures work { IsAtWork passed.now (seen_by seat.new) table.new (O.Outlet.told outlet.new) }
+{
+    let mut out = ReplyBuffer::new();
+    for _ in 0..events {
+        serve_next(
+            rt, alloc, cache, seat, passed, table, event, outlet, dice, &mut out,
+        );
+    }
+}
+
+// Waits for the next event, and does what it asks for.
+fn serve_next<R: Wait, O: Outlet, D: Dice>(
+    rt: &R,
+    alloc: Global,
+    cache: &SharedCache,
+    seat: &mut CacheSeat,
+    passed: &PassedNames,
+    table: &mut WaitingTable,
+    event: &mut Event,
+    outlet: &mut O,
+    dice: &D,
+    out: &mut ReplyBuffer,
+)
+    requires object { IsSeatOf cache.now seat.old }
+    requires work { IsAtWork passed.now (seen_by seat.old) table.old (O.Outlet.told outlet.old) }
+    ensures object { IsSeatOf cache.now seat.new }
+    ensures work { IsAtWork passed.now (seen_by seat.new) table.new (O.Outlet.told outlet.new) }
+{
+    outlet.receive(rt, event);
+    serve_event(
+        rt, alloc, cache, seat, passed, table, event, outlet, dice, out,
+    );
+}
+
+// Does what the event asks for.
+fn serve_event<R: Wait, O: Outlet, D: Dice>(
+    rt: &R,
+    alloc: Global,
+    cache: &SharedCache,
+    seat: &mut CacheSeat,
+    passed: &PassedNames,
+    table: &mut WaitingTable,
+    event: &Event,
+    outlet: &mut O,
+    dice: &D,
+    out: &mut ReplyBuffer,
+)
+    requires object { IsSeatOf cache.now seat.old }
+    requires called { IsCalled passed.now (seen_by seat.old) table.old event.now
+        (O.Outlet.told outlet.old) }
+    ensures object { IsSeatOf cache.now seat.new }
+    ensures work { IsAtWork passed.now (seen_by seat.new) table.new (O.Outlet.told outlet.new) }
+{
+    match event.came {
+        Came::Query { client } => {
+            serve_query(outlet, dice, cache, seat, passed, table, event, client, out);
+        }
+        Came::Answer { slot } => {
+            let at = usize::from(slot);
+            serve_answer(
+                rt, alloc, outlet, cache, seat, passed, table, event, at, out,
+            );
+        }
+        Came::Tick => serve_tick(outlet, dice, cache, seat, passed, table, event, out),
+    }
+}
