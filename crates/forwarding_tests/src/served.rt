@@ -1,0 +1,93 @@
+//! A worker over a new cache and an outlet in memory.
+ghost use Rattle.std.specs.Prelude.{◌≡◌, []};
+ghost use Rattle.resolver.specs.Caches.{IsSeatOf};
+ghost use Rattle.waiting_table.specs.Waiting.{empty_table};
+
+use crate::loaded::Loaded;
+use crate::script::{Script, Step, first_otherwise};
+use dname::Name;
+use forwarding::{Came, Event, MemoryOutlet, Moment, PassedNames, serve_some};
+use outside_core::DatagramOctets;
+use resolver::{CacheSeat, SharedCache};
+use std::alloc::Global;
+use std::sync::Wait;
+use std::test::Fail;
+use waiting_table::WaitingTable;
+
+/// How many more datagrams may be sent than the steps tell.
+const SPARE: usize = 64;
+
+/// The first step that goes otherwise, where these names are passed beside the resolver's own.
+pub(crate) fn first_wrong<R: Wait>(
+    rt: &R,
+    alloc: Global,
+    passed: &[&[u8]],
+    dice: &Loaded,
+    script: Script,
+) -> Result<Option<usize>, Fail> {
+    let names = passed_names(alloc, passed)?;
+    let table = WaitingTable::new(alloc)?;
+    let Script { events, steps } = script;
+    let number = events.len();
+    let outlet = MemoryOutlet::with_room(rt, alloc, events, steps.len().saturating_add(SPARE))?;
+    let (cache, mut seats) = SharedCache::with_seats(rt, alloc, 1)?;
+    let found = match seats.pop() {
+        Some(seat) => Ok(served(
+            rt, alloc, &cache, seat, &names, table, outlet, dice, number, &steps,
+        )),
+        None => Err(Fail::from("no seat")),
+    };
+    cache.give_up(rt);
+    found
+}
+
+fn passed_names(alloc: Global, passed: &[&[u8]]) -> Result<PassedNames, Fail> {
+    let mut names = PassedNames::own(alloc)?;
+    for wire in passed {
+        let (name, _) = Name::read(wire)?;
+        names.pass(name)?;
+    }
+    Ok(names)
+}
+
+fn served<R: Wait>(
+    rt: &R,
+    alloc: Global,
+    cache: &SharedCache,
+    seat: CacheSeat,
+    names: &PassedNames,
+    table: WaitingTable,
+    outlet: MemoryOutlet<'_, R>,
+    dice: &Loaded,
+    number: usize,
+    steps: &[Step],
+) -> Option<usize>
+    requires seat { IsSeatOf cache.now seat }
+    requires table { table ≡ empty_table }
+    requires outlet { outlet.carried ≡ [] }
+{
+    let mut seat = seat;
+    let mut table = table;
+    let mut outlet = outlet;
+    let mut event = Event {
+        moment: Moment {
+            seconds: 0,
+            millis: 0,
+        },
+        came: Came::Tick,
+        octets: DatagramOctets::of(&[]),
+    };
+    serve_some(
+        rt,
+        alloc,
+        cache,
+        &mut seat,
+        names,
+        &mut table,
+        &mut event,
+        &mut outlet,
+        dice,
+        number,
+    );
+    first_otherwise(outlet.carried(), steps)
+}

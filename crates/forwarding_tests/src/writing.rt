@@ -1,0 +1,34 @@
+//! The octets of messages.
+use outside_core::{DatagramOctets, MAX_DATAGRAM};
+
+/// The most octets of a message of the tests.
+const MOST: usize = 512;
+
+/// Octets that stand in the place of others, from those positions on.
+pub(crate) type Changes = &'static [(usize, &'static [u8])];
+
+/// The octets with those changes.
+pub(crate) fn written(like: &[u8], changes: Changes) -> DatagramOctets {
+    let mut octets = [0; MOST];
+    put(&mut octets, 0, like);
+    for (at, piece) in changes {
+        put(&mut octets, *at, piece);
+    }
+    datagram(octets.get(..like.len()).unwrap_or(&[]))
+}
+
+// Puts the piece there, as far as there is room.
+fn put(octets: &mut [u8; MOST], at: usize, piece: &[u8]) {
+    for (octet, other) in octets.iter_mut().skip(at).zip(piece.iter()) {
+        *octet = *other;
+    }
+}
+
+/// The octets, unless they are too many.
+pub(crate) fn datagram(octets: &[u8]) -> DatagramOctets {
+    if octets.len() <= MAX_DATAGRAM {
+        DatagramOctets::of(octets)
+    } else {
+        DatagramOctets::of(&[])
+    }
+}
