@@ -102,7 +102,8 @@ pub extern "C" fn dnsreplay_query(
     ensures replied { IsQuery (state_of cache.old) octets.now now
         result room.old room.new written.old written.new }
     ensures same { state_of cache.new ≡ state_of cache.old }
-    ensures exact { (held : Held) → state_of cache.old ≡ Some held → MAX_REPLY ≤ length room.old
+    ensures exact { (held : Held) → state_of cache.old ≡ Some held
+        → MAX_REPLY ≤ length room.old
         → (result ≡ DONE) ↔ HasAnswer Answering.ByProof held octets.now now }
     ensures sound { (held : Held) → state_of cache.old ≡ Some held → result ≡ DONE
         → IsSoundReply Answering.ByProof held octets.now now (take written.new room.new) }

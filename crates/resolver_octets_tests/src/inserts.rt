@@ -39,8 +39,8 @@ fn first_stored(alloc: Global, store: &Store, rows: &[Row]) -> Result<Option<usi
 }
 
 #[test]
-fn each_refusal(rt: HostRuntime) -> Result<(), Fail> {
-    let rows: [Row; 8] = [
+fn each_refusal_by_the_header(rt: HostRuntime) -> Result<(), Fail> {
+    let rows: [Row; 6] = [
         // 11 octets
         (
             b"\x00\x01\x81\xa0\x00\x01\x00\x00\x00\x04\x00",
@@ -76,6 +76,16 @@ fn each_refusal(rt: HostRuntime) -> Result<(), Fail> {
             RECORDS,
             IntakeFault::NotAuthentic,
         ),
+    ];
+    let store = Store::empty(rt.alloc())?;
+    let wrong = first_stored(rt.alloc(), &store, &rows)?;
+    assert!(rt; wrong.is_none(), "{wrong:?}");
+    Ok(())
+}
+
+#[test]
+fn each_refusal_by_the_records(rt: HostRuntime) -> Result<(), Fail> {
+    let rows: [Row; 2] = [
         // no records; one that nothing signs
         (
             b"\x00\x01\x81\xa0\x00\x01\x00\x00\x00\x00\x00\x00",
