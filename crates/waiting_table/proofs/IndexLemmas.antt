@@ -1,8 +1,8 @@
 -- The index beside the slots.
-use Rattle.std.proofs.Common.{◌≡◌, ◌∙◌, ℕ, ◌+◌, ◌<◌, ◌≤◌, ⊎_elim, Bool, true, false, cond, List, length, get_or, set, replicate, refl, ap, sym, subst, arith, Option, Some, None}
-use Rattle.std.specs.Prelude.{◌&&◌, is_none, is_some, nat_lt, not}
-use Rattle.std.specs.List.{list_all, position, position_or_len}
-use Rattle.std.proofs.lemmas.Bool.{and_parts, and_from, and_left, cases_eq, false_from_ne_true, lt-leb, le-leb, ltb-false, le-ltb, lt-ltb, not-true}
+use Rattle.std.proofs.Common.{◌≡◌, ◌∙◌, ℕ, ◌<◌, ◌≤◌, ⊎_elim, Bool, true, false, cond, List, length, get_or, set, replicate, refl, ap, sym, subst, arith, Option, Some, None}
+use Rattle.std.specs.Prelude.{is_none, is_some, nat_lt, not}
+use Rattle.std.specs.List.{position, position_or_len}
+use Rattle.std.proofs.lemmas.Bool.{and_parts, cases_eq, false_from_ne_true, lt-leb, le-leb, ltb-false, le-ltb, lt-ltb}
 use Rattle.std.proofs.lemmas.Bool.Decides.{nat_tests}
 use Rattle.std.proofs.lemmas.List.{get_or-replicate, get_or-set_same, get_or-set_other, length-set}
 use Rattle.std.proofs.lemmas.List.Folds.{list_all_at}
@@ -10,9 +10,9 @@ use Rattle.std.proofs.lemmas.List.Sums.{fails_before_first, position_or_len_is}
 use Rattle.dnswire.specs.declared.question.Question.{Question}
 use Rattle.waiting_table.specs.declared.client.Client.{Client}
 use Rattle.waiting_table.specs.declared.index.Index.{Index}
-use Rattle.waiting_table.specs.Waiting.{Slot, Waiting, is_due, is_late, same_asked, slot_at, takes, with_client}
-use Rattle.waiting_table.specs.Steps.{again_in, is_due_in, is_late_in, is_oldest, is_quiet, oldest, since_of}
-use Rattle.waiting_table.specs.Index.{IsFirstFree, IsIndexOf, IsLeast, Rests, Shows, ShowsWaiting, index_of, mark_of}
+use Rattle.waiting_table.specs.Waiting.{Slot, Waiting, same_asked, slot_at, takes, with_client}
+use Rattle.waiting_table.specs.Steps.{is_oldest, is_quiet, oldest, since_of}
+use Rattle.waiting_table.specs.Index.{IsFirstFree, IsIndexOf, IsLeast, Rests, Shows, index_of, mark_of}
 use Rattle.waiting_table.proofs.SlotLemmas.{parts_of_same, passes_all, set_slot}
 
 -- ---- a slot is set

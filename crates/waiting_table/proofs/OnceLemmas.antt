@@ -1,15 +1,15 @@
 -- The laws of the table, event by event.
-use Rattle.std.proofs.Common.{◌≡◌, ◌∙◌, ℕ, ◌+◌, ◌<◌, ◌≤◌, ⊎_elim, Bool, true, false, cond, List, [], ◌∷◌, ◌++◌, length, get_or, set, drop, replicate, zero, suc, refl, ap, sym, subst, arith, length-append, Option, Some, None, All}
-use Rattle.std.specs.Prelude.{is_none, nat_lt}
+use Rattle.std.proofs.Common.{◌≡◌, ◌∙◌, ℕ, ◌+◌, ◌<◌, ◌≤◌, ⊎_elim, Bool, true, false, cond, List, [], ◌∷◌, length, get_or, set, drop, replicate, zero, suc, refl, ap, sym, subst, arith, Option, Some, None, All}
+use Rattle.std.specs.Prelude.{◌==◌, is_none, nat_lt}
 use Rattle.std.specs.List.{position, sum_by}
 use Rattle.std.proofs.lemmas.Bool.{and_parts, both_ways, cases_lt, leb-false}
 use Rattle.std.proofs.lemmas.List.{get_or_past, length-set, set_past}
 use Rattle.std.proofs.lemmas.List.Elements.{All-cons, All-nil}
-use Rattle.std.proofs.lemmas.List.Sums.{sum_by-cons, sum_by-set}
+use Rattle.std.proofs.lemmas.List.Sums.{sum_by-append, sum_by-cons, sum_by-set, sum_by_push}
 use Rattle.waiting_table.specs.declared.client.Client.{Client}
-use Rattle.waiting_table.specs.Waiting.{Slot, Waiting, again, clients_in, empty_table, first_asked, is_due, is_late, same_asked, slot_at, takes, with_client}
-use Rattle.waiting_table.specs.Steps.{Step, Asked, Answered, Ticked, after_one, freed, given_up, late_clients, late_in, oldest, place_for, place_of, placed, replies_of, ticked, ticked_slot}
-use Rattle.waiting_table.specs.Laws.{AreAskedOnce, IsInTime, after, is_query, queries_in, replies_in, waiting_in}
+use Rattle.waiting_table.specs.Waiting.{Slot, again, clients_in, clients_of, empty_table, first_asked, is_due, is_late, same_asked, slot_at, takes, with_client}
+use Rattle.waiting_table.specs.Steps.{Step, Asked, Answered, Ticked, after_one, freed, given_up, late_clients, late_in, oldest, place_of, placed, replies_of, ticked, ticked_slot}
+use Rattle.waiting_table.specs.Laws.{AreAskedOnce, IsInTime, after, asked_by, of_number, queries_of, replies_in, waiting_for}
 use Rattle.waiting_table.proofs.SlotLemmas.{found, free_at, none_found, oldest_within, set_slot, takes_both, takes_less, takes_ticked, ticked_at}
 
 -- ---- asked once
@@ -38,7 +38,7 @@ once_placed now id client table (Some k) free once is = once_joined client table
 once_placed now id client table None (Some k) once is = once_asked now id client table k once is
 once_placed now id client table None None once is = once_asked now id client table (oldest table) once is
 
-once_after : (step : Step) (table : List Slot) → AreAskedOnce table → AreAskedOnce (after_one step table)
+pub once_after : (step : Step) (table : List Slot) → AreAskedOnce table → AreAskedOnce (after_one step table)
 once_after (Asked now id client) table once = once_placed now id client table (position (takes client.question) table) (position (λ slot. is_none slot) table) once refl
 once_after (Answered slot) table once = once_set table slot None once (λ question i takes_it other. absurd (cc takes_it))
 once_after (Ticked now ids) table once = λ question i j ti tj.
@@ -51,67 +51,82 @@ all_once : (steps : List Step) (table : List Slot) → AreAskedOnce table → Ar
 all_once [] table once = once
 all_once (step ∷ more) table once = all_once more (after_one step table) (once_after step table once)
 
-pub each_asked_once : (steps : List Step) → AreAskedOnce (after steps empty_table)
+pub none_asked : AreAskedOnce empty_table
 unfolding empty_table
-each_asked_once steps = all_once steps (replicate 256 None) (λ question i j ti tj. absurd (cc (subst (λ (s : Slot). takes question s ≡ true) (free_at 256 i) ti)))
+none_asked question i j ti tj = absurd (cc (subst (λ (s : Slot). takes question s ≡ true) (free_at 256 i) ti))
+
+pub each_asked_once : (steps : List Step) → AreAskedOnce (after steps empty_table)
+each_asked_once steps = all_once steps empty_table none_asked
 
 -- ---- replied to once
 
-set_waits : (table : List Slot) (k : ℕ) (slot : Slot) → k < length table → waiting_in (set table k slot) + length (clients_in (slot_at table k)) ≡ waiting_in table + length (clients_in slot)
-set_waits table k slot within = sum_by-set (λ (s : Slot). length (clients_in s)) table k slot None within
+-- What clients weigh is neither lost nor made. Where those of one number weigh 1 and all others nothing, it counts that client's
+module _ (weight : Client → ℕ) where
+  -- those that wait
+  abbrev weight_in : List Slot → ℕ
+  weight_in table = sum_by (λ (s : Slot). sum_by weight (clients_in s)) table
 
-one_more : (question : _) (client : Client) (slot : Slot) → takes question slot ≡ true → length (clients_in (with_client client slot)) ≡ length (clients_in slot) + 1
-one_more question client None h = absurd (cc h)
-one_more question client (Some w) h = omega (arith, length-append w.joined (client ∷ []))
+  set_weighs : (table : List Slot) (k : ℕ) (slot : Slot) → k < length table → weight_in (set table k slot) + sum_by weight (clients_in (slot_at table k)) ≡ weight_in table + sum_by weight (clients_in slot)
+  set_weighs table k slot within = sum_by-set (λ (s : Slot). sum_by weight (clients_in s)) table k slot None within
 
-none_there : (slot : Slot) → is_none slot ≡ true → length (clients_in slot) ≡ 0
-none_there None h = refl
-none_there (Some w) h = absurd (cc h)
+  one_more : (question : _) (client : Client) (slot : Slot) → takes question slot ≡ true → sum_by weight (clients_in (with_client client slot)) ≡ sum_by weight (clients_in slot) + weight client
+  one_more question client None h = absurd (cc h)
+  one_more question client (Some w) h = sum_by_push weight (clients_of w) client
 
-placed_counts : (now id : ℕ) (client : Client) (table : List Slot) (joins free : Option ℕ) → 0 < length table → position (takes client.question) table ≡ joins → position (λ slot. is_none slot) table ≡ free
-    → length (given_up table (place_of joins free (oldest table))) + waiting_in (placed now id client table (place_of joins free (oldest table))) ≡ waiting_in table + 1
-placed_counts now id client table (Some k) free some joins is =
-    let at = found (takes client.question) table k joins in
-    let waits = set_waits table k (with_client client (slot_at table k)) at.0 in
-    let more = one_more client.question client (slot_at table k) at.1 in
-    omega arith
-placed_counts now id client table None (Some k) some joins is =
-    let at = found (λ slot. is_none slot) table k is in
-    let waits = set_waits table k (Some (first_asked now id client)) at.0 in
-    let none = none_there (slot_at table k) at.1 in
-    omega arith
-placed_counts now id client table None None some joins is =
-    let waits = set_waits table (oldest table) (Some (first_asked now id client)) (oldest_within table some) in omega arith
+  none_there : (slot : Slot) → is_none slot ≡ true → sum_by weight (clients_in slot) ≡ 0
+  none_there None h = refl
+  none_there (Some w) h = absurd (cc h)
 
-freed_counts : (slot : ℕ) (table : List Slot) → length (clients_in (slot_at table slot)) + waiting_in (freed slot table) ≡ waiting_in table
-freed_counts slot table = ⊎_elim
-    (λ (h : slot < length table). let waits = set_waits table slot None h in omega arith)
-    (λ (h : length table ≤ slot). rw (set_past table slot None h, get_or_past table slot None h) (omega arith))
-    (cases_lt slot (length table))
+  placed_weighs : (now id : ℕ) (client : Client) (table : List Slot) (joins free : Option ℕ) → 0 < length table → position (takes client.question) table ≡ joins → position (λ slot. is_none slot) table ≡ free
+      → sum_by weight (given_up table (place_of joins free (oldest table))) + weight_in (placed now id client table (place_of joins free (oldest table))) ≡ weight_in table + weight client
+  placed_weighs now id client table (Some k) free some joins is =
+      let at = found (takes client.question) table k joins in
+      let waits = set_weighs table k (with_client client (slot_at table k)) at.0 in
+      let more = one_more client.question client (slot_at table k) at.1 in
+      omega arith
+  placed_weighs now id client table None (Some k) some joins is =
+      let at = found (λ slot. is_none slot) table k is in
+      let waits = set_weighs table k (Some (first_asked now id client)) at.0 in
+      let none = none_there (slot_at table k) at.1 in
+      omega arith
+  placed_weighs now id client table None None some joins is =
+      let waits = set_weighs table (oldest table) (Some (first_asked now id client)) (oldest_within table some) in omega arith
 
-slot_counts : (now id : ℕ) (slot : Slot) → length (late_in now slot) + length (clients_in (ticked_slot now id slot)) ≡ length (clients_in slot)
-slot_counts now id None = refl
-slot_counts now id (Some w) = by (is_late now w) (is_due now w)
-  where
-    by : (late due : Bool) → length (cond late (clients_in (Some w)) []) + length (clients_in (cond late None (cond due (Some (again now id w)) (Some w)))) ≡ length (clients_in (Some w))
-    by true due = omega arith
-    by false true = omega arith
-    by false false = omega arith
+  freed_weighs : (slot : ℕ) (table : List Slot) → sum_by weight (clients_in (slot_at table slot)) + weight_in (freed slot table) ≡ weight_in table
+  freed_weighs slot table = ⊎_elim
+      (λ (h : slot < length table). let waits = set_weighs table slot None h in omega arith)
+      (λ (h : length table ≤ slot). rw (set_past table slot None h, get_or_past table slot None h) (omega arith))
+      (cases_lt slot (length table))
 
-ticked_counts : (now : ℕ) (ids : List ℕ) (table : List Slot) → length (late_clients now table) + waiting_in (ticked now ids table) ≡ waiting_in table
-ticked_counts now ids [] = refl
-ticked_counts now ids (s ∷ ss) =
-    let here = slot_counts now (get_or ids 0 0) s in
-    let rest = ticked_counts now (drop 1 ids) ss in
-    let all = length-append (late_in now s) (late_clients now ss) in
-    let before = sum_by-cons (λ (t : Slot). length (clients_in t)) s ss in
-    let after_it = sum_by-cons (λ (t : Slot). length (clients_in t)) (ticked_slot now (get_or ids 0 0) s) (ticked now (drop 1 ids) ss) in
-    omega arith
+  slot_weighs : (now id : ℕ) (slot : Slot) → sum_by weight (late_in now slot) + sum_by weight (clients_in (ticked_slot now id slot)) ≡ sum_by weight (clients_in slot)
+  slot_weighs now id None = refl
+  slot_weighs now id (Some w) = by (is_late now w) (is_due now w)
+    where
+      by : (late due : Bool) → sum_by weight (cond late (clients_in (Some w)) []) + sum_by weight (clients_in (cond late None (cond due (Some (again now id w)) (Some w)))) ≡ sum_by weight (clients_in (Some w))
+      by true due = omega arith
+      by false true = omega arith
+      by false false = omega arith
 
-counts_one : (step : Step) (table : List Slot) → 0 < length table → length (replies_of step table) + waiting_in (after_one step table) ≡ waiting_in table + is_query step
-counts_one (Asked now id client) table some = placed_counts now id client table (position (takes client.question) table) (position (λ slot. is_none slot) table) some refl refl
-counts_one (Answered slot) table some = let counts = freed_counts slot table in omega arith
-counts_one (Ticked now ids) table some = let counts = ticked_counts now ids table in omega arith
+  ticked_weighs : (now : ℕ) (ids : List ℕ) (table : List Slot) → sum_by weight (late_clients now table) + weight_in (ticked now ids table) ≡ weight_in table
+  ticked_weighs now ids [] = refl
+  ticked_weighs now ids (s ∷ ss) =
+      let here = slot_weighs now (get_or ids 0 0) s in
+      let rest = ticked_weighs now (drop 1 ids) ss in
+      let all = sum_by-append weight (late_in now s) (late_clients now ss) in
+      let before = sum_by-cons (λ (t : Slot). sum_by weight (clients_in t)) s ss in
+      let after_it = sum_by-cons (λ (t : Slot). sum_by weight (clients_in t)) (ticked_slot now (get_or ids 0 0) s) (ticked now (drop 1 ids) ss) in
+      omega arith
+
+  step_weighs : (step : Step) (table : List Slot) → 0 < length table → sum_by weight (replies_of step table) + weight_in (after_one step table) ≡ weight_in table + sum_by weight (asked_by step)
+  step_weighs (Asked now id client) table some =
+      let weighs = placed_weighs now id client table (position (takes client.question) table) (position (λ slot. is_none slot) table) some refl refl in omega arith
+  step_weighs (Answered slot) table some = let weighs = freed_weighs slot table in omega arith
+  step_weighs (Ticked now ids) table some = let weighs = ticked_weighs now ids table in omega arith
+
+-- of a client's queries, and those that waited before it, each is replied to in a step, or waits after it
+pub step_counts : (number : ℕ) (step : Step) (table : List Slot) → 0 < length table
+    → of_number number (replies_of step table) + waiting_for number (after_one step table) ≡ waiting_for number table + of_number number (asked_by step)
+step_counts number = step_weighs (λ client. cond (client.number == number) 1 0)
 
 length_ticked : (now : ℕ) (ids : List ℕ) (table : List Slot) → length (ticked now ids table) ≡ length table
 length_ticked now ids [] = refl
@@ -128,23 +143,30 @@ length_after (Asked now id client) table = length_placed now id client table (po
 length_after (Answered slot) table = length-set table slot None
 length_after (Ticked now ids) table = length_ticked now ids table
 
-all_counts : (steps : List Step) (table : List Slot) → 0 < length table → length (replies_in steps table) + waiting_in (after steps table) ≡ waiting_in table + queries_in steps
-all_counts [] table some = omega arith
-all_counts (step ∷ more) table some =
-    let here = counts_one step table some in
+all_counts : (number : ℕ) (steps : List Step) (table : List Slot) → 0 < length table → of_number number (replies_in steps table) + waiting_for number (after steps table) ≡ waiting_for number table + queries_of number steps
+all_counts number [] table some = omega arith
+all_counts number (step ∷ more) table some =
+    let here = step_counts number step table some in
     let size = length_after step table in
-    let rest = all_counts more (after_one step table) (omega arith) in
-    let all = length-append (replies_of step table) (replies_in more (after_one step table)) in
-    let queries = sum_by-cons is_query step more in
+    let rest = all_counts number more (after_one step table) (omega arith) in
+    let all = sum_by-append (λ client. cond (client.number == number) 1 0) (replies_of step table) (replies_in more (after_one step table)) in
+    let queries = sum_by-cons (λ s. of_number number (asked_by s)) step more in
     omega arith
 
-none_waits : (n : ℕ) → waiting_in (replicate n None) ≡ 0
-none_waits zero = refl
-none_waits (suc n) = let none = none_waits n in none
+none_waits : (number n : ℕ) → waiting_for number (replicate n None) ≡ 0
+none_waits number zero = refl
+none_waits number (suc n) = let none = none_waits number n in none
 
-pub each_once : (steps : List Step) → length (replies_in steps empty_table) + waiting_in (after steps empty_table) ≡ queries_in steps
+pub none_waits_yet : (number : ℕ) → waiting_for number empty_table ≡ 0
 unfolding empty_table
-each_once steps = let counts = all_counts steps (replicate 256 None) (omega arith) in let none = none_waits 256 in omega arith
+none_waits_yet number = none_waits number 256
+
+pub length_empty : length empty_table ≡ 256
+unfolding empty_table
+length_empty = refl
+
+pub each_once : (number : ℕ) (steps : List Step) → of_number number (replies_in steps empty_table) + waiting_for number (after steps empty_table) ≡ queries_of number steps
+each_once number steps = let counts = all_counts number steps empty_table (omega (arith, length_empty)) in let none = none_waits_yet number in omega arith
 
 -- ---- never for long
 

@@ -1,5 +1,5 @@
 -- Slots of a table, by their places, and what a slot takes.
-use Rattle.std.proofs.Common.{◌≡◌, ℕ, zero, suc, ◌+◌, ◌<◌, ◌≤◌, ◌⊎◌, inl, inr, ⊎_elim, Bool, true, false, cond, List, [], ◌∷◌, ◌++◌, length, get_or, set, drop, replicate, refl, ap, sym, ◌∙◌, subst, arith, length-append, Option, Some, None}
+use Rattle.std.proofs.Common.{◌≡◌, ℕ, zero, suc, ◌<◌, ◌≤◌, ◌⊎◌, inl, inr, ⊎_elim, Bool, true, false, cond, List, [], ◌∷◌, ◌++◌, length, get_or, set, drop, replicate, refl, ap, sym, subst, arith, length-append, Option, Some, None}
 use Rattle.std.specs.Prelude.{◌==◌, ◌&&◌, is_none, nat_le, nat_lt}
 use Rattle.std.specs.List.{list_all, position, position_or_len}
 use Rattle.std.specs.Cmp.{booleans_Decides}
@@ -9,12 +9,11 @@ use Rattle.std.proofs.lemmas.List.Quantifiers.{position-Some}
 use Rattle.std.proofs.lemmas.List.{get_or_past}
 use Rattle.std.proofs.lemmas.List.Sums.{fails_before_first}
 use Rattle.dname.specs.Tests.{same_name}
-use Rattle.dname.specs.Name.{Label}
 use Rattle.dname.proofs.SameLemmas.{name_equal}
 use mathlib.Core.Bool.{beq}
 use Rattle.dnswire.specs.declared.question.Question.{Question}
 use Rattle.waiting_table.specs.declared.client.Client.{Client}
-use Rattle.waiting_table.specs.Waiting.{Slot, Waiting, again, clients_in, first_asked, is_due, is_late, same_asked, slot_at, takes, with_client}
+use Rattle.waiting_table.specs.Waiting.{Slot, again, is_due, is_late, same_asked, slot_at, takes, with_client}
 use Rattle.waiting_table.specs.declared.place.Place.{Place}
 use Rattle.waiting_table.specs.declared.place.Place.TheVariants.{Joins, Fills, Replaces}
 use Rattle.waiting_table.specs.Steps.{is_oldest, oldest, place_for, place_of, since_of, ticked, ticked_slot}

@@ -1,10 +1,10 @@
 -- What holds of every run of events.
-use Rattle.std.specs.Prelude.{ℕ, ◌+◌, ◌<◌, ◌≡◌, true, List, [], ◌∷◌, ◌++◌, length, Option, Some, None, IfSome}
-use Rattle.std.specs.List.{All, sum_by}
+use Rattle.std.specs.Prelude.{◌==◌, ℕ, ◌+◌, ◌<◌, ◌≡◌, true, List, [], ◌∷◌, ◌++◌, IfSome}
+use Rattle.std.specs.List.{All, count_by, sum_by}
 use Rattle.dnswire.specs.declared.question.Question.{Question}
 use Rattle.waiting_table.specs.declared.client.Client.{Client}
 use Rattle.waiting_table.specs.declared.waiting_table.TheConstants.{PATIENCE}
-use Rattle.waiting_table.specs.Waiting.{Slot, Waiting, clients_in, empty_table, slot_at, takes}
+use Rattle.waiting_table.specs.Waiting.{Slot, clients_in, empty_table, slot_at, takes}
 use Rattle.waiting_table.specs.Steps.{Step, Asked, Answered, Ticked, after_one, replies_of, ticked}
 
 -- ---- a run
@@ -18,24 +18,34 @@ abbrev pub replies_in : List Step → List Slot → List Client
 replies_in [] table = []
 replies_in (step ∷ more) table = replies_of step table ++ replies_in more (after_one step table)
 
-abbrev pub is_query : Step → ℕ
-is_query (Asked now id client) = 1
-is_query (Answered slot) = 0
-is_query (Ticked now ids) = 0
+-- whose query the event is
+abbrev pub asked_by : Step → List Client
+asked_by (Asked now id client) = client ∷ []
+asked_by (Answered slot) = []
+asked_by (Ticked now ids) = []
 
-abbrev pub queries_in : List Step → ℕ
-queries_in steps = sum_by is_query steps
+-- ---- a client, by its number
 
-abbrev pub waiting_in : List Slot → ℕ
-waiting_in table = sum_by (λ slot. length (clients_in slot)) table
+-- how many of the clients have the number
+abbrev pub of_number : ℕ → List Client → ℕ
+of_number number clients = count_by (λ client. client.number == number) clients
+
+-- how many of the queries are its
+abbrev pub queries_of : ℕ → List Step → ℕ
+queries_of number steps = sum_by (λ step. of_number number (asked_by step)) steps
+
+-- how many of its queries wait
+abbrev pub waiting_for : ℕ → List Slot → ℕ
+waiting_for number table = sum_by (λ slot. of_number number (clients_in slot)) table
 
 -- ---- the laws
 
--- each query is replied to once, or waits
+-- each query of a client is replied to once, or waits
 abbrev pub EachIsRepliedToOnce : Type 0
 EachIsRepliedToOnce =
-    (steps : List Step)
-    → length (replies_in steps empty_table) + waiting_in (after steps empty_table) ≡ queries_in steps
+    (number : ℕ) (steps : List Step)
+    → of_number number (replies_in steps empty_table)
+    + waiting_for number (after steps empty_table) ≡ queries_of number steps
 
 -- of two slots one at most takes another client for a question: equal questions are asked once, unless one has 16 clients
 abbrev pub AreAskedOnce : List Slot → Type 0

@@ -5,7 +5,7 @@ use Rattle.dnswire.specs.declared.question.Question.{Question}
 use Rattle.waiting_table.specs.declared.client.Client.{Client}
 use Rattle.waiting_table.specs.declared.place.Place.{Place}
 use Rattle.waiting_table.specs.declared.place.Place.TheVariants.{Joins, Fills, Replaces}
-use Rattle.waiting_table.specs.Waiting.{Waiting, Slot, again, clients_in, clients_of, first_asked, is_due, is_late, slot_at, takes, with_client}
+use Rattle.waiting_table.specs.Waiting.{Slot, again, clients_in, clients_of, first_asked, is_due, is_late, slot_at, takes, with_client}
 
 -- ---- a query that the cache doesn't answer
 

@@ -1,5 +1,5 @@
 -- The questions of one worker that wait for the upstream, with the clients that want their answers.
-use Rattle.std.specs.Prelude.{◌==◌, ◌&&◌, ℕ, ◌+◌, ◌*◌, ◌%◌, ◌^◌, Bool, false, nat_le, nat_lt, if◌then◌else◌}
+use Rattle.std.specs.Prelude.{◌==◌, ◌&&◌, ℕ, ◌+◌, ◌*◌, Bool, false, nat_le, nat_lt}
 use Rattle.std.specs.Prelude.{List, [], ◌∷◌, ◌++◌, length, get_or, replicate, Option, Some, None}
 use mathlib.Core.Bool.{beq}
 use Rattle.dname.specs.Name.{Label}

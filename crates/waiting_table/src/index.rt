@@ -18,8 +18,8 @@ pub(crate) struct Index {
 impl Index {
     /// All slots are free.
     pub(crate) fn new() -> Index
-        ensures { result ≡ index_of (replicate SLOTS false) (replicate SLOTS 0) (replicate SLOTS 0)
-            (replicate SLOTS 0) }
+        ensures { result ≡ index_of (replicate SLOTS false)
+            (replicate SLOTS 0) (replicate SLOTS 0) (replicate SLOTS 0) }
     {
         Index {
             taken: [false; SLOTS],
@@ -32,8 +32,9 @@ impl Index {
     /// The slot is taken by a question.
     pub(crate) fn fill(&mut self, slot: usize, mark: u32, now: u64, until: u64)
         requires { slot < SLOTS }
-        ensures { self.new ≡ index_of (set self.old.taken slot true) (set self.old.marks slot mark)
-            (set self.old.since slot now) (set self.old.until slot until) }
+        ensures { self.new ≡ index_of (set self.old.taken slot true)
+            (set self.old.marks slot mark) (set self.old.since slot now)
+            (set self.old.until slot until) }
     {
         self.taken[slot] = true;
         self.marks[slot] = mark;

@@ -1,7 +1,7 @@
 //! What holds of every run of events.
 ghost use Rattle.waiting_table.specs.Laws.{EachIsAskedOnce, EachIsRepliedToOnce, NoneWaitsForLong};
 
-/// Each query that the cache doesn't answer is replied to once, or waits.
+/// Each client is replied to once for each of its queries that the cache doesn't answer, or waits for it.
 pub fn once()
     ensures { EachIsRepliedToOnce }
 {}

@@ -1,4 +1,4 @@
-use Rattle.std.proofs.Common.{◌≡◌, ◌∙◌, ◌<◌, sym, ⊎_elim, subst}
+use Rattle.std.proofs.Common.{◌∙◌, ◌<◌, sym, ⊎_elim, subst}
 use Rattle.waiting_table.specs.declared.place.Place.{Place}
 use Rattle.waiting_table.specs.declared.place.Place.TheVariants.{Joins}
 use Rattle.waiting_table.specs.Steps.{place_slot}

@@ -1,4 +1,3 @@
-use Rattle.std.proofs.Common.{◌≡◌, subst}
 use Rattle.waiting_table.proofs.IndexLemmas.{first_free_is}
 use Rattle.waiting_table.proofs.waiting_table.WaitingTable.first_free.Goals as goal
 

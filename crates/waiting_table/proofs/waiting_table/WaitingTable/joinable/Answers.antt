@@ -1,4 +1,4 @@
-use Rattle.std.proofs.Common.{◌≡◌, sym, ap, ◌∙◌, List, length, arith}
+use Rattle.std.proofs.Common.{sym, ap, ◌∙◌, List, length, arith}
 use Rattle.waiting_table.specs.Waiting.{Slot, takes}
 use Rattle.waiting_table.proofs.IndexLemmas.{first_is, none_is}
 use Rattle.waiting_table.proofs.waiting_table.WaitingTable.joinable.Goals as goal

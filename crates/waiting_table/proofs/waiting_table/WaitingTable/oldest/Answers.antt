@@ -1,4 +1,4 @@
-use Rattle.waiting_table.proofs.IndexLemmas.{oldest_is, none_is, full_at}
+use Rattle.waiting_table.proofs.IndexLemmas.{oldest_is, full_at}
 use Rattle.waiting_table.proofs.waiting_table.WaitingTable.oldest.Goals as goal
 
 pub returns-clause-place : goal.returns-clause-place

@@ -1,4 +1,4 @@
-use Rattle.std.proofs.Common.{◌≡◌, sym, ap, ◌∙◌, List, get_or}
+use Rattle.std.proofs.Common.{sym, ap, ◌∙◌, List, get_or}
 use Rattle.std.proofs.lemmas.Bool.{ne_eqb}
 use Rattle.waiting_table.specs.Waiting.{Slot, slot_at, takes}
 use Rattle.waiting_table.proofs.IndexLemmas.{other_mark}
