@@ -17,6 +17,7 @@ use Rattle.resolver.specs.Target.{target_of}
 use Rattle.resolver.specs.Dname.{Dname, dname_of, dname_at, topmost_dname, dname_above}
 use Rattle.resolver.specs.Walk.{Walk, Proved, ending, alias_step, by_alias, dname_step, by_dname, step_of, takes_aliases, takes_redirections, links_of, proved_at, taken, beyond, walk_of, asks_a_zone}
 use Rattle.resolver.specs.WalkReply.{walk_in, octets_at, walk_reply_in}
+use Rattle.resolver.specs.Origin.{origin_of, origin_in}
 use Rattle.resolver.specs.declared.rule.Rule.{Rule}
 
 module _ (held other : Held) (same : SameLookups held other) (now qtype : ℕ) where
@@ -58,13 +59,18 @@ module _ (held other : Held) (same : SameLookups held other) (now qtype : ℕ) w
   unfolding walk_of
   walk_alike rule name = λ i. option_or (proved_alike name i) (beyond_alike (links_of rule) rule name i)
 
-walk_as_held : (rule : Rule) (journal : List Batch) (question : Question) (now : ℕ) → walk_in rule (kept_of journal) question now ≡ walk_in rule (held_of journal) question now
-walk_as_held rule journal question now =
+-- what is kept in the order of keys gives the walk that what is held gives
+walk_as_held : (rule : Rule) (journal : List Batch) (held : Held) (question : Question) (now : ℕ) → held ≡ kept_of journal → walk_in rule held question now ≡ walk_in rule (held_of journal) question now
+walk_as_held rule journal held question now kept =
     let alike = all_alike journal in
-    sym (ap (λ (found : Option Walk). if asks_a_zone question.qtype question.qclass then found else None)
+    ap (λ (h : Held). walk_in rule h question now) kept
+    ∙ sym (ap (λ (found : Option Walk). if asks_a_zone question.qtype question.qclass then found else None)
     (walk_alike _ _ (same_lookups _ _ alike.apart alike.order) now question.qtype rule question.name))
 
--- what is kept in the order of keys gives the reply that what is held gives
+-- and so its reply
 pub reply_as_held : (rule : Rule) (journal : List Batch) (held : Held) (question : Question) (now : ℕ) → held ≡ kept_of journal → walk_reply_in rule held question now ≡ walk_reply_in rule (held_of journal) question now
-reply_as_held rule journal held question now kept =
-    ap (option_map (octets_at question now)) (ap (λ (h : Held). walk_in rule h question now) kept ∙ walk_as_held rule journal question now)
+reply_as_held rule journal held question now kept = ap (option_map (octets_at question now)) (walk_as_held rule journal held question now kept)
+
+-- and from what that is made
+pub origin_as_held : (rule : Rule) (journal : List Batch) (held : Held) (question : Question) (now : ℕ) → held ≡ kept_of journal → origin_in rule held question now ≡ origin_in rule (held_of journal) question now
+origin_as_held rule journal held question now kept = ap (option_map origin_of) (walk_as_held rule journal held question now kept)

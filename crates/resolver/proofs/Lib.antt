@@ -5,6 +5,7 @@ pub mod StepLemmas
 pub mod TargetLemmas
 pub mod WalkLemmas
 pub mod WritingLemmas
+pub mod OriginLemmas
 pub mod WalkReplyLemmas
 pub mod SearchLemmas
 pub mod AliasLemmas

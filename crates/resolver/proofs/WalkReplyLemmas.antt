@@ -1,6 +1,6 @@
 -- What is written is the reply of the held records: of what is proved of the question itself, or else of what lies beyond.
 use Rattle.std.proofs.Common.{◌≡◌, ℕ, Bool, true, false, List, [], ◌++◌, Option, Some, None, refl, sym, ◌∙◌, ap, subst}
-use Rattle.std.specs.Prelude.{min, if◌then◌else◌, MatchBool, IsSome}
+use Rattle.std.specs.Prelude.{min, if◌then◌else◌, unwrap_or, is_some, MatchBool, IsSome}
 use Rattle.std.specs.List.{flat_map}
 use Rattle.std.specs.Option.{option_map}
 use Rattle.dname.specs.Name.{Label}
@@ -25,7 +25,10 @@ use Rattle.reply_core.specs.Sections.{alias_answers, sent_octets}
 use Rattle.reply_core.specs.Shown.{shown_by}
 use Rattle.resolver.specs.Walk.{Walk, Proved, ending, takes_aliases, links_of, beyond, walk_of, asks_a_zone, walk_ttl}
 use Rattle.resolver.specs.Lent.{one_alias}
-use Rattle.resolver.specs.WalkReply.{octets_at, walk_octets, walk_reply_in}
+use Rattle.resolver.specs.WalkReply.{walk_octets, walk_in, octets_at}
+use Rattle.resolver.specs.Origin.{is_any, proof_origin, origin_of, IsReplyOf}
+use Rattle.resolver.specs.declared.origin.Origin.{Origin}
+use Rattle.resolver.specs.declared.origin.Origin.TheVariants.{Alias}
 use Rattle.resolver.specs.declared.rule.Rule.{Rule}
 use Rattle.resolver.proofs.StepLemmas.{no_visit}
 use Rattle.resolver.proofs.WalkLemmas.{Shown, shown, none_shown, proved_in, no_walk, beyond_walk, by_own_alias}
@@ -48,84 +51,86 @@ plain question now proof =
     (all_new proof.denials)
 
 module _ (rule : Rule) (held : Held) (question : Question) (now : ℕ) where
-  proved_walk : (proof : Proof) → proof_of held now question.name question.qtype ≡ Some proof → walk_of rule held now question.name question.qtype ≡ Some (ending question.name (Proved proof))
+  -- what is proved of the question itself
+  proved_walk : (proof : Proof) → proof_of held now question.name question.qtype ≡ Some proof → Some (ending question.name (Proved proof)) ≡ walk_of rule held now question.name question.qtype
   unfolding walk_of
   proved_walk proof is = rw is refl
 
-  -- what is proved of the question itself
-  proof_replies : (verdict : Verdict) (octets : List ℕ) → Shown now (proof_of held now question.name question.qtype) verdict → octets ≡ reply_octets question (shown_by verdict) verdict.ttl
-      → option_map (octets_at question now) (walk_of rule held now question.name question.qtype) ≡ Some octets
-  proof_replies verdict octets proved is =
-      ap (option_map (octets_at question now)) (proved_walk (shown_by verdict) proved.proved)
-      ∙ ap Some (plain question now (shown_by verdict) ∙ ap (reply_octets question (shown_by verdict)) (sym proved.lives) ∙ sym is)
+  proof_replies : (verdict : Verdict) (origin : Origin) (octets : List ℕ) → Shown now (proof_of held now question.name question.qtype) verdict
+      → origin ≡ proof_origin (shown_by verdict).kind (shown_by verdict).denials → octets ≡ reply_octets question (shown_by verdict) verdict.ttl
+      → IsReplyOf question now (walk_of rule held now question.name question.qtype) (Some origin) octets
+  proof_replies verdict origin octets proved made is =
+      subst (λ (found : Option Walk). IsReplyOf question now found (Some origin) octets) (proved_walk (shown_by verdict) proved.proved)
+      (record { made = ap Some made; written = is ∙ ap (reply_octets question (shown_by verdict)) proved.lives ∙ sym (plain question now (shown_by verdict)) })
 
-  pub zone_proof_replies : (zone : HeldZone) (verdict : Verdict) (octets : List ℕ) → Some zone ≡ option_map (zone_in held) (zone_for held question.name question.qtype)
+  pub zone_proof_replies : (zone : HeldZone) (verdict : Verdict) (origin : Origin) (octets : List ℕ) → Some zone ≡ option_map (zone_in held) (zone_for held question.name question.qtype)
       → IsVerdictOf now (zone_proof zone.held now zone.apex question.name question.qtype) verdict → IsSome (zone_proof zone.held now zone.apex question.name question.qtype)
-      → octets ≡ reply_octets question (shown_by verdict) verdict.ttl → option_map (octets_at question now) (walk_of rule held now question.name question.qtype) ≡ Some octets
-  zone_proof_replies zone verdict octets its told some is =
-      proof_replies verdict octets
+      → origin ≡ proof_origin (shown_by verdict).kind (shown_by verdict).denials → octets ≡ reply_octets question (shown_by verdict) verdict.ttl
+      → IsReplyOf question now (walk_of rule held now question.name question.qtype) (Some origin) octets
+  zone_proof_replies zone verdict origin octets its told some =
+      proof_replies verdict origin octets
       (subst (λ (found : Option Proof). Shown now found verdict) (proved_in held now question.qtype question.name zone its) (shown now (zone_proof zone.held now zone.apex question.name question.qtype) verdict told some))
-      is
 
   -- or what lies beyond
-  beyond_replies : (found : Bool) (octets : List ℕ) → proof_of held now question.name question.qtype ≡ None
-      → MatchBool found (option_map (octets_at question now) (beyond (links_of rule) rule held now question.qtype question.name) ≡ Some octets)
-      ((beyond (links_of rule) rule held now question.qtype question.name ≡ None) × (octets ≡ []))
-      → MatchBool found (option_map (octets_at question now) (walk_of rule held now question.name question.qtype) ≡ Some octets)
-      ((walk_of rule held now question.name question.qtype ≡ None) × (octets ≡ []))
-  beyond_replies found octets none told =
-      subst (λ (walk : Option Walk). MatchBool found (option_map (octets_at question now) walk ≡ Some octets) ((walk ≡ None) × (octets ≡ [])))
-      (beyond_walk rule held now question.qtype question.name none) told
-
-  pub zone_beyond_replies : (zone : HeldZone) (found : Bool) (octets : List ℕ) → Some zone ≡ option_map (zone_in held) (zone_for held question.name question.qtype)
+  pub zone_beyond_replies : (zone : HeldZone) (origin : Option Origin) (octets : List ℕ) → Some zone ≡ option_map (zone_in held) (zone_for held question.name question.qtype)
       → (IsSome (zone_proof zone.held now zone.apex question.name question.qtype) → ⊥)
-      → MatchBool found (option_map (octets_at question now) (beyond (links_of rule) rule held now question.qtype question.name) ≡ Some octets)
-      ((beyond (links_of rule) rule held now question.qtype question.name ≡ None) × (octets ≡ []))
-      → MatchBool found (option_map (octets_at question now) (walk_of rule held now question.name question.qtype) ≡ Some octets)
-      ((walk_of rule held now question.name question.qtype ≡ None) × (octets ≡ []))
-  zone_beyond_replies zone found octets its none told =
-      beyond_replies found octets (sym (proved_in held now question.qtype question.name zone its) ∙ none_shown (zone_proof zone.held now zone.apex question.name question.qtype) none) told
+      → IsReplyOf question now (beyond (links_of rule) rule held now question.qtype question.name) origin octets
+      → IsReplyOf question now (walk_of rule held now question.name question.qtype) origin octets
+  zone_beyond_replies zone origin octets its none =
+      subst (λ (found : Option Walk). IsReplyOf question now found origin octets)
+      (beyond_walk rule held now question.qtype question.name
+      (sym (proved_in held now question.qtype question.name zone its) ∙ none_shown (zone_proof zone.held now zone.apex question.name question.qtype) none))
 
   -- of a question that asks a zone
-  pub zone_replies : (found : Bool) (octets : List ℕ) → asks_a_zone question.qtype question.qclass ≡ true
-      → MatchBool found (option_map (octets_at question now) (walk_of rule held now question.name question.qtype) ≡ Some octets)
-      ((walk_of rule held now question.name question.qtype ≡ None) × (octets ≡ []))
-      → MatchBool found (walk_reply_in rule held question now ≡ Some octets) ((walk_reply_in rule held question now ≡ None) × (octets ≡ []))
-  zone_replies found octets asks told = by found (ap (λ (b : Bool). option_map (octets_at question now) (if b then walk_of rule held now question.name question.qtype else None)) asks) told
-    where
-      by : (found : Bool) → walk_reply_in rule held question now ≡ option_map (octets_at question now) (walk_of rule held now question.name question.qtype)
-          → MatchBool found (option_map (octets_at question now) (walk_of rule held now question.name question.qtype) ≡ Some octets)
-          ((walk_of rule held now question.name question.qtype ≡ None) × (octets ≡ []))
-          → MatchBool found (walk_reply_in rule held question now ≡ Some octets) ((walk_reply_in rule held question now ≡ None) × (octets ≡ []))
-      by true same told = same ∙ told
-      by false same told = (same ∙ ap (option_map (octets_at question now)) told.0, told.1)
+  pub zone_replies : (origin : Option Origin) (octets : List ℕ) → asks_a_zone question.qtype question.qclass ≡ true
+      → IsReplyOf question now (walk_of rule held now question.name question.qtype) origin octets → IsReplyOf question now (walk_in rule held question now) origin octets
+  zone_replies origin octets asks =
+      subst (λ (b : Bool). IsReplyOf question now (if b then walk_of rule held now question.name question.qtype else None) origin octets) (sym asks)
 
   -- and of any other
-  pub none_asked : asks_a_zone question.qtype question.qclass ≡ false → walk_reply_in rule held question now ≡ None
-  none_asked asks = ap (λ (b : Bool). option_map (octets_at question now) (if b then walk_of rule held now question.name question.qtype else None)) asks
+  none_replies : (octets : List ℕ) → walk_in rule held question now ≡ None → octets ≡ [] → IsReplyOf question now (walk_in rule held question now) None octets
+  none_replies octets none is = subst (λ (found : Option Walk). IsReplyOf question now found None octets) (sym none) (record { made = refl; written = is })
 
-  pub none_there : zone_for held question.name question.qtype ≡ None → walk_reply_in rule held question now ≡ None
-  none_there none = by (asks_a_zone question.qtype question.qclass)
+  pub none_asked : (octets : List ℕ) → asks_a_zone question.qtype question.qclass ≡ false → octets ≡ [] → IsReplyOf question now (walk_in rule held question now) None octets
+  none_asked octets asks = none_replies octets (ap (λ (b : Bool). if b then walk_of rule held now question.name question.qtype else None) asks)
+
+  pub none_there : (octets : List ℕ) → zone_for held question.name question.qtype ≡ None → octets ≡ [] → IsReplyOf question now (walk_in rule held question now) None octets
+  none_there octets none = none_replies octets (by (asks_a_zone question.qtype question.qclass))
     where
-      by : (asked : Bool) → option_map (octets_at question now) (if asked then walk_of rule held now question.name question.qtype else None) ≡ None
-      by true =
-          ap (option_map (octets_at question now))
-          (sym (no_walk rule held now question.qtype question.name (sym (no_visit held now question.qtype question.name rule none))))
+      by : (asks : Bool) → (if asks then walk_of rule held now question.name question.qtype else None) ≡ None
+      by true = sym (no_walk rule held now question.qtype question.name (sym (no_visit held now question.qtype question.name rule none)))
       by false = refl
 
+-- there is a reply just where there is a walk
+pub replies_by : (question : Question) (now : ℕ) (found : Option Walk) (origin : Option Origin) (octets : List ℕ) → IsReplyOf question now found origin octets
+    → MatchBool (is_some origin) (option_map (octets_at question now) found ≡ Some octets) ((option_map (octets_at question now) found ≡ None) × (octets ≡ []))
+replies_by question now found origin octets told =
+    subst (λ (o : Option Origin). MatchBool (is_some o) (option_map (octets_at question now) found ≡ Some octets) ((option_map (octets_at question now) found ≡ None) × (octets ≡ [])))
+    (sym told.made) (by found told.written)
+  where
+    by : (found : Option Walk) → octets ≡ unwrap_or (option_map (octets_at question now) found) []
+        → MatchBool (is_some (option_map origin_of found)) (option_map (octets_at question now) found ≡ Some octets) ((option_map (octets_at question now) found ≡ None) × (octets ≡ []))
+    by None is = (refl, is)
+    by (Some walk) is = ap Some (sym is)
+
 -- with the TTL that it has
-pub walk_replies : (question : Question) (now ttl : ℕ) (walk : Walk) (octets : List ℕ) → ttl ≡ walk_ttl now walk → octets ≡ walk_octets question walk ttl
-    → option_map (octets_at question now) (Some walk) ≡ Some octets
-walk_replies question now ttl walk octets lives is = ap (λ time. Some (walk_octets question walk time)) (sym lives) ∙ ap Some (sym is)
+pub walk_replies : (question : Question) (now ttl : ℕ) (found : Option Walk) (walk : Walk) (origin : Origin) (octets : List ℕ) → Some walk ≡ found → ttl ≡ walk_ttl now walk
+    → origin ≡ origin_of walk → octets ≡ walk_octets question walk ttl → IsReplyOf question now found (Some origin) octets
+walk_replies question now ttl found walk origin octets there lives made is =
+    subst (λ (w : Option Walk). IsReplyOf question now w (Some origin) octets) there
+    (record { made = ap Some made; written = is ∙ ap (walk_octets question walk) lives })
 
 -- by the name's own CNAME set
-pub alias_replies : (held : Held) (now : ℕ) (question : Question) (apex target : List Label) (set : SetRec) (verdict : Verdict) (octets : List ℕ) (ttl : ℕ)
+pub alias_replies : (held : Held) (now : ℕ) (question : Question) (apex target : List Label) (set : SetRec) (verdict : Verdict) (synthesized : Bool) (octets : List ℕ) (ttl : ℕ)
     → (question.qtype ≡ DS_TYPE → ⊥) → zone_for held question.name question.qtype ≡ Some apex → Some set ≡ usable_set held now apex question.name CNAME_TYPE
     → Some target ≡ one_name_in set.items → Shown now (proof_of held now target question.qtype) verdict → ttl ≡ min verdict.ttl (time_left set.life set.expiry now)
+    → synthesized ≡ is_any (shown_by verdict).denials
     → octets ≡ sent_octets question (rcode_of (shown_by verdict).kind) ttl (alias_answers question set target (shown_by verdict)) (authority_records question (shown_by verdict))
-    → (rule : Rule) → takes_aliases rule ≡ true → option_map (octets_at question now) (beyond (links_of rule) rule held now question.qtype question.name) ≡ Some octets
-alias_replies held now question apex target set verdict octets ttl apart asked found leads proved lives is rule takes =
+    → (rule : Rule) → takes_aliases rule ≡ true → IsReplyOf question now (beyond (links_of rule) rule held now question.qtype question.name) (Some (Alias synthesized)) octets
+alias_replies held now question apex target set verdict synthesized octets ttl apart asked found leads proved lives denies is rule takes =
     let walk = one_alias question.name set target (shown_by verdict) in
-    ap (option_map (octets_at question now)) (by_own_alias rule held now question.qtype question.name apex target set (shown_by verdict) takes apart asked found leads proved.proved)
-    ∙ walk_replies question now ttl walk octets (lives ∙ ap (λ least. min least (time_left set.life set.expiry now)) proved.lives)
+    walk_replies question now ttl (beyond (links_of rule) rule held now question.qtype question.name) walk (Alias synthesized) octets
+    (sym (by_own_alias rule held now question.qtype question.name apex target set (shown_by verdict) takes apart asked found leads proved.proved))
+    (lives ∙ ap (λ least. min least (time_left set.life set.expiry now)) proved.lives)
+    (ap Alias denies)
     (is ∙ one_alias_octets question set target (shown_by verdict) ttl)

@@ -62,7 +62,7 @@ dnames_of : (way : LentWay) (next : List Label) → way_dnames (way_by way next)
 dnames_of (ways.Alias verdict) next = refl
 dnames_of (ways.Dname set) next = refl
 
-denials_of : (way : LentWay) (next : List Label) → way_denials (way_by way next) ≡ denials_in way
+pub denials_of : (way : LentWay) (next : List Label) → way_denials (way_by way next) ≡ denials_in way
 denials_of (ways.Alias verdict) next = refl
 denials_of (ways.Dname set) next = refl
 

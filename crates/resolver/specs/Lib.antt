@@ -6,6 +6,7 @@ pub mod Dname
 pub mod Walk
 pub mod SoundWalk
 pub mod WalkReply
+pub mod Origin
 pub mod Lent
 pub mod Answering
 pub mod QueryStep

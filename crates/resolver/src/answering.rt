@@ -32,6 +32,6 @@ pub fn reply_by(
 {
     match answering {
         Answering::ByProof => reply(store, question, now, out),
-        Answering::ByWalk { rule } => walk_reply(store, rule, question, now, out),
+        Answering::ByWalk { rule } => walk_reply(store, rule, question, now, out).is_some(),
     }
 }

@@ -4,8 +4,8 @@
 //! threads share, whose queries answer by one published version.
 //!
 //! Specs, in reading order: of what is proved of a question `SoundVerdict`, `Replies` and `Caches`; of walks `Target`, `Dname`,
-//! `Walk`, `SoundWalk` and `WalkReply`, and `Lent`, the walk that a lent one is; of octets `Answering`, `QueryStep`, `Queried`,
-//! `Inserted` and `OctetLaws`.
+//! `Walk`, `SoundWalk`, `WalkReply` and `Origin`, and `Lent`, the walk that a lent one is; of octets `Answering`, `QueryStep`,
+//! `Queried`, `Inserted` and `OctetLaws`.
 #![tactic(auto)]
 
 mod answering;
@@ -18,6 +18,7 @@ mod leading;
 mod lent_dname;
 mod octet_laws;
 mod once;
+mod origin;
 mod outcome;
 mod parts;
 mod proving;
@@ -45,6 +46,7 @@ pub use laws::{
     each_walk_is_sound, the_topmost_is_taken,
 };
 pub use octet_laws::{octets_have_one_outcome, stores_reply_as_held};
+pub use origin::Origin;
 pub use outcome::Outcome;
 pub use parts::{answer_by_set, prove_by_chains};
 pub use proving::{answer, prove, prove_in};

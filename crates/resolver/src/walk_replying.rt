@@ -1,5 +1,5 @@
 //! The reply that a store gives by a rule.
-ghost use Rattle.std.specs.Prelude.{◌≡◌, ◌↔◌, true, false, [], Some, None, MatchBool, IfSome, IsSome};
+ghost use Rattle.std.specs.Prelude.{◌≡◌, ◌↔◌, true, [], Some, None, is_some, MatchBool, IfSome, IsSome};
 ghost use Rattle.std.specs.Option.{option_map, option_copied};
 ghost use Rattle.dname.specs.declared.types.TheConstants.{CNAME_TYPE};
 ghost use Rattle.cache_meaning.specs.Prove.{zone_proof};
@@ -7,13 +7,15 @@ ghost use Rattle.cache_meaning.specs.Verdict.{IsVerdictOf};
 ghost use Rattle.cache_meaning.specs.Zones.{zone_in, zone_for, set_at};
 ghost use Rattle.resolver.specs.Walk.{asks_a_zone, takes_aliases, links_of, beyond, walk_of};
 ghost use Rattle.resolver.specs.SoundWalk.{IsSoundWalk};
-ghost use Rattle.resolver.specs.WalkReply.{octets_at, walk_in, walk_reply_in};
+ghost use Rattle.resolver.specs.WalkReply.{walk_in, walk_reply_in};
+ghost use Rattle.resolver.specs.Origin.{origin_in, IsReplyOf};
 ghost use Rattle.resolver.specs.declared.rule.Rule.{Rule as ARule};
 
 use crate::laws::each_walk_is_sound;
+use crate::origin::{proof_origin, uses_denials, walk_origin};
 use crate::search::usable_alias;
 use crate::walking::beyond;
-use crate::{Rule, answer_by_set, prove, prove_by_chains, prove_in, write_walk};
+use crate::{Origin, Rule, answer_by_set, prove, prove_by_chains, prove_in, write_walk};
 use cache_meaning::{is_forwarded, that_is_usable};
 use denial_records::{KeptSet, Verdict, remaining};
 use dname::one_name_in;
@@ -22,29 +24,31 @@ use dnswire::Question;
 use record_store::{Store, ZoneRef};
 use reply_core::{ReplyBuffer, write_alias_reply, write_reply};
 
-/// Whether the records prove an answer at a moment, in seconds, or lead to one by the rule. Then the buffer holds the reply, and
-/// else it is empty. What is proved of the question itself is asked first, and costs what it costs without a rule.
+/// From what the reply is made, where the records prove an answer at a moment, in seconds, or lead to one by the rule. Then the
+/// buffer holds the reply, and else it is empty. What is proved of the question itself is asked first, and costs what it costs
+/// without a rule.
 pub fn walk_reply(
     store: &Store,
     rule: Rule,
     question: &Question,
     now: u32,
     out: &mut ReplyBuffer,
-) -> bool
-    ensures reply { MatchBool result
+) -> Option<Origin>
+    ensures reply { MatchBool (is_some result)
         (walk_reply_in rule store.now question.now now ≡ Some out.new)
         ((walk_reply_in rule store.now question.now now ≡ None) × (out.new ≡ [])) }
+    ensures origin { result ≡ origin_in rule store.now question.now now }
     ensures sound { IfSome (walk_in rule store.now question.now now)
         (IsSoundWalk question.now.qtype question.now.name) }
 {
     each_walk_is_sound();
     if !asks_a_zone(question) {
         out.clear();
-        return false;
+        return None;
     }
     let Some(zone) = store.zone_for(&question.name, question.qtype) else {
         out.clear();
-        return false;
+        return None;
     };
     reply_from(store, &zone, rule, question, now, out)
 }
@@ -57,21 +61,18 @@ fn reply_from<'s>(
     question: &Question,
     now: u32,
     out: &mut ReplyBuffer,
-) -> bool
+) -> Option<Origin>
     requires { Some zone.now ≡ option_map (zone_in store.now)
         (zone_for store.now question.now.name question.now.qtype) }
-    ensures { MatchBool result
-        (option_map (octets_at question.now now)
-        (walk_of rule store.now now question.now.name question.now.qtype) ≡ Some out.new)
-        ((walk_of rule store.now now question.now.name question.now.qtype ≡ None)
-        × (out.new ≡ [])) }
+    ensures { IsReplyOf question.now now
+        (walk_of rule store.now now question.now.name question.now.qtype) result out.new }
 {
     if rule.takes_aliases() {
         return reply_with_aliases(store, zone, rule, question, now, out);
     }
     if let Some(verdict) = prove_in(zone, &question.name, question.qtype, now) {
         write_reply(question, &verdict, out);
-        return true;
+        return Some(proof_origin(&verdict));
     }
     reply_by_walk(store, zone, rule, question, now, out)
 }
@@ -84,23 +85,20 @@ fn reply_with_aliases<'s>(
     question: &Question,
     now: u32,
     out: &mut ReplyBuffer,
-) -> bool
+) -> Option<Origin>
     requires zone { Some zone.now ≡ option_map (zone_in store.now)
         (zone_for store.now question.now.name question.now.qtype) }
     requires takes { takes_aliases rule ≡ true }
-    ensures { MatchBool result
-        (option_map (octets_at question.now now)
-        (walk_of rule store.now now question.now.name question.now.qtype) ≡ Some out.new)
-        ((walk_of rule store.now now question.now.name question.now.qtype ≡ None)
-        × (out.new ≡ [])) }
+    ensures { IsReplyOf question.now now
+        (walk_of rule store.now now question.now.name question.now.qtype) result out.new }
 {
     let found = zone.set_and_alias_at(&question.name, question.qtype);
     if let Some(verdict) = prove_with(zone, found.set, question, now) {
         write_reply(question, &verdict, out);
-        return true;
+        return Some(proof_origin(&verdict));
     }
-    if reply_by_alias(store, zone, question, found.alias, now, out) {
-        return true;
+    if let Some(origin) = reply_by_alias(store, zone, question, found.alias, now, out) {
+        return Some(origin);
     }
     reply_by_walk(store, zone, rule, question, now, out)
 }
@@ -125,8 +123,8 @@ fn prove_with<'s>(
     prove_by_chains(zone, &question.name, question.qtype, now)
 }
 
-// Whether the question's own CNAME set leads to a name of which something is proved, as most do. Then the buffer holds the reply of
-// that walk, and else what it held. A search may have told of that set already.
+// The same where the question's own CNAME set leads to a name of which something is proved, as most do. Else the buffer holds what
+// it held. A search may have told of that set already.
 fn reply_by_alias<'s>(
     store: &'s Store,
     zone: &ZoneRef<'s>,
@@ -134,32 +132,35 @@ fn reply_by_alias<'s>(
     told: Option<Option<&'s KeptSet>>,
     now: u32,
     out: &mut ReplyBuffer,
-) -> bool
+) -> Option<Origin>
     requires zone { Some zone.now ≡ option_map (zone_in store.now)
         (zone_for store.now question.now.name question.now.qtype) }
     requires told { IfSome told (λ alias. option_copied alias
         ≡ set_at zone.now.held zone.now.apex question.now.name CNAME_TYPE) }
-    ensures done { result ≡ true → (rule : ARule) → takes_aliases rule ≡ true
-        → option_map (octets_at question.now now) (beyond (links_of rule) rule store.now now
-        question.now.qtype question.now.name) ≡ Some out.new }
-    ensures same { result ≡ false → out.new ≡ out.old }
+    ensures done { IsSome result → (rule : ARule) → takes_aliases rule ≡ true
+        → IsReplyOf question.now now
+        (beyond (links_of rule) rule store.now now question.now.qtype question.now.name)
+        result out.new }
+    ensures same { result ≡ None → out.new ≡ out.old }
 {
     if question.qtype == DS_TYPE {
-        return false;
+        return None;
     }
     let Some(set) = usable_alias(zone, now, &question.name, told) else {
-        return false;
+        return None;
     };
     let found = one_name_in(set.items());
     let Some(target) = &found else {
-        return false;
+        return None;
     };
     let Some(verdict) = prove(store, target, question.qtype, now) else {
-        return false;
+        return None;
     };
     let ttl = verdict.ttl.min(remaining(set.life(), set.expiry(), now));
     write_alias_reply(question, set, target, &verdict, ttl, out);
-    true
+    Some(Origin::Alias {
+        synthesized: uses_denials(&verdict),
+    })
 }
 
 // Where nothing is proved of the question itself: the reply of whatever walk there is, which is more to hold.
@@ -171,21 +172,19 @@ fn reply_by_walk<'s>(
     question: &Question,
     now: u32,
     out: &mut ReplyBuffer,
-) -> bool
+) -> Option<Origin>
     requires { Some zone.now ≡ option_map (zone_in store.now)
         (zone_for store.now question.now.name question.now.qtype) }
-    ensures { MatchBool result
-        (option_map (octets_at question.now now) (beyond (links_of rule) rule store.now now
-        question.now.qtype question.now.name) ≡ Some out.new)
-        ((beyond (links_of rule) rule store.now now question.now.qtype question.now.name ≡ None)
-        × (out.new ≡ [])) }
+    ensures { IsReplyOf question.now now
+        (beyond (links_of rule) rule store.now now question.now.qtype question.now.name)
+        result out.new }
 {
     let Some(walk) = beyond(store, zone, rule, &question.name, question.qtype, now) else {
         out.clear();
-        return false;
+        return None;
     };
     write_walk(question, &walk, out);
-    true
+    Some(walk_origin(&walk))
 }
 
 fn asks_a_zone(question: &Question) -> bool

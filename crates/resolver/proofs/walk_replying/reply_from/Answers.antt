@@ -5,8 +5,8 @@ use Rattle.resolver.proofs.walk_replying.reply_from.Goals as goal
 
 pub returns-in-Some : goal.returns-in-Some
 returns-in-Some c =
-    zone_proof_replies c.args.rule c.args.store.now c.args.question.now c.args.now c.args.zone.now c.in-Some.verdict c.write_reply.new.out
-    c.requires c.in-Some.ensures.proved (c.in-Some.ensures.exact.0 refl) c.write_reply.ensures.value
+    zone_proof_replies c.args.rule c.args.store.now c.args.question.now c.args.now c.args.zone.now c.in-Some.verdict c.proof_origin.result c.write_reply.new.out
+    c.requires c.in-Some.ensures.proved (c.in-Some.ensures.exact.0 refl) c.proof_origin.ensures c.write_reply.ensures.value
 
 pub returns : goal.returns
 returns c =
