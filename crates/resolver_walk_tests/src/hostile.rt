@@ -1,7 +1,8 @@
 //! Walks to denials, over zones that expire apart, and up to the longest names: how long their replies are, and with which RCODE.
 
 use crate::records::{
-    A, ADDRESS, CNAME, DNAME, nsec, nsec3, question, replied_after, set, set_in, store_of,
+    A, ADDRESS, CNAME, DNAME, SOA, SOA_DATA, nsec, nsec3, question, replied_after, set, set_in,
+    store_of,
 };
 use denial_records::RecordList;
 use dnswire::Edns;
@@ -10,12 +11,6 @@ use reply_core::ReplyBuffer;
 use resolver::Rule;
 use std::alloc::Global;
 use std::test::Fail;
-
-/// The data of an SOA whose MINIMUM is 300.
-const SOA_DATA: &[u8] =
-    b"\x00\x00\x00\x00\x00\x01\x00\x00\x0e\x10\x00\x00\x02\x58\x00\x01\x51\x80\x00\x00\x01\x2c";
-
-const SOA: u16 = 6;
 
 const EDNS: Edns = Edns {
     size: 1232,
@@ -66,10 +61,10 @@ fn later(rule: Rule, asked: &'static [u8], seconds: u16, octets: usize) -> Row {
 fn holds(store: &Store, row: &Row) -> Result<bool, Fail> {
     let question = question(row.asked, row.qtype, row.edns)?;
     let mut out = ReplyBuffer::new();
-    let there = replied_after(store, row.rule, &question, row.seconds, &mut out);
+    let origin = replied_after(store, row.rule, &question, row.seconds, &mut out);
     let octets = out.as_slice();
     let rcode = if octets.len() > 3 { octets[3] % 16 } else { 0 };
-    Ok(there == (row.octets > 0) && octets.len() == row.octets && rcode == row.rcode)
+    Ok(origin.is_some() == (row.octets > 0) && octets.len() == row.octets && rcode == row.rcode)
 }
 
 // The place of the first row that doesn't hold.

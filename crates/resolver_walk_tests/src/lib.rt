@@ -4,6 +4,8 @@
 #[cfg(test)]
 mod hostile;
 #[cfg(test)]
+mod origins;
+#[cfg(test)]
 mod records;
 #[cfg(test)]
 mod sizes;

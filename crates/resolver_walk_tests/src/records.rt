@@ -9,7 +9,7 @@ use dnswire::{Edns, Question};
 use nsec3_hash::hash_name;
 use record_store::Store;
 use reply_core::ReplyBuffer;
-use resolver::{Rule, walk_reply};
+use resolver::{Origin, Rule, walk_reply};
 use std::alloc::Global;
 use std::test::Fail;
 
@@ -23,9 +23,15 @@ pub(crate) const A: u16 = 1;
 
 pub(crate) const CNAME: u16 = 5;
 
+pub(crate) const SOA: u16 = 6;
+
 pub(crate) const DNAME: u16 = 39;
 
 pub(crate) const ADDRESS: &[u8] = b"\xc0\x00\x02\x01";
+
+/// The data of an SOA whose MINIMUM is 300.
+pub(crate) const SOA_DATA: &[u8] =
+    b"\x00\x00\x00\x00\x00\x01\x00\x00\x0e\x10\x00\x00\x02\x58\x00\x01\x51\x80\x00\x00\x01\x2c";
 
 fn name(wire: &[u8]) -> Result<Name, NameFault> {
     let (name, _) = Name::read(wire)?;
@@ -146,13 +152,13 @@ pub(crate) fn question(asked: &[u8], qtype: u16, edns: Option<Edns>) -> Result<Q
     })
 }
 
-/// Writes the reply at ten seconds later, where there is one.
+/// Writes the reply at ten seconds later, where there is one, and tells from what it is made.
 pub(crate) fn replied(
     store: &Store,
     rule: Rule,
     question: &Question,
     out: &mut ReplyBuffer,
-) -> bool {
+) -> Option<Origin> {
     replied_after(store, rule, question, 10, out)
 }
 
@@ -163,6 +169,6 @@ pub(crate) fn replied_after(
     question: &Question,
     seconds: u16,
     out: &mut ReplyBuffer,
-) -> bool {
+) -> Option<Origin> {
     walk_reply(store, rule, question, THEN + u32::from(seconds), out)
 }

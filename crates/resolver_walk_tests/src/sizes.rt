@@ -196,8 +196,8 @@ fn rows() -> [Row; 27] {
 fn holds(store: &Store, row: &Row) -> Result<bool, Fail> {
     let question = question(row.asked, row.qtype, None)?;
     let mut out = ReplyBuffer::new();
-    let there = replied(store, row.rule, &question, &mut out);
-    Ok(there == (row.octets > 0) && out.as_slice().len() == row.octets)
+    let origin = replied(store, row.rule, &question, &mut out);
+    Ok(origin.is_some() == (row.octets > 0) && out.as_slice().len() == row.octets)
 }
 
 // The place of the first row that doesn't hold.

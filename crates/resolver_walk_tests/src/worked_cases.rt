@@ -42,7 +42,7 @@ fn an_alias_leads_to_an_address(rt: HostRuntime) -> Result<(), Fail> {
     let store = store_of(alloc, records)?;
     let question = question(b"\x01a\x07example\x00", A, None)?;
     let mut out = ReplyBuffer::new();
-    let _there = replied(&store, Rule::Aliases, &question, &mut out);
+    let _origin = replied(&store, Rule::Aliases, &question, &mut out);
     assert_eq!(rt; out.as_slice(), BY_ALIAS);
     Ok(())
 }
@@ -61,7 +61,7 @@ fn a_dname_leads_to_an_address(rt: HostRuntime) -> Result<(), Fail> {
     let store = store_of(alloc, records)?;
     let question = question(b"\x01x\x03old\x07example\x00", A, None)?;
     let mut out = ReplyBuffer::new();
-    let _there = replied(&store, Rule::Redirection, &question, &mut out);
+    let _origin = replied(&store, Rule::Redirection, &question, &mut out);
     assert_eq!(rt; out.as_slice(), BY_DNAME);
     Ok(())
 }
@@ -79,7 +79,7 @@ fn a_dname_of_two_links_stands_once(rt: HostRuntime) -> Result<(), Fail> {
     let store = store_of(alloc, records)?;
     let question = question(b"\x01x\x03old\x07example\x00", A, None)?;
     let mut out = ReplyBuffer::new();
-    let _there = replied(&store, Rule::Both, &question, &mut out);
+    let _origin = replied(&store, Rule::Both, &question, &mut out);
     assert!(rt; out.as_slice() == BY_DNAME_TWICE);
     Ok(())
 }
