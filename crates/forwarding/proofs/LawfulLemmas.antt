@@ -1,11 +1,13 @@
 -- The turns of a worker, one after the other, and what may be sent of them.
 use Rattle.std.proofs.Common.{◌≡◌, ◌∙◌, ℕ, ◌+◌, ◌-◌, ◌<◌, Bool, true, false, List, [], ◌∷◌, ◌++◌, length, map, take, drop, get_or, Option, None, Some, refl, sym, ap, subst, arith, append_assoc}
-use Rattle.std.specs.Prelude.{IfSome}
-use Rattle.std.specs.List.{All}
+use Rattle.std.specs.Prelude.{IfSome, fold}
+use Rattle.std.specs.List.{All, flat_map}
 use Rattle.std.proofs.lemmas.Grind.{flat_map-append}
+use Rattle.std.proofs.lemmas.List.Sums.{fold-append}
 use Rattle.std.proofs.lemmas.List.{append-nil, drop_more, map-append, take_all}
 use Rattle.facts.proofs.Prefixes.{take_prefix}
 use mathlib.Core.List.{IsPrefix}
+use Rattle.counters.specs.Counts.{Tally, counted, no_counts, with_tally}
 use Rattle.dname.specs.Name.{Label}
 use Rattle.denial_records.specs.declared.batch.Batch.{Batch}
 use Rattle.cache_versions.proofs.Fronts.{prefix_get, prefix_length}
@@ -20,7 +22,7 @@ use Rattle.waiting_table.specs.Waiting.{Slot, empty_table}
 use Rattle.forwarding.specs.Done.{Done, IsDone}
 use Rattle.forwarding.specs.Turn.{Turn, AreTurns, IsKeptAt, IsSoundDone, IsTurn, sends_of}
 use Rattle.forwarding.specs.declared.want.Want.{Want}
-use Rattle.forwarding.specs.Lawful.{EachTurnIsLawful, HasCome, HasServed, IsAtWork, IsCalled, IsLawful, IsNew, MaySend, MaySendAll, Told, left_by, more_received, more_sent}
+use Rattle.forwarding.specs.Lawful.{EachTurnIsLawful, HasCome, HasServed, IsAtWork, IsCalled, IsLawful, IsNew, MaySend, MaySendAll, Told, counts_of, left_by, more_received, more_sent}
 use Rattle.forwarding.specs.declared.event.Event.{Event}
 use Rattle.forwarding.specs.declared.sent.Sent.{Sent}
 
@@ -61,6 +63,12 @@ events_push turns turn = map-append (λ (t : Turn). t.event) turns (turn ∷ [])
 
 sends_push : (turns : List Turn) (turn : Turn) → sends_of (turns ++ turn ∷ []) ≡ sends_of turns ++ turn.done.sends
 sends_push turns turn = flat_map-append (λ (t : Turn). t.done.sends) turns (turn ∷ []) ∙ ap (λ l. sends_of turns ++ l) (append-nil turn.done.sends)
+
+counts_push : (turns : List Turn) (turn : Turn) → counts_of (turns ++ turn ∷ []) ≡ counted turn.done.tallies (counts_of turns)
+counts_push turns turn =
+    let all = flat_map (λ (t : Turn). t.done.tallies) turns in
+    ap (λ (l : List Tally). counted l no_counts) (flat_map-append (λ (t : Turn). t.done.tallies) turns (turn ∷ []) ∙ ap (λ (l : List Tally). all ++ l) (append-nil turn.done.tallies))
+    ∙ fold-append with_tally no_counts all turn.done.tallies
 
 -- ---- what is told
 
@@ -106,43 +114,48 @@ module _ (passed : List (List Label)) where
   -- ---- an event
 
   -- nothing has come yet
-  pub begun : (history : List Batch) (table : List Slot) (told : Option Told) → table ≡ empty_table → IsNew told → IsAtWork passed history table told
-  begun history table None empty none = tt
-  begun history table (Some t) empty none = record { turns = []; events_are = none.0; are = tt; sent_are = none.1; left = empty }
+  pub begun : (history : List Batch) (table : List Slot) (counts : List ℕ) (told : Option Told) → table ≡ empty_table → counts ≡ no_counts → IsNew told → IsAtWork passed history table counts told
+  begun history table counts None empty zero none = tt
+  begun history table counts (Some t) empty zero none = record { turns = []; events_are = none.0; are = tt; sent_are = none.1; left = empty; counts_are = zero }
 
   -- an event comes to a worker
-  pub called : (history : List Batch) (table : List Slot) (event : Event) (told told' : Option Told) → IsAtWork passed history table told → told' ≡ more_received told event → IsCalled passed history table event told'
-  called history table event None told' work is = subst (λ (t : Option Told). IsCalled passed history table event t) (sym is) tt
-  called history table event (Some t) told' work is = subst (λ (u : Option Told). IsCalled passed history table event u) (sym is) (record { before = t; served = work; told_is = refl })
+  pub called : (history : List Batch) (table : List Slot) (counts : List ℕ) (event : Event) (told told' : Option Told) → IsAtWork passed history table counts told → told' ≡ more_received told event → IsCalled passed history table counts event told'
+  called history table counts event None told' work is = subst (λ (t : Option Told). IsCalled passed history table counts event t) (sym is) tt
+  called history table counts event (Some t) told' work is = subst (λ (u : Option Told). IsCalled passed history table counts event u) (sym is) (record { before = t; served = work; told_is = refl })
 
-  served_more : (seen history : List Batch) (table : List Slot) (told : Told) → IsPrefix seen history → HasServed passed seen table told → HasServed passed history table told
-  served_more seen history table told begins served = record {
+  served_more : (seen history : List Batch) (table : List Slot) (counts : List ℕ) (told : Told) → IsPrefix seen history → HasServed passed seen table counts told → HasServed passed history table counts told
+  served_more seen history table counts told begins served = record {
     turns = served.turns;
     events_are = served.events_are;
     are = turns_more passed seen history empty_table served.turns begins served.are;
     sent_are = served.sent_are;
     left = served.left;
+    counts_are = served.counts_are;
   }
 
-  -- what was called for by some of the history is by all of it
-  pub called_more : (seen history : List Batch) (table : List Slot) (event : Event) (told : Option Told) → IsPrefix seen history → IsCalled passed seen table event told → IsCalled passed history table event told
-  called_more seen history table event None begins come = tt
-  called_more seen history table event (Some t) begins come = record { before = come.before; served = served_more seen history table come.before begins come.served; told_is = come.told_is }
+  -- the same of an equal table and equal counts
+  pub at_work : (history : List Batch) (table table' : List Slot) (counts counts' : List ℕ) (told : Option Told) → table' ≡ table → counts' ≡ counts → IsAtWork passed history table counts told → IsAtWork passed history table' counts' told
+  at_work history table table' counts counts' told same same' work = subst (λ (t : List Slot). IsAtWork passed history t counts' told) (sym same) (subst (λ (c : List ℕ). IsAtWork passed history table c told) (sym same') work)
 
-  module _ (history : List Batch) (table : List Slot) (event : Event) (turn : Turn) (same : turn.event ≡ event) (is : IsTurn passed history table turn) where
-    events_more : (t : Told) (come : HasCome passed history table event t) → t.received ≡ map (λ (u : Turn). u.event) (come.served.turns ++ turn ∷ [])
+  -- what was called for by some of the history is by all of it
+  pub called_more : (seen history : List Batch) (table : List Slot) (counts : List ℕ) (event : Event) (told : Option Told) → IsPrefix seen history → IsCalled passed seen table counts event told → IsCalled passed history table counts event told
+  called_more seen history table counts event None begins come = tt
+  called_more seen history table counts event (Some t) begins come = record { before = come.before; served = served_more seen history table counts come.before begins come.served; told_is = come.told_is }
+
+  module _ (history : List Batch) (table : List Slot) (counts : List ℕ) (event : Event) (turn : Turn) (same : turn.event ≡ event) (is : IsTurn passed history table turn) where
+    events_more : (t : Told) (come : HasCome passed history table counts event t) → t.received ≡ map (λ (u : Turn). u.event) (come.served.turns ++ turn ∷ [])
     events_more t come =
         ap (λ (u : Told). u.received) come.told_is ∙ ap (λ (l : List Event). l ++ event ∷ []) come.served.events_are
         ∙ ap (λ (e : Event). map (λ (u : Turn). u.event) come.served.turns ++ e ∷ []) (sym same) ∙ sym (events_push come.served.turns turn)
 
-    are_more : (t : Told) (come : HasCome passed history table event t) → AreTurns passed history empty_table (come.served.turns ++ turn ∷ [])
+    are_more : (t : Told) (come : HasCome passed history table counts event t) → AreTurns passed history empty_table (come.served.turns ++ turn ∷ [])
     are_more t come = turns_push passed history empty_table come.served.turns turn come.served.are (subst (λ (l : List Slot). IsTurn passed history l turn) come.served.left is)
 
-    sends_more : (t : Told) (come : HasCome passed history table event t) → t.sent ++ turn.done.sends ≡ sends_of (come.served.turns ++ turn ∷ [])
+    sends_more : (t : Told) (come : HasCome passed history table counts event t) → t.sent ++ turn.done.sends ≡ sends_of (come.served.turns ++ turn ∷ [])
     sends_more t come = ap (λ (l : List Sent). l ++ turn.done.sends) (ap (λ (u : Told). u.sent) come.told_is ∙ come.served.sent_are) ∙ sym (sends_push come.served.turns turn)
 
     -- all that the event's turn sends may be sent
-    lawful_turn : (told : Option Told) → IsCalled passed history table event told → MaySendAll passed history told turn.done.sends
+    lawful_turn : (told : Option Told) → IsCalled passed history table counts event told → MaySendAll passed history told turn.done.sends
     lawful_turn None come = tt
     lawful_turn (Some t) come = record {
       turns = come.served.turns ++ turn ∷ [];
@@ -151,15 +164,16 @@ module _ (passed : List (List Label)) where
       begins = ([], append-nil (t.sent ++ turn.done.sends) ∙ sends_more t come);
     }
 
-    -- once it was, the worker has served
-    worked : (told told' : Option Told) → IsCalled passed history table event told → told' ≡ more_sent told turn.done.sends → IsAtWork passed history turn.done.table told'
-    worked None told' come sent = subst (λ (u : Option Told). IsAtWork passed history turn.done.table u) (sym sent) tt
-    worked (Some t) told' come sent = subst (λ (u : Option Told). IsAtWork passed history turn.done.table u) (sym sent) (record {
+    -- once it was, and was counted, the worker has served
+    worked : (told told' : Option Told) → IsCalled passed history table counts event told → told' ≡ more_sent told turn.done.sends → IsAtWork passed history turn.done.table (counted turn.done.tallies counts) told'
+    worked None told' come sent = subst (λ (u : Option Told). IsAtWork passed history turn.done.table (counted turn.done.tallies counts) u) (sym sent) tt
+    worked (Some t) told' come sent = subst (λ (u : Option Told). IsAtWork passed history turn.done.table (counted turn.done.tallies counts) u) (sym sent) (record {
       turns = come.served.turns ++ turn ∷ [];
       events_are = events_more t come;
       are = are_more t come;
       sent_are = sends_more t come;
       left = sym (left_push empty_table come.served.turns turn);
+      counts_are = ap (counted turn.done.tallies) come.served.counts_are ∙ sym (counts_push come.served.turns turn);
     })
 
 -- ---- a turn
@@ -185,11 +199,11 @@ turn_is each passed history table event ids want done placed does drawn kept =
     }
 
 pub each_turn_lawful : EachWalkIsSound → EachTurnIsLawful
-each_turn_lawful each passed history table event ids want done placed told told' come does drawn kept =
+each_turn_lawful each passed history table counts event ids want done placed told told' come does drawn kept =
     let turn : Turn = record { event = event; version = length history; ids = ids; want = want; done = done; placed = placed } in
     let is = turn_is each passed history table event ids want done placed does drawn kept in (
-      lawful_turn passed history table event turn refl is told come,
-      (λ sent. worked passed history table event turn refl is told told' come sent),
+      lawful_turn passed history table counts event turn refl is told come,
+      (λ sent. worked passed history table counts event turn refl is told told' come sent),
     )
 
 -- ---- one after the other

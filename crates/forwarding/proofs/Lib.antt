@@ -6,3 +6,9 @@ pub mod QueryLemmas
 pub mod StoredLemmas
 pub mod ReadLemmas
 pub mod NameEndLemmas
+pub mod OptLemmas
+pub mod EndLemmas
+pub mod ErrorLemmas
+pub mod HoldingLemmas
+pub mod StepLemmas
+pub mod RunLemmas

@@ -1,16 +1,37 @@
 -- What a version has for a question, as what is held has it.
-use Rattle.std.proofs.Common.{◌≡◌, ◌∙◌, ℕ, Bool, true, false, List, [], None, Some, sym}
-use Rattle.std.specs.Prelude.{MatchBool}
+use Rattle.std.proofs.Common.{◌≡◌, ◌∙◌, ℕ, List, Option, None, Some, refl, sym, ap}
+use Rattle.std.specs.Option.{option_map}
 use Rattle.dnswire.specs.declared.question.Question.{Question}
 use Rattle.denial_records.specs.declared.batch.Batch.{Batch}
 use Rattle.cache_meaning.specs.Held.{Held, held_of}
 use Rattle.held_laws.specs.KeyOrder.{kept_of}
-use Rattle.resolver.specs.WalkReply.{walk_reply_in}
+use Rattle.resolver.specs.Origin.{is_synthesized, origin_in, origin_of}
+use Rattle.resolver.specs.Walk.{Walk}
+use Rattle.resolver.specs.WalkReply.{octets_at, walk_in, walk_reply_in}
+use Rattle.resolver.specs.declared.origin.Origin.{Origin}
 use Rattle.resolver.specs.declared.rule.Rule.TheVariants.{Both}
-use Rattle.resolver.proofs.AlikeLemmas.{reply_as_held}
+use Rattle.resolver.proofs.AlikeLemmas.{origin_as_held, reply_as_held}
+use Rattle.forwarding.specs.Done.{Found, found, found_as, shown}
+use Rattle.forwarding.specs.ExtendedError.{marked}
 
-pub found_as_held : (seen : List Batch) (held : Held) (question : Question) (now : ℕ) (found : Bool) (octets : List ℕ) → held ≡ kept_of seen
-    → MatchBool found (walk_reply_in Both held question now ≡ Some octets) ((walk_reply_in Both held question now ≡ None) × (octets ≡ []))
-    → MatchBool found (walk_reply_in Both (held_of seen) question now ≡ Some octets) (walk_reply_in Both (held_of seen) question now ≡ None)
-found_as_held seen held question now true octets kept is = sym (reply_as_held Both seen held question now kept) ∙ is
-found_as_held seen held question now false octets kept is = sym (reply_as_held Both seen held question now kept) ∙ is.0
+module _ (question : Question) (now : ℕ) where
+  shown_of : (walk : Option Walk) (origin : Origin) (reply octets : List ℕ) → option_map (octets_at question now) walk ≡ Some reply → Some origin ≡ option_map origin_of walk → octets ≡ marked question (is_synthesized origin) reply → option_map (shown question now) walk ≡ Some (found_as octets origin)
+  shown_of None origin reply octets is from mark = absurd (cc is)
+  shown_of (Some walk) origin reply octets is from mark =
+      let same : octets_at question now walk ≡ reply = cc in
+      let made : origin_of walk ≡ origin = cc in
+      let mark' : marked question (is_synthesized (origin_of walk)) (octets_at question now walk) ≡ octets = ap (λ (o : Origin). marked question (is_synthesized o) (octets_at question now walk)) made ∙ ap (marked question (is_synthesized origin)) same ∙ sym mark in
+      (λ i. Some (found_as (mark' i) (made i)))
+
+  shown_none : (walk : Option Walk) → None ≡ option_map origin_of walk → option_map (shown question now) walk ≡ None
+  shown_none None from = refl
+  shown_none (Some walk) from = absurd (cc from)
+
+  module _ (seen : List Batch) (held : Held) (kept : held ≡ kept_of seen) where
+    pub reply_found : (origin : Origin) (reply octets : List ℕ) → walk_reply_in Both held question now ≡ Some reply → Some origin ≡ origin_in Both held question now → octets ≡ marked question (is_synthesized origin) reply → found seen question now ≡ Some (found_as octets origin)
+    reply_found origin reply octets is from mark =
+        shown_of (walk_in Both (held_of seen) question now) origin reply octets
+        (sym (reply_as_held Both seen held question now kept) ∙ is) (from ∙ origin_as_held Both seen held question now kept) mark
+
+    pub none_found : None ≡ origin_in Both held question now → found seen question now ≡ None
+    none_found from = shown_none (walk_in Both (held_of seen) question now) (from ∙ origin_as_held Both seen held question now kept)

@@ -1,18 +1,22 @@
 -- A tick, slot by slot.
-use Rattle.std.proofs.Common.{◌≡◌, ◌∙◌, ℕ, suc, ◌+◌, ◌<◌, ◌≤◌, Bool, true, false, cond, List, [], ◌∷◌, ◌++◌, length, map, take, drop, get_or, set, All, Option, None, Some, refl, sym, ap, arith}
-use Rattle.std.specs.Prelude.{IfSome, not}
-use Rattle.std.specs.Prelude.{replicate}
-use Rattle.std.proofs.lemmas.List.Elements.{All-replicate, All-set}
+use Rattle.std.proofs.Common.{◌≡◌, ◌∙◌, ℕ, suc, ◌+◌, ◌<◌, ◌≤◌, Bool, true, false, cond, List, [], ◌∷◌, ◌++◌, length, map, take, drop, get_or, set, All, Option, None, Some, refl, sym, ap, arith, length-append}
+use Rattle.std.specs.Prelude.{◌%◌, ◌^◌, ◌&&◌, IfSome, filter, not, replicate}
+use Rattle.std.proofs.Math.Nat.{add-mod-mod, mod-add-mod}
+use Rattle.std.proofs.lemmas.List.Elements.{All-replicate, All-set, filter-append}
 use Rattle.std.proofs.lemmas.Bool.{and_parts, false≢true, not-true}
-use Rattle.std.proofs.lemmas.List.{append-nil, append_assoc, drop_all, drop_more, drop-drop, drop-set-lt, get_or-drop, take_all, take_more_set}
+use Rattle.std.proofs.lemmas.List.{append-nil, append_assoc, drop_all, drop_more, drop-drop, drop-set-lt, get_or-drop, take_all, take_more, take_more_set}
 use Rattle.dnswire.specs.declared.question.Question.{Question}
 use Rattle.reply_core.specs.Ask.{ask_octets}
+use Rattle.counters.specs.Counts.{count_of, counted, index_of, times, with_tally}
+use Rattle.counters.specs.declared.counter.Counter.TheVariants as counters
+use Rattle.counters.proofs.CountLemmas.{none_more}
+use Rattle.waiting_table.specs.declared.client.Client.{Client}
 use Rattle.waiting_table.specs.Waiting.{Slot, Waiting, clients_in, is_due, slot_at}
-use Rattle.waiting_table.specs.Steps.{again_in, is_due_in, is_late_in, is_quiet, ticked, ticked_slot}
+use Rattle.waiting_table.specs.Steps.{again_in, is_due_in, is_late_in, is_quiet, late_clients, late_in, ticked, ticked_slot}
 use Rattle.forwarding.specs.declared.sent.Sent.{Sent}
 use Rattle.forwarding.specs.Lawful.{Told, more_sent}
 use Rattle.forwarding.proofs.LawfulLemmas.{whole_nexts}
-use Rattle.forwarding.specs.Done.{failed, tick_sends, ticks_from, to_upstream}
+use Rattle.forwarding.specs.Done.{due_in, failed, tick_done, tick_sends, ticks_from, to_upstream}
 
 -- ---- the IDs
 
@@ -79,6 +83,98 @@ quiet_sends now slot ids (s ∷ ss) quiet =
     let one = rest_sends now slot (get_or ids 0 0) s here.0 here.1 in
     let rest = quiet_sends now (suc slot) (drop 1 ids) ss (λ k h. quiet (suc k) (omega arith)) in
     (λ i. one i ++ rest i)
+
+-- ---- what is counted
+
+late_append : (now : ℕ) (front back : List Slot) → late_clients now (front ++ back) ≡ late_clients now front ++ late_clients now back
+late_append now [] back = refl
+late_append now (s ∷ front) back = ap (λ (l : List Client). late_in now s ++ l) (late_append now front back) ∙ sym (append_assoc (late_in now s) (late_clients now front) (late_clients now back))
+
+pub late_next : (now : ℕ) (table : List Slot) (i number number' here : ℕ) → i < length table → number ≡ length (late_clients now (take i table)) % 2 ^ 64 → here ≡ length (late_in now (slot_at table i)) → number' ≡ (number + here) % 2 ^ 64
+    → number' ≡ length (late_clients now (take (i + 1) table)) % 2 ^ 64
+late_next now table i number number' here within so_far is sum =
+    let before = late_clients now (take i table) in
+    let one = late_in now (slot_at table i) in
+    let all : length (late_clients now (take (i + 1) table)) ≡ length before + length one = ap (λ (l : List Slot). length (late_clients now l)) (take_more table i None within)
+    ∙ ap length (late_append now (take i table) (slot_at table i ∷ [])) ∙ length-append before (one ++ []) ∙ ap (λ (l : List Client). length before + length l) (append-nil one) in
+    sum
+    ∙ ap (λ (n : ℕ). (n + here) % 2 ^ 64) so_far
+    ∙ mod-add-mod (length before) (2 ^ 64) here
+    ∙ ap (λ (n : ℕ). (length before + n) % 2 ^ 64) is
+    ∙ ap (λ (n : ℕ). n % 2 ^ 64) (sym all)
+
+abbrev pub asked_again : ℕ → Slot → Bool
+asked_again now s = not (is_late_in now s) && is_due_in now s
+
+due_after : (now : ℕ) (table : List Slot) (i : ℕ) (test : Bool) → i < length table → test ≡ asked_again now (slot_at table i) → due_in now (take (i + 1) table) ≡ due_in now (take i table) + cond test 1 0
+due_after now table i test within is =
+    ap (λ (l : List Slot). due_in now l) (take_more table i None within)
+    ∙ ap length (filter-append (asked_again now) (take i table) (slot_at table i ∷ []))
+    ∙ length-append (filter (asked_again now) (take i table)) (filter (asked_again now) (slot_at table i ∷ []))
+    ∙ ap (λ (b : Bool). due_in now (take i table) + length (cond b (slot_at table i ∷ []) [])) (sym is)
+    ∙ one_of test
+  where
+    one_of : (b : Bool) → due_in now (take i table) + length (cond b (slot_at table i ∷ []) []) ≡ due_in now (take i table) + cond b 1 0
+    one_of true = refl
+    one_of false = refl
+
+pub due_more : (now : ℕ) (table : List Slot) (i number : ℕ) (test : Bool) → i < length table → number ≡ due_in now (take i table) → test ≡ asked_again now (slot_at table i) → test ≡ true → number + 1 ≡ due_in now (take (i + 1) table)
+due_more now table i number test within so_far is yes_is =
+    ap (λ (n : ℕ). n + 1) so_far ∙ sym (due_after now table i true within (sym yes_is ∙ is))
+
+pub due_same : (now : ℕ) (table : List Slot) (i number : ℕ) (test : Bool) → i < length table → number ≡ due_in now (take i table) → test ≡ asked_again now (slot_at table i) → test ≡ false → number ≡ due_in now (take (i + 1) table)
+due_same now table i number test within so_far is no_is =
+    let zero : due_in now (take i table) ≡ due_in now (take i table) + 0 = omega arith in
+    so_far ∙ zero ∙ sym (due_after now table i false within (sym no_is ∙ is))
+
+late_is : (now : ℕ) (s : Slot) → is_late_in now s ≡ true → late_in now s ≡ clients_in s
+late_is now None late = refl
+late_is now (Some w) late = ap (λ (b : Bool). cond b (clients_in (Some w)) []) late
+
+late_is_not : (now : ℕ) (s : Slot) → is_late_in now s ≡ false → late_in now s ≡ []
+late_is_not now None late = refl
+late_is_not now (Some w) late = ap (λ (b : Bool). cond b (clients_in (Some w)) []) late
+
+pub late_counted : (now number : ℕ) (s : Slot) → is_late_in now s ≡ true → number ≡ length (clients_in s) → number ≡ length (late_in now s)
+late_counted now number s late is = is ∙ ap length (sym (late_is now s late))
+
+pub none_late : (now : ℕ) (s : Slot) → is_late_in now s ≡ false → 0 ≡ length (late_in now s)
+none_late now s late = ap length (sym (late_is_not now s late))
+
+-- where nothing is due a tick counts nothing
+pub quiet_late : (now : ℕ) (table : List Slot) → ((k : ℕ) → k < length table → is_quiet now (slot_at table k) ≡ true) → late_clients now table ≡ []
+quiet_late now [] quiet = refl
+quiet_late now (s ∷ ss) quiet =
+    let here = late_is_not now s (quiet_parts now s (quiet 0 (omega arith))).0 in
+    let rest = quiet_late now ss (λ k h. quiet (suc k) (omega arith)) in
+    (λ i. here i ++ rest i)
+
+pub quiet_due : (now : ℕ) (table : List Slot) → ((k : ℕ) → k < length table → is_quiet now (slot_at table k) ≡ true) → due_in now table ≡ 0
+quiet_due now [] quiet = refl
+quiet_due now (s ∷ ss) quiet =
+    let here = quiet_parts now s (quiet 0 (omega arith)) in
+    let test : asked_again now s ≡ false = (λ i. not (here.0 i) && here.1 i) in
+    let rest = quiet_due now ss (λ k h. quiet (suc k) (omega arith)) in
+    ap (λ (b : Bool). length (cond b (s ∷ filter (asked_again now) ss) (filter (asked_again now) ss))) test ∙ rest
+
+-- and leaves the counts as they are, which are each below 2^64
+pub quiet_counts : (now : ℕ) (ids : List ℕ) (table : List Slot) (counts : List ℕ) → ((k : ℕ) → k < length table → is_quiet now (slot_at table k) ≡ true)
+    → count_of counts counters.Late < 2 ^ 64 → count_of counts counters.AskedAgain < 2 ^ 64 → counted (tick_done now ids table).tallies counts ≡ counts
+quiet_counts now ids table counts quiet late again =
+    let first = ap (λ (l : List Client). with_tally counts (times (length l) counters.Late)) (quiet_late now table quiet) ∙ none_more counts counters.Late late in
+    ap (λ (l : List ℕ). with_tally l (times (due_in now table) counters.AskedAgain)) first
+    ∙ ap (λ (n : ℕ). with_tally counts (times n counters.AskedAgain)) (quiet_due now table quiet)
+    ∙ none_more counts counters.AskedAgain again
+
+-- late clients modulo 2^64 and those that are due are counted as all are
+pub tick_counted : (now : ℕ) (table : List Slot) (counts counts' : List ℕ) (late due : ℕ) → late ≡ length (late_clients now table) % 2 ^ 64 → counts' ≡ with_tally counts (times late counters.Late) → due ≡ due_in now table
+    → with_tally counts' (times due counters.AskedAgain) ≡ counted (tick_done now [] table).tallies counts
+tick_counted now table counts counts' late due late_is counting due_is =
+    let all = length (late_clients now table) in
+    let first : counts' ≡ with_tally counts (times all counters.Late) = counting ∙ ap (λ (n : ℕ). with_tally counts (times n counters.Late)) late_is
+    ∙ ap (set counts (index_of counters.Late)) (add-mod-mod (count_of counts counters.Late) all (2 ^ 64)) in
+    ap (λ (l : List ℕ). with_tally l (times due counters.AskedAgain)) first
+    ∙ ap (λ (n : ℕ). with_tally (with_tally counts (times all counters.Late)) (times n counters.AskedAgain)) due_is
 
 -- ---- one more slot
 

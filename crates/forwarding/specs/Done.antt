@@ -1,6 +1,9 @@
 -- What one event does, by the table of the questions that wait, and the batches of one version.
-use Rattle.std.specs.Prelude.{◌≡◌, ℕ, suc, ◌==◌, ◌&&◌, ◌||◌, Bool, true, false, nat_le, if◌then◌else◌, List, [], ◌∷◌, ◌++◌, length, map, drop, get_or, Option, Some, None, Result, Ok, Err}
+use Rattle.std.specs.Prelude.{◌≡◌, ℕ, suc, ◌==◌, ◌&&◌, ◌||◌, Bool, true, false, nat_le, if◌then◌else◌, List, [], ◌∷◌, ◌++◌, length, map, drop, filter, get_or, not, Option, option_map, Some, None, Result, Ok, Err}
 use Rattle.byteorder.specs.Endian.{big_number}
+use Rattle.counters.specs.Counts.{Tally, times}
+use Rattle.counters.specs.declared.counter.Counter.{Counter}
+use Rattle.counters.specs.declared.counter.Counter.TheVariants as counters
 use Rattle.dname.specs.Name.{Label}
 use Rattle.dnswire.specs.Header.{is_answer, has_tc}
 use Rattle.dnswire.specs.Message.{IsMessage}
@@ -15,18 +18,23 @@ use Rattle.cache_meaning.specs.Held.{held_of}
 use Rattle.intake.specs.Batch.{Gives}
 use Rattle.intake.specs.declared.taken.Taken.{Taken}
 use Rattle.intake.specs.declared.intake_fault.IntakeFault.{IntakeFault}
+use Rattle.intake.specs.declared.intake_fault.IntakeFault.TheVariants as faults
 use Rattle.reply_core.specs.Ask.{ask_octets}
 use Rattle.reply_core.specs.Error.{error_octets, plain_octets}
-use Rattle.reply_core.specs.Relay.{relay_octets}
 use Rattle.reply_core.specs.Reply.{flag}
-use Rattle.reply_core.specs.declared.rcode.TheConstants.{NO_ERROR, FORMAT_ERROR, SERVER_FAILURE, NAME_ERROR, NOT_IMPLEMENTED, BAD_VERSION}
-use Rattle.resolver.specs.WalkReply.{walk_reply_in}
+use Rattle.reply_core.specs.declared.rcode.TheConstants.{NO_ERROR, FORMAT_ERROR, SERVER_FAILURE, NAME_ERROR, NOT_IMPLEMENTED, REFUSED, BAD_VERSION}
+use Rattle.resolver.specs.Origin.{is_synthesized, origin_of}
+use Rattle.resolver.specs.Walk.{Walk}
+use Rattle.resolver.specs.WalkReply.{octets_at, walk_in}
+use Rattle.resolver.specs.declared.origin.Origin.{Origin}
+use Rattle.resolver.specs.declared.origin.Origin.TheVariants as origins
 use Rattle.resolver.specs.declared.rule.Rule.TheVariants.{Both}
 use Rattle.waiting_table.specs.Waiting.{Slot, client_of, clients_in, clients_of, fits, has_id, is_due, is_late, slot_at}
-use Rattle.waiting_table.specs.Steps.{freed, given_up, place_for, placed, ticked}
+use Rattle.waiting_table.specs.Steps.{freed, given_up, is_due_in, is_late_in, late_clients, place_for, placed, ticked}
 use Rattle.waiting_table.specs.declared.client.Client.{Client}
 use Rattle.waiting_table.specs.declared.place.Place.{Place}
 use Rattle.waiting_table.specs.declared.place.Place.TheVariants.{Joins, Fills, Replaces}
+use Rattle.forwarding.specs.ExtendedError.{marked, told_relay}
 use Rattle.forwarding.specs.Passed.{is_passed, stored_of}
 use Rattle.forwarding.specs.declared.event.Event.{Event}
 use Rattle.forwarding.specs.declared.event.Moment.{Moment}
@@ -57,23 +65,30 @@ trusted message =
     if (message.rcode == NO_ERROR) || (message.rcode == NAME_ERROR) then message
     else record message { flags = flag (has_tc message.flags) TC }
 
--- the client gets the message as the answer to its own question
+-- the client gets the message as the answer to its own question, with the upstream's extended errors
 abbrev pub answered : Message → Client → Sent
-answered message client = to_client client.number (relay_octets client.question message)
+answered message client = to_client client.number (told_relay client.question message)
 
 -- ---- what is done
 
--- the table after it, what is sent, in order, and the batch that is placed before anything is sent
+-- the table after it, what is sent, in order, the batch that is placed before anything is sent, and what is counted
 pub record Done : Type 0 where
   pub table : List Slot
   pub sends : List Sent
   pub batch : Option Batch
+  pub tallies : List Tally
 
-abbrev pub done_as : List Slot → List Sent → Option Batch → Done
-done_as table sends batch = record { table = table; sends = sends; batch = batch }
+abbrev pub done_as : List Slot → List Sent → Option Batch → List Tally → Done
+done_as table sends batch tallies = record { table = table; sends = sends; batch = batch; tallies = tallies }
 
-abbrev pub silent : List Slot → Done
-silent table = done_as table [] None
+-- nothing but the count
+abbrev pub silent : List Slot → Counter → Done
+silent table counter = done_as table [] None (times 1 counter ∷ [])
+
+-- one reply to one client, which is counted so
+abbrev pub told_once : List Slot → ℕ → List ℕ → Counter → Done
+told_once table number octets counter =
+    done_as table (to_client number octets ∷ []) None (times 1 counter ∷ [])
 
 -- ---- a query
 
@@ -83,36 +98,70 @@ asking id question (Joins slot) = []
 asking id question (Fills slot) = to_upstream slot (ask_octets question id) ∷ []
 asking id question (Replaces slot) = to_upstream slot (ask_octets question id) ∷ []
 
+abbrev pub waiting_tallies : List Slot → Place → List Tally
+waiting_tallies table (Joins slot) = times 1 counters.Joined ∷ []
+waiting_tallies table (Fills slot) = times 1 counters.Asked ∷ []
+waiting_tallies table (Replaces slot) =
+    times (length (given_up table (Replaces slot))) counters.Full ∷ times 1 counters.Asked ∷ []
+
 -- the client waits for the answer; those of a question that is given up for it are told of a failed server
 abbrev pub waits : List Slot → ℕ → ℕ → Client → Done
 waits table now id client =
     let place = place_for client.question table in
     done_as (placed now id client table place)
     (map failed (given_up table place) ++ asking id client.question place) None
+    (waiting_tallies table place)
+
+-- a reply from held records, and from what it is made
+pub record Found : Type 0 where
+  pub octets : List ℕ
+  pub origin : Origin
+
+abbrev pub found_as : List ℕ → Origin → Found
+found_as octets origin = record { octets = octets; origin = origin }
+
+-- what a query is counted as that the cache answers
+abbrev pub counter_of : Origin → Counter
+counter_of origins.Set = counters.Set
+counter_of origins.NoData = counters.NoData
+counter_of origins.NameError = counters.NameError
+counter_of origins.Wildcard = counters.Wildcard
+counter_of (origins.Alias synthesized) = counters.Alias
+counter_of (origins.Redirection synthesized) = counters.Redirection
 
 -- a reply goes to the client, or it waits
-abbrev pub queried : List Slot → ℕ → ℕ → Client → Option (List ℕ) → Done
-queried table now id client (Some reply) =
-    done_as table (to_client client.number reply ∷ []) None
+abbrev pub queried : List Slot → ℕ → ℕ → Client → Option Found → Done
+queried table now id client (Some found) =
+    told_once table client.number found.octets (counter_of found.origin)
 queried table now id client None = waits table now id client
 
--- what the records of the version prove, by aliases and redirections, of a question at or below no passed name
-abbrev pub proved : List (List Label) → List Batch → Question → ℕ → Option (List ℕ)
+-- the reply of a walk at a moment, marked as synthesized where a denial or a wildcard has part in it and the mark fits
+abbrev pub shown : Question → ℕ → Walk → Found
+shown question now walk = record {
+  octets = marked question (is_synthesized (origin_of walk)) (octets_at question now walk);
+  origin = origin_of walk;
+}
+
+-- what the records of the version prove of the question, by aliases and redirections
+abbrev pub found : List Batch → Question → ℕ → Option Found
+found seen question now = option_map (shown question now) (walk_in Both (held_of seen) question now)
+
+-- the same of a question at or below no passed name
+abbrev pub proved : List (List Label) → List Batch → Question → ℕ → Option Found
 proved passed seen question now =
-    if is_passed passed question.name then None
-    else walk_reply_in Both (held_of seen) question now
+    if is_passed passed question.name then None else found seen question now
 
 -- A datagram that gets no reply, a fault, whose reply is told at once, or a query. The RCODE is 4 for another opcode than that
 -- of a standard query, 1 for what can't be read (RFC 1035, section 4.1.1), 16 for an OPT record of another version than 0
 -- (RFC 6891, section 6.1.3)
 abbrev pub query_done : List (List Label) → List Slot → Moment → ℕ → List Batch → ℕ → QueryRead → Done
-query_done passed table moment id seen number reads.Dropped = silent table
+query_done passed table moment id seen number reads.Dropped = silent table counters.Dropped
 query_done passed table moment id seen number (reads.NotImp head) =
-    done_as table (to_client number (error_octets head NOT_IMPLEMENTED) ∷ []) None
+    told_once table number (error_octets head NOT_IMPLEMENTED) counters.NotImplemented
 query_done passed table moment id seen number (reads.FormErr head) =
-    done_as table (to_client number (error_octets head FORMAT_ERROR) ∷ []) None
+    told_once table number (error_octets head FORMAT_ERROR) counters.FormatError
 query_done passed table moment id seen number (reads.BadVers question) =
-    done_as table (to_client number (plain_octets question BAD_VERSION) ∷ []) None
+    told_once table number (plain_octets question BAD_VERSION) counters.BadVersion
 query_done passed table moment id seen number (reads.Query question) =
     queried table moment.millis id (client_of number question) (proved passed seen question moment.seconds)
 
@@ -139,43 +188,77 @@ is_bare_for slot (Some id) = has_id id slot
 -- nobody waits any longer for the slot's question: each client is told of a failed server
 abbrev pub gives_up : List Slot → ℕ → Done
 gives_up table slot =
-    done_as (freed slot table) (map failed (clients_in (slot_at table slot))) None
+    let clients = clients_in (slot_at table slot) in
+    done_as (freed slot table) (map failed clients) None (times (length clients) counters.Unreadable ∷ [])
+
+abbrev pub relayed_with : ℕ → Counter
+relayed_with rcode =
+    if rcode == NO_ERROR then counters.RelayedNoError
+    else (if rcode == NAME_ERROR then counters.RelayedNameError
+    else (if rcode == SERVER_FAILURE then counters.RelayedServerFailure
+    else (if rcode == REFUSED then counters.RelayedRefused else counters.RelayedOther)))
+
+-- what is stored of an answer, and what it is counted as
+pub record Storing : Type 0 where
+  pub batch : Option Batch
+  pub counter : Counter
+
+abbrev pub storing : Option Batch → Counter → Storing
+storing batch counter = record { batch = batch; counter = counter }
 
 -- each client gets the answer
-abbrev pub relays : List Slot → ℕ → Message → Option Batch → Done
-relays table slot message batch =
-    done_as (freed slot table) (map (answered (trusted message)) (clients_in (slot_at table slot))) batch
+abbrev pub relays : List Slot → ℕ → Message → Storing → Done
+relays table slot message stored =
+    let clients = clients_in (slot_at table slot) in
+    done_as (freed slot table) (map (answered (trusted message)) clients) stored.batch
+    (times 1 stored.counter ∷ times (length clients) (relayed_with message.rcode) ∷ [])
 
--- what intake takes of an answer is placed, but for what stands at passed names; what it refuses is passed over
-abbrev pub batch_in : List (List Label) → Result Taken IntakeFault → Option Batch
-batch_in passed (Ok taken) = stored_of passed taken.batch
-batch_in passed (Err fault) = None
+-- why intake refuses an answer
+abbrev pub refusal_of : IntakeFault → Counter
+refusal_of (faults.Malformed fault) = counters.Malformed
+refusal_of faults.NotResponse = counters.NotResponse
+refusal_of faults.Truncated = counters.Truncated
+refusal_of (faults.Rcode rcode) = counters.OtherRcode
+refusal_of faults.NotAuthentic = counters.NotAuthentic
+refusal_of (faults.Nothing skipped) = counters.NothingToStore
+refusal_of faults.OutOfMemory = counters.Unstored
 
--- the batch of the octets, unless memory is wanted for it
-abbrev pub IsBatchOf : List (List Label) → List ℕ → ℕ → Want → Option Batch → Type 0
-IsBatchOf passed octets now Nothing batch =
-    (given : Result Taken IntakeFault) × Gives octets now given × (batch ≡ batch_in passed given)
-IsBatchOf passed octets now ToRead batch = ⊥
-IsBatchOf passed octets now ToStore batch = batch ≡ None
+abbrev pub stored_as : Option Batch → Storing
+stored_as None = storing None counters.Passed
+stored_as (Some batch) = storing (Some batch) counters.Stored
+
+-- what intake takes of an answer is placed, but for what stands at passed names or leads there; what it refuses is passed over
+abbrev pub storing_in : List (List Label) → Result Taken IntakeFault → Storing
+storing_in passed (Ok taken) = stored_as (stored_of passed taken.batch)
+storing_in passed (Err fault) = storing None (refusal_of fault)
+
+-- what is stored of the octets, unless memory is wanted for it
+abbrev pub IsStoringOf : List (List Label) → List ℕ → ℕ → Want → Storing → Type 0
+IsStoringOf passed octets now Nothing stored =
+    (given : Result Taken IntakeFault) × Gives octets now given × (stored ≡ storing_in passed given)
+IsStoringOf passed octets now ToRead stored = ⊥
+IsStoringOf passed octets now ToStore stored = stored ≡ storing None counters.Unstored
 
 -- the answer is relayed where it is one to the slot's question (RFC 5452, section 9.1); any other is passed over
 abbrev pub IsDoneOf : List (List Label) → List Slot → ℕ → ℕ → List ℕ → Want → Message → Bool → Done → Type 0
-IsDoneOf passed table slot now octets want message false done = (want ≡ Nothing) × (done ≡ silent table)
+IsDoneOf passed table slot now octets want message false done =
+    (want ≡ Nothing) × (done ≡ silent table counters.Ignored)
 IsDoneOf passed table slot now octets want message true done =
-    (batch : Option Batch) × IsBatchOf passed octets now want batch
-    × (done ≡ relays table slot message batch)
+    (stored : Storing) × IsStoringOf passed octets now want stored
+    × (done ≡ relays table slot message stored)
 
 abbrev pub IsAnswerDone : List (List Label) → List Slot → ℕ → ℕ → List ℕ → Want → Option Message → Done → Type 0
 IsAnswerDone passed table slot now octets want None done =
     (want ≡ Nothing)
-    × (done ≡ (if is_bare_for (slot_at table slot) (bare_id octets) then gives_up table slot else silent table))
+    × (done ≡ (if is_bare_for (slot_at table slot) (bare_id octets) then gives_up table slot
+    else silent table counters.Ignored))
 IsAnswerDone passed table slot now octets want (Some message) done =
     IsDoneOf passed table slot now octets want message
     (fits message.id message.name message.qtype message.qclass (slot_at table slot)) done
 
 -- where memory is wanted to read it, it is passed over
 abbrev pub IsAnswered : List (List Label) → List Slot → ℕ → ℕ → List ℕ → Want → Done → Type 0
-IsAnswered passed table slot now octets ToRead done = done ≡ silent table
+IsAnswered passed table slot now octets ToRead done = done ≡ silent table counters.Unread
 IsAnswered passed table slot now octets Nothing done =
     (answer : Option Message) × IsAnswer octets answer
     × IsAnswerDone passed table slot now octets Nothing answer done
@@ -198,8 +281,14 @@ ticks_from now slot ids [] = []
 ticks_from now slot ids (first ∷ more) =
     tick_sends now slot (get_or ids 0 0) first ++ ticks_from now (suc slot) (drop 1 ids) more
 
+-- how many questions are asked again
+abbrev pub due_in : ℕ → List Slot → ℕ
+due_in now table = length (filter (λ slot. not (is_late_in now slot) && is_due_in now slot) table)
+
 abbrev pub tick_done : ℕ → List ℕ → List Slot → Done
-tick_done now ids table = done_as (ticked now ids table) (ticks_from now 0 ids table) None
+tick_done now ids table =
+    done_as (ticked now ids table) (ticks_from now 0 ids table) None
+    (times (length (late_clients now table)) counters.Late ∷ times (due_in now table) counters.AskedAgain ∷ [])
 
 -- ---- any event
 

@@ -1,7 +1,8 @@
 -- What may be sent: what the events received so far call for, by the history of the cache.
 use Rattle.std.specs.Prelude.{◌≡◌, ℕ, ◌<◌, Bool, List, [], ◌∷◌, ◌++◌, length, map, Option, option_map, IfSome}
-use Rattle.std.specs.List.{All}
+use Rattle.std.specs.List.{All, flat_map}
 use mathlib.Core.List.{IsPrefix}
+use Rattle.counters.specs.Counts.{counted, no_counts}
 use Rattle.dname.specs.Name.{Label}
 use Rattle.denial_records.specs.declared.batch.Batch.{Batch}
 use Rattle.waiting_table.specs.Waiting.{Slot, empty_table}
@@ -56,36 +57,46 @@ abbrev pub left_by : List Slot → List Turn → List Slot
 left_by table [] = table
 left_by table (turn ∷ later) = left_by turn.done.table later
 
--- all that was received was done, and all of it was sent
-pub record HasServed (passed : List (List Label)) (history : List Batch) (table : List Slot) (told : Told) : Type 0 where
+-- what all of them counted
+abbrev pub counts_of : List Turn → List ℕ
+counts_of turns = counted (flat_map (λ turn. turn.done.tallies) turns) no_counts
+
+-- all that was received was done, all of it was sent, and it was counted
+pub record HasServed (passed : List (List Label)) (history : List Batch) (table : List Slot) (counts : List ℕ) (told : Told) : Type 0 where
   pub turns : List Turn
   pub events_are : told.received ≡ map (λ turn. turn.event) turns
   pub are : AreTurns passed history empty_table turns
   pub sent_are : told.sent ≡ sends_of turns
   pub left : table ≡ left_by empty_table turns
+  pub counts_are : counts ≡ counts_of turns
 
 -- where the outlet tells what it carried
-abbrev pub IsAtWork : List (List Label) → List Batch → List Slot → Option Told → Type 0
-IsAtWork passed history table told = IfSome told (HasServed passed history table)
+abbrev pub IsAtWork : List (List Label) → List Batch → List Slot → List ℕ → Option Told → Type 0
+IsAtWork passed history table counts told = IfSome told (HasServed passed history table counts)
 
 -- so it was, and then this event came
-pub record HasCome (passed : List (List Label)) (history : List Batch) (table : List Slot) (event : Event) (told : Told) : Type 0 where
+pub record HasCome (passed : List (List Label)) (history : List Batch) (table : List Slot) (counts : List ℕ) (event : Event) (told : Told) : Type 0 where
   pub before : Told
-  pub served : HasServed passed history table before
+  pub served : HasServed passed history table counts before
   pub told_is : told ≡ with_event event before
 
-abbrev pub IsCalled : List (List Label) → List Batch → List Slot → Event → Option Told → Type 0
-IsCalled passed history table event told = IfSome told (HasCome passed history table event)
+abbrev pub IsCalled : List (List Label) → List Batch → List Slot → List ℕ → Event → Option Told → Type 0
+IsCalled passed history table counts event told = IfSome told (HasCome passed history table counts event)
 
--- What an event does by the version that was seen, with these IDs drawn, may be sent, all of it; once it was sent, the worker has
--- served
+-- where the outlet tells what it carried, these are the counts of all that was received
+abbrev pub MayShow : List (List Label) → List Batch → Option Told → List ℕ → Type 0
+MayShow passed history told counts = (table : List Slot) × IsAtWork passed history table counts told
+
+-- What an event does by the version that was seen, with these IDs drawn, may be sent, all of it; once it was sent and counted, the
+-- worker has served
 abbrev pub EachTurnIsLawful : Type 0
 EachTurnIsLawful =
-    (passed : List (List Label)) (history : List Batch) (table : List Slot) (event : Event)
+    (passed : List (List Label)) (history : List Batch) (table : List Slot) (counts : List ℕ) (event : Event)
     (ids : List ℕ) (want : Want) (done : Done) (placed : Bool) (told told' : Option Told)
-    → IsCalled passed history table event told
+    → IsCalled passed history table counts event told
     → IsDone passed table history event ids want done
     → All (λ id. id < 65536) ids
     → IsKeptAt history (length history) done.batch placed
     → MaySendAll passed history told done.sends
-    × (told' ≡ more_sent told done.sends → IsAtWork passed history done.table told')
+    × (told' ≡ more_sent told done.sends
+    → IsAtWork passed history done.table (counted done.tallies counts) told')

@@ -2,6 +2,10 @@ pub mod Passed
 pub mod Done
 pub mod Turn
 pub mod Lawful
+pub mod Laws
 pub mod Stored
 pub mod Ends
+pub mod Holding
 pub mod MemoryOutlet
+pub mod Options
+pub mod ExtendedError

@@ -1,22 +1,29 @@
 -- An outlet in memory.
 use Rattle.std.specs.Prelude.{ℕ, ◌-◌, List, [], ◌∷◌, ◌++◌}
 use Rattle.std.specs.List.{flat_map}
+use Rattle.counters.specs.Counts.{no_counts}
+use Rattle.forwarding.specs.Holding.{holding_of}
 use Rattle.forwarding.specs.Lawful.{Told}
 use Rattle.forwarding.specs.declared.carried.Carried.{Carried}
 use Rattle.forwarding.specs.declared.carried.Carried.TheVariants.{Received, Given}
 use Rattle.forwarding.specs.declared.event.Event.{Event}
+use Rattle.forwarding.specs.declared.holding.Holding.{Holding}
 use Rattle.forwarding.specs.declared.sent.Receiver.{Receiver}
 use Rattle.forwarding.specs.declared.sent.Sent.{Sent}
 
--- what went over it, in turn, the events that are still to come, and how many more datagrams it has room to send
+-- what went over it, in turn, the events that are still to come, how many more datagrams it has room to send, and the counts and what
+-- is held that it was shown last
 pub record Carrying : Type 0 where
   pub carried : List Carried
   pub left : List Event
   pub room : ℕ
+  pub shown : List ℕ
+  pub holding : Holding
 
 -- the outlet before its first call
 abbrev pub outlet_of : List Event → ℕ → Carrying
-outlet_of events room = record { carried = []; left = events; room = room }
+outlet_of events room =
+    record { carried = []; left = events; room = room; shown = no_counts; holding = holding_of [] }
 
 -- the events that were received
 abbrev pub received_by : Carried → List Event
@@ -51,3 +58,7 @@ after_giving sent outlet = record outlet {
   carried = outlet.carried ++ Given sent ∷ [];
   room = outlet.room - 1;
 }
+
+-- after it was shown these counts, and that this is held
+abbrev pub after_showing : List ℕ → Holding → Carrying → Carrying
+after_showing counts holding outlet = record outlet { shown = counts; holding = holding }

@@ -1,18 +1,21 @@
 //! An answer of the upstream.
-ghost use Rattle.std.specs.Prelude.{◌≡◌, ◌≤◌, ◌<◌, Some, None, IfOk, IfSome, OnOk};
+ghost use Rattle.std.specs.Prelude.{◌≡◌, ◌≤◌, ◌<◌, length, Some, None, IfOk, IfSome, OnOk};
 ghost use Rattle.cache_versions.specs.Seats.{seen_by};
+ghost use Rattle.counters.specs.Counts.{times, with_tally};
 ghost use Rattle.resolver.specs.Caches.{IsSeatOf};
 ghost use Rattle.dnswire.specs.declared.wire_fault.WireFault.{WireFault};
 ghost use Rattle.reply_core.specs.declared.rcode.TheConstants.{MAX_RCODE};
-ghost use Rattle.waiting_table.specs.Waiting.{slot_at};
+ghost use Rattle.waiting_table.specs.Waiting.{clients_in, slot_at};
 ghost use Rattle.waiting_table.specs.declared.waiting_table.TheConstants.{SLOTS};
 ghost use Rattle.forwarding.specs.declared.event.Came.TheVariants as comes;
-ghost use Rattle.forwarding.specs.Done.{IsAnswer, bare_id, is_bare_for, trusted};
+ghost use Rattle.forwarding.specs.Done.{IsAnswer, bare_id, is_bare_for, relayed_with, trusted};
 ghost use Rattle.forwarding.specs.Lawful.{IsAtWork, IsCalled};
 
+use crate::counting::relayed_with;
 use crate::storing::store;
 use crate::telling::{fail_all, relay_all};
 use crate::{Event, Outlet, PassedNames, each_turn_is_lawful};
+use counters::{Counter, Counts};
 use dname::{OutOfMemory, u16_at};
 use dnswire::flags::TC;
 use dnswire::{HeaderFlags, Message, WireFault, read_message};
@@ -32,6 +35,7 @@ pub(crate) fn serve_answer<R: Wait, O: Outlet>(
     seat: &mut CacheSeat,
     passed: &PassedNames,
     table: &mut WaitingTable,
+    counts: &mut Counts,
     event: &Event,
     slot: usize,
     out: &mut ReplyBuffer,
@@ -39,17 +43,20 @@ pub(crate) fn serve_answer<R: Wait, O: Outlet>(
     requires object { IsSeatOf cache.now seat.old }
     requires slot { slot < SLOTS }
     requires answer { event.now.came ≡ comes.Answer slot }
-    requires called { IsCalled passed.now (seen_by seat.old) table.old event.now
+    requires called { IsCalled passed.now (seen_by seat.old) table.old counts.old event.now
         (O.Outlet.told outlet.old) }
     ensures object { IsSeatOf cache.now seat.new }
-    ensures work { IsAtWork passed.now (seen_by seat.new) table.new (O.Outlet.told outlet.new) }
+    ensures work { IsAtWork passed.now (seen_by seat.new) table.new counts.new
+        (O.Outlet.told outlet.new) }
 {
-    each_turn_is_lawful();
     match answer_in(alloc, event) {
-        Err(_) => {}
-        Ok(None) => serve_bare(outlet, cache, seat, passed, table, event, slot, out),
+        Err(_) => {
+            each_turn_is_lawful();
+            counts.add(Counter::Unread, 1);
+        }
+        Ok(None) => serve_bare(outlet, cache, seat, passed, table, counts, event, slot, out),
         Ok(Some(message)) => serve_message(
-            rt, alloc, outlet, cache, seat, passed, table, event, slot, message, out,
+            rt, alloc, outlet, cache, seat, passed, table, counts, event, slot, message, out,
         ),
     }
 }
@@ -61,6 +68,7 @@ fn serve_bare<O: Outlet>(
     seat: &CacheSeat,
     passed: &PassedNames,
     table: &mut WaitingTable,
+    counts: &mut Counts,
     event: &Event,
     slot: usize,
     out: &mut ReplyBuffer,
@@ -69,14 +77,17 @@ fn serve_bare<O: Outlet>(
     requires slot { slot < SLOTS }
     requires answer { event.now.came ≡ comes.Answer slot }
     requires none { IsAnswer event.now.octets None }
-    requires called { IsCalled passed.now (seen_by seat.now) table.old event.now
+    requires called { IsCalled passed.now (seen_by seat.now) table.old counts.old event.now
         (O.Outlet.told outlet.old) }
-    ensures { IsAtWork passed.now (seen_by seat.now) table.new (O.Outlet.told outlet.new) }
+    ensures { IsAtWork passed.now (seen_by seat.now) table.new counts.new
+        (O.Outlet.told outlet.new) }
 {
     each_turn_is_lawful();
     if !is_bare_for(table, slot, event) {
+        counts.add(Counter::Ignored, 1);
         return;
     }
+    counts.add(Counter::Unreadable, table.clients(slot) as u64);
     fail_all(outlet, cache, seat, passed, table, slot, out);
     table.free(slot);
 }
@@ -114,6 +125,7 @@ fn serve_message<R: Wait, O: Outlet>(
     seat: &mut CacheSeat,
     passed: &PassedNames,
     table: &mut WaitingTable,
+    counts: &mut Counts,
     event: &Event,
     slot: usize,
     message: Message,
@@ -124,10 +136,11 @@ fn serve_message<R: Wait, O: Outlet>(
     requires answer { event.now.came ≡ comes.Answer slot }
     requires message { IsAnswer event.now.octets (Some message) }
     requires rcode { message.rcode ≤ MAX_RCODE }
-    requires called { IsCalled passed.now (seen_by seat.old) table.old event.now
+    requires called { IsCalled passed.now (seen_by seat.old) table.old counts.old event.now
         (O.Outlet.told outlet.old) }
     ensures object { IsSeatOf cache.now seat.new }
-    ensures work { IsAtWork passed.now (seen_by seat.new) table.new (O.Outlet.told outlet.new) }
+    ensures work { IsAtWork passed.now (seen_by seat.new) table.new counts.new
+        (O.Outlet.told outlet.new) }
 {
     each_turn_is_lawful();
     if !table.fits(
@@ -137,12 +150,23 @@ fn serve_message<R: Wait, O: Outlet>(
         message.qtype,
         message.qclass,
     ) {
+        counts.add(Counter::Ignored, 1);
         return;
     }
-    store(rt, alloc, cache, seat, passed, event);
+    counts.add(store(rt, alloc, cache, seat, passed, event), 1);
+    count_relay(table, slot, message.rcode, counts);
     let message = trusted(message);
     relay_all(outlet, cache, seat, passed, table, slot, &message, out);
     table.free(slot);
+}
+
+// Counts the clients that get an answer with the RCODE.
+fn count_relay(table: &WaitingTable, slot: usize, rcode: u16, counts: &mut Counts)
+    requires { slot < SLOTS }
+    ensures { counts.new ≡ with_tally counts.old
+        (times (length (clients_in (slot_at table.now slot))) (relayed_with rcode)) }
+{
+    counts.add(relayed_with(rcode), table.clients(slot) as u64);
 }
 
 // The message, with AD only where its RCODE lets it speak.

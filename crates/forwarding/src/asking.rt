@@ -1,29 +1,32 @@
 //! A client waits for the upstream's answer.
 ghost use Rattle.std.specs.Prelude.{◌≡◌, ◌<◌, ◌∷◌, [], map};
 ghost use Rattle.cache_versions.specs.Seats.{seen_by};
+ghost use Rattle.counters.specs.Counts.{counted};
 ghost use Rattle.resolver.specs.Caches.{IsSeatOf};
 ghost use Rattle.reply_core.specs.Ask.{ask_octets};
 ghost use Rattle.waiting_table.specs.Waiting.{client_of};
-ghost use Rattle.waiting_table.specs.Steps.{given_up, place_slot};
+ghost use Rattle.waiting_table.specs.Steps.{given_up, place_for, place_slot};
 ghost use Rattle.waiting_table.specs.declared.waiting_table.TheConstants.{SLOTS};
-ghost use Rattle.forwarding.specs.Done.{asking, failed, to_upstream, waits};
+ghost use Rattle.forwarding.specs.Done.{asking, failed, to_upstream, waiting_tallies, waits};
 ghost use Rattle.forwarding.specs.Lawful.{MaySend, MaySendAll, more_sent};
 
 use crate::telling::fail_all;
 use crate::{Outlet, PassedNames};
+use counters::{Counter, Counts};
 use dnswire::Question;
 use reply_core::{ReplyBuffer, write_ask};
 use resolver::{CacheSeat, SharedCache};
 use waiting_table::{Place, WaitingTable};
 
-/// The client waits from now on, in milliseconds: it joins, or its question is asked with the ID. Those of a question that is given
-/// up for it are told first.
+/// The client waits there from now on, in milliseconds: it joins, or its question is asked with the ID. Those of a question that is
+/// given up for it are told first.
 pub(crate) fn wait<O: Outlet>(
     outlet: &mut O,
     cache: &SharedCache,
     seat: &CacheSeat,
     passed: &PassedNames,
     table: &mut WaitingTable,
+    place: Place,
     client: u64,
     question: &Question,
     id: u16,
@@ -31,13 +34,14 @@ pub(crate) fn wait<O: Outlet>(
     out: &mut ReplyBuffer,
 )
     requires object { IsSeatOf cache.now seat.now }
+    requires place { place ≡ place_for question.now table.old }
+    requires within { place_slot place < SLOTS }
     requires lawful { MaySendAll passed.now (seen_by seat.now) (O.Outlet.told outlet.old)
         (waits table.old now id (client_of client question.now)).sends }
     ensures table { table.new ≡ (waits table.old now id (client_of client question.now)).table }
     ensures told { O.Outlet.told outlet.new ≡ more_sent (O.Outlet.told outlet.old)
         (waits table.old now id (client_of client question.now)).sends }
 {
-    let place = table.place_for(question);
     give_up(outlet, cache, seat, passed, table, place, out);
     ask_at(outlet, cache, seat, passed, place, question, id, out);
     table.enter(place, client, question, id, now);
@@ -111,4 +115,19 @@ pub(crate) fn ask<O: Outlet>(
 {
     write_ask(question, id, out);
     outlet.ask(cache, seat, passed, slot, out.as_slice());
+}
+
+/// Counts a client that is to wait there, and those of a question that is given up for it.
+pub(crate) fn count_wait(table: &WaitingTable, place: Place, counts: &mut Counts)
+    requires { place_slot place < SLOTS }
+    ensures { counts.new ≡ counted (waiting_tallies table.now place) counts.old }
+{
+    match place {
+        Place::Joins { slot: _ } => counts.add(Counter::Joined, 1),
+        Place::Fills { slot: _ } => counts.add(Counter::Asked, 1),
+        Place::Replaces { slot } => {
+            counts.add(Counter::Full, table.clients(slot) as u64);
+            counts.add(Counter::Asked, 1);
+        }
+    }
 }

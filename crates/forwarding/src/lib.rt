@@ -1,37 +1,53 @@
 //! A worker that forwards queries without end, and denies from the cache. Whatever it sends is lawful when it is sent: it is what the
 //! events that it received call for, by the one history of the cache.
 //!
-//! Its specs, in reading order: `Passed`, `Done`, `Turn`, `Lawful`; for the inner steps `Stored` and `Ends`, and for the
-//! outlet in memory `MemoryOutlet`.
+//! Its specs, in reading order: `Passed`, `Options` and `ExtendedError`, `Done`, `Turn`, `Lawful`, `Holding`, `Laws`; for the inner
+//! steps `Stored` and `Ends`, and for the outlet in memory `MemoryOutlet`.
 #![tactic(auto)]
 
 mod answering;
 mod asking;
 mod carried;
+mod counting;
 mod dice;
 mod event;
+mod extended_error;
+mod holding;
 mod laws;
+mod left_out;
 mod memory_outlet;
 mod name_ends;
+mod opt_options;
 mod outlet;
 mod own_names;
+mod passed_errors;
 mod passed_names;
 mod querying;
 mod sent;
 mod storing;
+mod synthesized;
 mod telling;
 mod ticking;
+mod told_laws;
 mod want;
 mod worker;
 
 pub use carried::Carried;
 pub use dice::Dice;
 pub use event::{Came, Event, Moment};
-pub use laws::each_turn_is_lawful;
+pub use extended_error::{EXTENDED_ERROR, SYNTHESIZED};
+pub use holding::Holding;
+pub use laws::{
+    each_query_is_replied_to_once, each_turn_is_a_step, each_turn_is_lawful, none_is_asked_twice,
+    none_waits_for_long, what_is_dropped,
+};
 pub use memory_outlet::MemoryOutlet;
 pub use outlet::Outlet;
 pub use own_names::OWN_NAMES;
+pub use passed_errors::write_told_relay;
 pub use passed_names::PassedNames;
 pub use sent::{Receiver, Sent};
+pub use synthesized::mark_synthesized;
+pub use told_laws::{a_mark_is_an_option, errors_are_passed_on};
 pub use want::Want;
 pub use worker::{serve_on, serve_some};

@@ -3,10 +3,12 @@ ghost use Rattle.std.specs.Prelude.{◌≡◌, ◌≤◌, ◌∷◌, [], length,
 ghost use Rattle.cache_versions.specs.Seats.{seen_by};
 ghost use Rattle.resolver.specs.Caches.{IsSeatOf};
 ghost use Rattle.forwarding.specs.Done.{to_client, to_upstream};
-ghost use Rattle.forwarding.specs.Lawful.{MaySend, with_event, with_sends};
-ghost use Rattle.forwarding.specs.MemoryOutlet.{after_giving, after_receipt, outlet_of, sent_to, told_by};
+ghost use Rattle.forwarding.specs.Holding.{holding_of};
+ghost use Rattle.forwarding.specs.Lawful.{MaySend, MayShow, with_event, with_sends};
+ghost use Rattle.forwarding.specs.MemoryOutlet.{after_giving, after_receipt, after_showing, outlet_of, sent_to, told_by};
 
-use crate::{Carried, Event, Outlet, PassedNames, Receiver, Sent};
+use crate::{Carried, Event, Holding, Outlet, PassedNames, Receiver, Sent};
+use counters::Counts;
 use outside_core::{DatagramOctets, OutOfMemory};
 use resolver::{CacheSeat, SharedCache};
 use std::alloc::{AllocError, Global};
@@ -23,6 +25,8 @@ pub struct MemoryOutlet<'a, R: Wait> {
     incoming: Vec<Event>,
     // How many more datagrams may be sent.
     room: usize,
+    shown: Counts,
+    holding: Holding,
 }
 
 impl<'a, R: Wait> Model for MemoryOutlet<'a, R> {
@@ -35,6 +39,8 @@ impl<'a, R: Wait> Model for MemoryOutlet<'a, R> {
       carried = o.carried.items;
       left = reverse o.incoming.items;
       room = o.room;
+      shown = o.shown;
+      holding = o.holding;
     } };
 
     ghost invariant = { λ o.
@@ -59,6 +65,11 @@ impl<'a, R: Wait> MemoryOutlet<'a, R> {
             carried: Vec::with_capacity(alloc, number)?,
             incoming,
             room,
+            shown: Counts::new(),
+            holding: Holding {
+                records: 0,
+                version: 0,
+            },
         })
     }
 
@@ -67,6 +78,20 @@ impl<'a, R: Wait> MemoryOutlet<'a, R> {
         ensures { result.now ≡ self.now.carried }
     {
         &self.carried
+    }
+
+    /// The counts that it was shown last: none, before the first tick.
+    pub fn shown(&self) -> &Counts
+        ensures { result.now ≡ self.now.shown }
+    {
+        &self.shown
+    }
+
+    /// What the version held of which it was told last: nothing, before the first tick.
+    pub fn holding(&self) -> Holding
+        ensures { result ≡ self.now.holding }
+    {
+        self.holding
     }
 
     // Keeps what is to be sent.
@@ -171,5 +196,27 @@ impl<'a, R: Wait> Outlet for MemoryOutlet<'a, R> {
     {
         let (_cache, _seat, _passed) = (cache, seat, passed);
         self.keep(Receiver::ToUpstream { slot }, octets);
+    }
+
+    fn show(
+        &mut self,
+        cache: &SharedCache,
+        seat: &CacheSeat,
+        passed: &PassedNames,
+        counts: &Counts,
+        holding: Holding,
+    )
+        requires object { IsSeatOf cache.now seat.now }
+        requires exact { MayShow passed.now (seen_by seat.now) (Some (told_by self.old))
+            counts.now }
+        requires holding { holding ≡ holding_of (seen_by seat.now) }
+        ensures told { told_by self.new ≡ told_by self.old }
+
+        // Beyond the trait: the outlet after the call follows from it.
+        ensures after { self.new ≡ after_showing counts.now holding self.old }
+    {
+        let (_cache, _seat, _passed) = (cache, seat, passed);
+        self.shown = counts.copy();
+        self.holding = holding;
     }
 }

@@ -3,9 +3,11 @@ ghost use Rattle.std.specs.Prelude.{◌≡◌, ◌≤◌, ◌∷◌, [], length,
 ghost use Rattle.cache_versions.specs.Seats.{seen_by};
 ghost use Rattle.resolver.specs.Caches.{IsSeatOf};
 ghost use Rattle.forwarding.specs.Done.{to_client, to_upstream};
-ghost use Rattle.forwarding.specs.Lawful.{MaySend, Told, more_received, more_sent};
+ghost use Rattle.forwarding.specs.Holding.{holding_of};
+ghost use Rattle.forwarding.specs.Lawful.{MaySend, MayShow, Told, more_received, more_sent};
 
-use crate::{Event, PassedNames};
+use crate::{Event, Holding, PassedNames};
+use counters::Counts;
 use resolver::{CacheSeat, SharedCache};
 use std::sync::Wait;
 
@@ -32,7 +34,8 @@ pub trait Outlet {
         requires fits { length octets.now ≤ 4096 }
         requires lawful { MaySend passed.now (seen_by seat.now) (told self.old)
             (to_client client octets.now) }
-        ensures { told self.new ≡ more_sent (told self.old) (to_client client octets.now ∷ []) };
+        ensures { told self.new
+            ≡ more_sent (told self.old) (to_client client octets.now ∷ []) };
 
     /// Gives a question to be sent to the upstream, over a new socket that is the slot's from then on.
     fn ask(
@@ -47,5 +50,20 @@ pub trait Outlet {
         requires fits { length octets.now ≤ 4096 }
         requires lawful { MaySend passed.now (seen_by seat.now) (told self.old)
             (to_upstream slot octets.now) }
-        ensures { told self.new ≡ more_sent (told self.old) (to_upstream slot octets.now ∷ []) };
+        ensures { told self.new
+            ≡ more_sent (told self.old) (to_upstream slot octets.now ∷ []) };
+
+    /// Is shown what the worker counted so far, and what the version holds that it sees, at each tick.
+    fn show(
+        &mut self,
+        cache: &SharedCache,
+        seat: &CacheSeat,
+        passed: &PassedNames,
+        counts: &Counts,
+        holding: Holding,
+    )
+        requires object { IsSeatOf cache.now seat.now }
+        requires exact { MayShow passed.now (seen_by seat.now) (told self.old) counts.now }
+        requires holding { holding ≡ holding_of (seen_by seat.now) }
+        ensures { told self.new ≡ told self.old };
 }

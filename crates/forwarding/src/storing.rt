@@ -1,22 +1,26 @@
 //! What is stored of an upstream's answer.
 ghost use Rattle.std.specs.Prelude.{◌≡◌, ◌∷◌, ◌++◌, [], All, IfOk, OnOk, Some, false, filter, not, true};
 ghost use Rattle.cache_versions.specs.Seats.{seen_by};
-ghost use Rattle.resolver.specs.Caches.{HasGoneOn, IsSeatOf};
+ghost use Rattle.counters.specs.declared.counter.Counter.TheVariants as counters;
 ghost use Rattle.intake.specs.declared.intake_fault.IntakeFault.{IntakeFault};
-ghost use Rattle.forwarding.specs.declared.want.Want.{Want};
-ghost use Rattle.forwarding.specs.Passed.{is_passed, some_batch, stands_at, stored_of};
-ghost use Rattle.forwarding.specs.Stored.{IsStored, IsStoredIn, want_without};
+ghost use Rattle.resolver.specs.Caches.{HasGoneOn, IsSeatOf};
+ghost use Rattle.resolver.specs.declared.cache_fault.CacheFault.{CacheFault};
+ghost use Rattle.forwarding.specs.Done.{refusal_of, stored_as, storing};
+ghost use Rattle.forwarding.specs.Passed.{is_left_out, some_batch, stored_of};
+ghost use Rattle.forwarding.specs.Stored.{IsStored, IsStoredIn, IsStoring};
 
-use crate::{Event, PassedNames, Want};
+use crate::left_out::is_left_out;
+use crate::{Event, PassedNames};
+use counters::Counter;
 use denial_records::{Batch, Record, RecordList};
 use dname::OutOfMemory;
 use intake::{IntakeFault, batch_of};
 use resolver::{CacheFault, CacheSeat, SharedCache};
-use std::alloc::Global;
+use std::alloc::{AllocError, Global};
 use std::sync::Wait;
 
-/// Inserts what intake takes of an answer, but for what stands at passed names. What it refuses is passed over, and so is a batch
-/// for which no number is left.
+/// Inserts what intake takes of an answer, but for what stands at passed names or leads there, and gives as what that is counted.
+/// What it refuses is passed over, and so is a batch for which no number is left.
 pub(crate) fn store<R: Wait>(
     rt: &R,
     alloc: Global,
@@ -24,14 +28,17 @@ pub(crate) fn store<R: Wait>(
     seat: &mut CacheSeat,
     passed: &PassedNames,
     event: &Event,
-) -> Want
+) -> Counter
     requires { IsSeatOf cache.now seat.old }
     ensures on { HasGoneOn cache.now seat.old seat.new }
-    ensures stored { IsStoredIn passed.now event.now.octets event.now.moment.seconds result
-        (seen_by seat.new) }
+    ensures stored { IsStoring passed.now event.now.octets event.now.moment.seconds
+        (seen_by seat.new) result }
 {
     let octets = event.octets.as_slice();
-    store_octets(rt, alloc, cache, seat, passed, octets, event.moment.seconds)
+    match store_octets(rt, alloc, cache, seat, passed, octets, event.moment.seconds) {
+        Ok(counter) => counter,
+        Err(_) => Counter::Unstored,
+    }
 }
 
 fn store_octets<R: Wait>(
@@ -42,14 +49,14 @@ fn store_octets<R: Wait>(
     passed: &PassedNames,
     octets: &[u8],
     now: u32,
-) -> Want
+) -> Result<Counter, OutOfMemory>
     requires { IsSeatOf cache.now seat.old }
     ensures on { HasGoneOn cache.now seat.old seat.new }
-    ensures stored { IsStoredIn passed.now octets.now now result (seen_by seat.new) }
+    ensures stored { IfOk result (IsStoredIn passed.now octets.now now (seen_by seat.new)) }
 {
     match batch_of(alloc, octets, now) {
         Ok(taken) => store_batch(rt, alloc, cache, seat, passed, taken.batch),
-        Err(fault) => want_of(fault),
+        Err(fault) => refusal_of(fault),
     }
 }
 
@@ -61,35 +68,36 @@ fn store_batch<R: Wait>(
     seat: &mut CacheSeat,
     passed: &PassedNames,
     batch: Batch,
-) -> Want
+) -> Result<Counter, OutOfMemory>
     requires { IsSeatOf cache.now seat.old }
     ensures on { HasGoneOn cache.now seat.old seat.new }
-    ensures stored { IsStored (stored_of passed.now batch) result (seen_by seat.new) }
+    ensures stored { IfOk result
+        (IsStored (stored_as (stored_of passed.now batch)) (seen_by seat.new)) }
 {
     match stored_of(alloc, passed, batch) {
         Ok(Some(batch)) => insert(rt, alloc, cache, seat, &batch),
-        Ok(None) => Want::Nothing,
-        Err(_) => Want::ToStore,
+        Ok(None) => Ok(Counter::Passed),
+        Err(fault) => Err(fault),
     }
 }
 
-// Nothing is stored of an answer that intake refuses.
-fn want_of(fault: IntakeFault) -> Want
-    ensures nothing { result ≡ Want.Nothing → fault ≡ IntakeFault.OutOfMemory → ⊥ }
-    ensures read { result ≡ Want.ToRead → ⊥ }
+// As what an answer is counted that intake refuses.
+fn refusal_of(fault: IntakeFault) -> Result<Counter, OutOfMemory>
+    ensures counter { IfOk result (λ counter. counter ≡ refusal_of fault) }
+    ensures memory { OnOk result (fault ≡ IntakeFault.OutOfMemory → ⊥) }
 {
     match fault {
-        IntakeFault::Malformed(_)
-        | IntakeFault::NotResponse
-        | IntakeFault::Truncated
-        | IntakeFault::Rcode(_)
-        | IntakeFault::NotAuthentic
-        | IntakeFault::Nothing { skipped: _ } => Want::Nothing,
-        IntakeFault::OutOfMemory => Want::ToStore,
+        IntakeFault::Malformed(_) => Ok(Counter::Malformed),
+        IntakeFault::NotResponse => Ok(Counter::NotResponse),
+        IntakeFault::Truncated => Ok(Counter::Truncated),
+        IntakeFault::Rcode(_) => Ok(Counter::OtherRcode),
+        IntakeFault::NotAuthentic => Ok(Counter::NotAuthentic),
+        IntakeFault::Nothing { skipped: _ } => Ok(Counter::NothingToStore),
+        IntakeFault::OutOfMemory => Err(AllocError),
     }
 }
 
-// What of the batch is stored: where nothing of it stands at a passed name, it itself.
+// What of the batch is stored: where nothing of it is left out, it itself.
 fn stored_of(
     alloc: Global,
     passed: &PassedNames,
@@ -97,7 +105,7 @@ fn stored_of(
 ) -> Result<Option<Batch>, OutOfMemory>
     ensures { IfOk result (λ stored. stored ≡ stored_of passed.now batch) }
 {
-    if !has_passed(passed, &batch.records) {
+    if !has_left_out(passed, &batch.records) {
         return Ok(some_batch(batch));
     }
     let records = others(alloc, passed, &batch.records)?;
@@ -116,27 +124,27 @@ fn some_batch(batch: Batch) -> Option<Batch>
     Some(batch)
 }
 
-// Whether some record stands at or below a passed name.
-fn has_passed(passed: &PassedNames, records: &RecordList) -> bool
+// Whether some record is left out.
+fn has_left_out(passed: &PassedNames, records: &RecordList) -> bool
     ensures { result ≡ false
-        → All (λ kept. not (is_passed passed.now (stands_at kept)) ≡ true) records.now }
+        → All (λ kept. not (is_left_out passed.now kept) ≡ true) records.now }
 {
     for i in 0..records.len() {
-        if is_passed(passed, records.get(i)) {
+        if is_left_out(passed, records.get(i)) {
             return true;
         }
     }
     false
 }
 
-// The records that stand at or below none.
+// The records that aren't left out.
 fn others(
     alloc: Global,
     passed: &PassedNames,
     records: &RecordList,
 ) -> Result<RecordList, OutOfMemory>
     ensures { IfOk result (λ others.
-        others ≡ filter (λ kept. not (is_passed passed.now (stands_at kept))) records.now) }
+        others ≡ filter (λ kept. not (is_left_out passed.now kept)) records.now) }
 {
     let mut others = RecordList::empty(alloc);
     for i in 0..records.len() {
@@ -145,7 +153,7 @@ fn others(
     Ok(others)
 }
 
-// The record goes to the others, unless it stands at or below one.
+// The record goes to the others, unless it is left out.
 fn keep(
     alloc: Global,
     passed: &PassedNames,
@@ -153,23 +161,13 @@ fn keep(
     others: &mut RecordList,
 ) -> Result<(), OutOfMemory>
     ensures { OnOk result (others.new
-        ≡ others.old ++ filter (λ r. not (is_passed passed.now (stands_at r))) (kept.now ∷ [])) }
+        ≡ others.old ++ filter (λ r. not (is_left_out passed.now r)) (kept.now ∷ [])) }
 {
-    if is_passed(passed, kept) {
+    if is_left_out(passed, kept) {
         return Ok(());
     }
     others.push(kept.copy(alloc)?)?;
     Ok(())
-}
-
-fn is_passed(passed: &PassedNames, kept: &Record) -> bool
-    ensures { result ≡ is_passed passed.now (stands_at kept.now) }
-{
-    match kept {
-        Record::Set(set) => passed.has(&set.owner()),
-        Record::Nsec(nsec) => passed.has(&nsec.owner()),
-        Record::Nsec3(nsec3) => passed.has(&nsec3.zone()),
-    }
 }
 
 fn insert<R: Wait>(
@@ -178,26 +176,28 @@ fn insert<R: Wait>(
     cache: &SharedCache,
     seat: &mut CacheSeat,
     batch: &Batch,
-) -> Want
+) -> Result<Counter, OutOfMemory>
     requires { IsSeatOf cache.now seat.old }
     ensures on { HasGoneOn cache.now seat.old seat.new }
-    ensures stored { IsStored (Some batch.entry.now) result (seen_by seat.new) }
+    ensures stored { IfOk result
+        (IsStored (storing (Some batch.entry.now) counters.Stored) (seen_by seat.new)) }
 {
     match cache.insert(rt, alloc, seat, batch) {
         Ok(placed) => {
             drop(placed);
-            Want::Nothing
+            Ok(Counter::Stored)
         }
-        Err(fault) => want_without(fault),
+        Err(fault) => without_number(fault),
     }
 }
 
 // Where no number is left nothing is wanted.
-fn want_without(fault: CacheFault) -> Want
-    ensures { result ≡ want_without fault }
+fn without_number(fault: CacheFault) -> Result<Counter, OutOfMemory>
+    ensures counter { IfOk result (λ counter. counter ≡ counters.Stored) }
+    ensures memory { OnOk result (fault ≡ CacheFault.OutOfMemory → ⊥) }
 {
     match fault {
-        CacheFault::NumbersSpent { version: _ } => Want::Nothing,
-        CacheFault::OutOfMemory => Want::ToStore,
+        CacheFault::NumbersSpent { version: _ } => Ok(Counter::Stored),
+        CacheFault::OutOfMemory => Err(AllocError),
     }
 }

@@ -2,17 +2,16 @@
 ghost use Rattle.std.specs.Prelude.{◌≡◌, ◌<◌, ◌≤◌, ◌∷◌, [], map};
 ghost use Rattle.cache_versions.specs.Seats.{seen_by};
 ghost use Rattle.resolver.specs.Caches.{IsSeatOf};
-ghost use Rattle.reply_core.specs.Relay.{relay_octets};
 ghost use Rattle.reply_core.specs.declared.rcode.TheConstants.{MAX_RCODE};
 ghost use Rattle.waiting_table.specs.Waiting.{clients_in, slot_at};
 ghost use Rattle.waiting_table.specs.declared.waiting_table.TheConstants.{SLOTS};
 ghost use Rattle.forwarding.specs.Done.{answered, failed};
 ghost use Rattle.forwarding.specs.Lawful.{MaySend, MaySendAll, more_sent};
 
-use crate::{Outlet, PassedNames};
+use crate::{Outlet, PassedNames, write_told_relay};
 use dnswire::Message;
 use reply_core::rcode::SERVER_FAILURE;
-use reply_core::{ReplyBuffer, write_plain, write_relay};
+use reply_core::{ReplyBuffer, write_plain};
 use resolver::{CacheSeat, SharedCache};
 use waiting_table::{Client, WaitingTable};
 
@@ -104,6 +103,6 @@ fn relay_one<O: Outlet>(
     ensures { O.Outlet.told outlet.new
         ≡ more_sent (O.Outlet.told outlet.old) (answered message.now client.now ∷ []) }
 {
-    write_relay(&client.question, message, out);
+    write_told_relay(&client.question, message, out);
     outlet.reply(cache, seat, passed, client.number, out.as_slice());
 }

@@ -1,22 +1,30 @@
 //! A tick.
-ghost use Rattle.std.specs.Prelude.{◌≡◌, ◌<◌, All, set};
-ghost use Rattle.cache_versions.specs.Seats.{seen_by};
-ghost use Rattle.resolver.specs.Caches.{IsSeatOf};
+ghost use Rattle.std.specs.Prelude.{◌≡◌, ◌<◌, ◌%◌, ◌^◌, ◌&&◌, [], length, not, All, set};
+ghost use Rattle.cache_meaning.specs.Held.{nothing_held};
+ghost use Rattle.cache_versions.specs.Lends.{seat_in};
+ghost use Rattle.cache_versions.specs.Seats.{opening_by, seen_by};
+ghost use Rattle.counters.specs.Counts.{counted};
+ghost use Rattle.resolver.specs.Caches.{HasGoneOn, IsSeatOf};
 ghost use Rattle.waiting_table.specs.Waiting.{slot_at};
-ghost use Rattle.waiting_table.specs.Steps.{ticked_slot};
+ghost use Rattle.waiting_table.specs.Steps.{is_due_in, is_late_in, late_clients, late_in, ticked_slot};
 ghost use Rattle.waiting_table.specs.declared.waiting_table.TheConstants.{SLOTS};
 ghost use Rattle.forwarding.specs.declared.event.Came.TheVariants as comes;
-ghost use Rattle.forwarding.specs.Done.{tick_done, tick_sends};
+ghost use Rattle.forwarding.specs.Done.{due_in, tick_done, tick_sends};
+ghost use Rattle.forwarding.specs.Holding.{holding_of};
 ghost use Rattle.forwarding.specs.Lawful.{IsAtWork, IsCalled, MaySendAll, more_sent};
 
 use crate::asking::ask;
 use crate::telling::fail_all;
-use crate::{Dice, Event, Outlet, PassedNames, each_turn_is_lawful};
+use crate::{Dice, Event, Holding, Outlet, PassedNames, each_turn_is_lawful};
+use cache_versions::VersionRef;
+use counters::{Counter, Counts};
+use record_store::Store;
 use reply_core::ReplyBuffer;
 use resolver::{CacheSeat, SharedCache};
 use waiting_table::{SLOTS, WaitingTable};
 
 /// Nothing came for a while: the seat lets its old version go, late questions are given up, and those that are due are asked again.
+/// Gives what the version holds.
 pub(crate) fn serve_tick<O: Outlet, D: Dice>(
     outlet: &mut O,
     dice: &D,
@@ -24,24 +32,101 @@ pub(crate) fn serve_tick<O: Outlet, D: Dice>(
     seat: &mut CacheSeat,
     passed: &PassedNames,
     table: &mut WaitingTable,
+    counts: &mut Counts,
     event: &Event,
     out: &mut ReplyBuffer,
-)
+) -> Holding
     requires object { IsSeatOf cache.now seat.old }
     requires tick { event.now.came ≡ comes.Tick }
-    requires called { IsCalled passed.now (seen_by seat.old) table.old event.now
+    requires called { IsCalled passed.now (seen_by seat.old) table.old counts.old event.now
         (O.Outlet.told outlet.old) }
     ensures object { IsSeatOf cache.now seat.new }
-    ensures work { IsAtWork passed.now (seen_by seat.new) table.new (O.Outlet.told outlet.new) }
+    ensures work { IsAtWork passed.now (seen_by seat.new) table.new counts.new
+        (O.Outlet.told outlet.new) }
+    ensures holding { result ≡ holding_of (seen_by seat.new) }
 {
     each_turn_is_lawful();
-    cache.move_on(seat);
+    let holding = look_over(cache, seat);
     let now = event.moment.millis;
     if table.next_due(0, now) == table.len() {
-        return;
+        counts.each_is_small();
+        return holding;
     }
+    count_tick(table, now, counts);
     let ids = draw(dice, table, now);
     tick(outlet, cache, seat, passed, table, &ids, now, out);
+    holding
+}
+
+// What the published version holds, to which the seat goes on.
+fn look_over(cache: &SharedCache, seat: &mut CacheSeat) -> Holding
+    requires { IsSeatOf cache.now seat.old }
+    ensures on { HasGoneOn cache.now seat.old seat.new }
+    ensures holding { result ≡ holding_of (seen_by seat.new) }
+{
+    let version = cache.read(seat);
+    holding_of(&version)
+}
+
+fn holding_of(version: &VersionRef<'_, Store>) -> Holding
+    requires { opening_by (seat_in version.now) ≡ nothing_held }
+    ensures { result ≡ holding_of (seen_by (seat_in version.now)) }
+{
+    Holding {
+        records: version.state().len(),
+        version: version.number(),
+    }
+}
+
+// Counts the clients of late questions, and the questions that are asked again.
+fn count_tick(table: &WaitingTable, now: u64, counts: &mut Counts)
+    ensures { counts.new ≡ counted (tick_done now [] table.now).tallies counts.old }
+{
+    counts.add(Counter::Late, late(table, now));
+    counts.add(Counter::AskedAgain, due(table, now));
+}
+
+// How many clients of late questions there are, modulo 2^64.
+fn late(table: &WaitingTable, now: u64) -> u64
+    ensures { result ≡ length (late_clients now table.now) % 2 ^ 64 }
+{
+    let mut number = 0_u64;
+    for slot in 0..table.len() {
+        number = number.wrapping_add(late_at(table, slot, now));
+    }
+    number
+}
+
+fn late_at(table: &WaitingTable, slot: usize, now: u64) -> u64
+    requires { slot < SLOTS }
+    ensures { result ≡ length (late_in now (slot_at table.now slot)) }
+{
+    if table.is_late(slot, now) {
+        table.clients(slot) as u64
+    } else {
+        0
+    }
+}
+
+// How many questions are asked again.
+fn due(table: &WaitingTable, now: u64) -> u64
+    ensures { result ≡ due_in now table.now }
+{
+    let mut number = 0;
+    for slot in 0..table.len() {
+        if is_asked_again(table, slot, now) {
+            number += 1;
+        }
+    }
+    number
+}
+
+fn is_asked_again(table: &WaitingTable, slot: usize, now: u64) -> bool
+    requires { slot < SLOTS }
+    ensures { result ≡ (not (is_late_in now (slot_at table.now slot))
+        && is_due_in now (slot_at table.now slot)) }
+{
+    !table.is_late(slot, now) && table.is_due(slot, now)
 }
 
 // An ID for each slot whose question is asked again.

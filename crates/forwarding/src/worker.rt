@@ -1,6 +1,7 @@
 //! A worker that never ends.
 ghost use Rattle.std.specs.Prelude.{◌≡◌};
 ghost use Rattle.cache_versions.specs.Seats.{seen_by};
+ghost use Rattle.counters.specs.Counts.{no_counts};
 ghost use Rattle.resolver.specs.Caches.{IsSeatOf};
 ghost use Rattle.waiting_table.specs.Waiting.{empty_table};
 ghost use Rattle.forwarding.specs.Lawful.{IsAtWork, IsCalled, IsNew};
@@ -9,6 +10,7 @@ use crate::answering::serve_answer;
 use crate::querying::serve_query;
 use crate::ticking::serve_tick;
 use crate::{Came, Dice, Event, Outlet, PassedNames};
+use counters::Counts;
 use reply_core::ReplyBuffer;
 use resolver::{CacheSeat, SharedCache};
 use std::alloc::Global;
@@ -17,7 +19,7 @@ use waiting_table::WaitingTable;
 
 /// Serves without end. Whatever it sends is lawful when it is sent, as `Outlet` requires; so it held whenever something was sent,
 /// whatever ends the program. No event ends it: where memory is wanted at an answer, it is relayed and not stored. `event` is a
-/// place for what comes.
+/// place for what comes, and `counts` has what was counted so far.
 pub fn serve_on<R: Wait, O: Outlet, D: Dice>(
     rt: &R,
     alloc: Global,
@@ -25,19 +27,21 @@ pub fn serve_on<R: Wait, O: Outlet, D: Dice>(
     seat: &mut CacheSeat,
     passed: &PassedNames,
     table: &mut WaitingTable,
+    counts: &mut Counts,
     event: &mut Event,
     outlet: &mut O,
     dice: &D,
 )
     requires object { IsSeatOf cache.now seat.old }
     requires table { table.old ≡ empty_table }
+    requires counts { counts.old ≡ no_counts }
     requires outlet { IsNew (O.Outlet.told outlet.old) }
     ensures { ⊥ }
 {
     let mut out = ReplyBuffer::new();
     for _ in rt.forever() {
         serve_next(
-            rt, alloc, cache, seat, passed, table, event, outlet, dice, &mut out,
+            rt, alloc, cache, seat, passed, table, counts, event, outlet, dice, &mut out,
         );
     }
     unreachable!()
@@ -51,6 +55,7 @@ pub fn serve_some<R: Wait, O: Outlet, D: Dice>(
     seat: &mut CacheSeat,
     passed: &PassedNames,
     table: &mut WaitingTable,
+    counts: &mut Counts,
     event: &mut Event,
     outlet: &mut O,
     dice: &D,
@@ -58,14 +63,16 @@ pub fn serve_some<R: Wait, O: Outlet, D: Dice>(
 )
     requires object { IsSeatOf cache.now seat.old }
     requires table { table.old ≡ empty_table }
+    requires counts { counts.old ≡ no_counts }
     requires outlet { IsNew (O.Outlet.told outlet.old) }
     ensures object { IsSeatOf cache.now seat.new }
-    ensures work { IsAtWork passed.now (seen_by seat.new) table.new (O.Outlet.told outlet.new) }
+    ensures work { IsAtWork passed.now (seen_by seat.new) table.new counts.new
+        (O.Outlet.told outlet.new) }
 {
     let mut out = ReplyBuffer::new();
     for _ in 0..events {
         serve_next(
-            rt, alloc, cache, seat, passed, table, event, outlet, dice, &mut out,
+            rt, alloc, cache, seat, passed, table, counts, event, outlet, dice, &mut out,
         );
     }
 }
@@ -78,19 +85,22 @@ fn serve_next<R: Wait, O: Outlet, D: Dice>(
     seat: &mut CacheSeat,
     passed: &PassedNames,
     table: &mut WaitingTable,
+    counts: &mut Counts,
     event: &mut Event,
     outlet: &mut O,
     dice: &D,
     out: &mut ReplyBuffer,
 )
     requires object { IsSeatOf cache.now seat.old }
-    requires work { IsAtWork passed.now (seen_by seat.old) table.old (O.Outlet.told outlet.old) }
+    requires work { IsAtWork passed.now (seen_by seat.old) table.old counts.old
+        (O.Outlet.told outlet.old) }
     ensures object { IsSeatOf cache.now seat.new }
-    ensures work { IsAtWork passed.now (seen_by seat.new) table.new (O.Outlet.told outlet.new) }
+    ensures work { IsAtWork passed.now (seen_by seat.new) table.new counts.new
+        (O.Outlet.told outlet.new) }
 {
     outlet.receive(rt, event);
     serve_event(
-        rt, alloc, cache, seat, passed, table, event, outlet, dice, out,
+        rt, alloc, cache, seat, passed, table, counts, event, outlet, dice, out,
     );
 }
 
@@ -102,27 +112,34 @@ fn serve_event<R: Wait, O: Outlet, D: Dice>(
     seat: &mut CacheSeat,
     passed: &PassedNames,
     table: &mut WaitingTable,
+    counts: &mut Counts,
     event: &Event,
     outlet: &mut O,
     dice: &D,
     out: &mut ReplyBuffer,
 )
     requires object { IsSeatOf cache.now seat.old }
-    requires called { IsCalled passed.now (seen_by seat.old) table.old event.now
+    requires called { IsCalled passed.now (seen_by seat.old) table.old counts.old event.now
         (O.Outlet.told outlet.old) }
     ensures object { IsSeatOf cache.now seat.new }
-    ensures work { IsAtWork passed.now (seen_by seat.new) table.new (O.Outlet.told outlet.new) }
+    ensures work { IsAtWork passed.now (seen_by seat.new) table.new counts.new
+        (O.Outlet.told outlet.new) }
 {
     match event.came {
         Came::Query { client } => {
-            serve_query(outlet, dice, cache, seat, passed, table, event, client, out);
+            serve_query(
+                outlet, dice, cache, seat, passed, table, counts, event, client, out,
+            );
         }
         Came::Answer { slot } => {
             let at = usize::from(slot);
             serve_answer(
-                rt, alloc, outlet, cache, seat, passed, table, event, at, out,
+                rt, alloc, outlet, cache, seat, passed, table, counts, event, at, out,
             );
         }
-        Came::Tick => serve_tick(outlet, dice, cache, seat, passed, table, event, out),
+        Came::Tick => {
+            let holding = serve_tick(outlet, dice, cache, seat, passed, table, counts, event, out);
+            outlet.show(cache, seat, passed, counts, holding);
+        }
     }
 }

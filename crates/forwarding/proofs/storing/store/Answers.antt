@@ -1,8 +1,16 @@
 use Rattle.std.proofs.Common.{List, ℕ, subst}
 use Rattle.cache_versions.specs.Seats.{seen_by}
-use Rattle.forwarding.specs.Stored.{IsStoredIn}
+use Rattle.forwarding.specs.Stored.{IsStoring}
+use Rattle.forwarding.proofs.DoneLemmas.{as_stored, as_unstored}
 use Rattle.forwarding.proofs.storing.store.Goals as goal
 
-pub returns-clause-stored : goal.returns-clause-stored
-returns-clause-stored g c =
-    subst (λ (o : List ℕ). IsStoredIn c.args.passed.now o c.args.event.now.moment.seconds c.store_octets.result (seen_by c.store_octets.new.seat)) c.as_slice-octets.ensures.octets c.store_octets.ensures.stored
+pub returns-in-Ok-clause-stored : goal.returns-in-Ok-clause-stored
+returns-in-Ok-clause-stored g c =
+    let now = c.args.event.now.moment.seconds in
+    let seen = seen_by c.store_octets.new.seat in
+    subst (λ (o : List ℕ). IsStoring c.args.passed.now o now seen c.in-Ok.counter) c.as_slice-octets.ensures.octets
+    (as_stored c.args.passed.now c.as_slice-octets.result.now now seen c.in-Ok.counter c.in-Ok.ensures.stored)
+
+pub returns-in-Err-clause-stored : goal.returns-in-Err-clause-stored
+returns-in-Err-clause-stored g c =
+    as_unstored c.args.passed.now c.args.event.now.octets c.args.event.now.moment.seconds (seen_by c.store_octets.new.seat)

@@ -4,3 +4,10 @@ use Rattle.forwarding.proofs.worker.serve_event.Goals as goal
 
 pub serve_answer-requires-clause-answer : goal.serve_answer-requires-clause-answer
 serve_answer-requires-clause-answer g c = c.in-Answer.is ∙ ap comes.Answer (sym c.from-at.ensures)
+
+pub show-requires : goal.show-requires
+show-requires g c = record {
+  object = c.serve_tick-holding.ensures.object;
+  exact = (c.serve_tick-holding.new.table, c.serve_tick-holding.ensures.work);
+  holding = c.serve_tick-holding.ensures.holding;
+}

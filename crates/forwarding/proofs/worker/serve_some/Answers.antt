@@ -5,5 +5,5 @@ use Rattle.forwarding.proofs.worker.serve_some.Goals as goal
 pub loop-init : goal.loop-init
 loop-init g c = record {
   object = c.requires.object;
-  work = begun c.args.passed.now (seen_by c.args.seat.now) c.args.table.now (g.O.Outlet.told c.args.outlet.now) c.requires.table c.requires.outlet;
+  work = begun c.args.passed.now (seen_by c.args.seat.now) c.args.table.now c.args.counts.now (g.O.Outlet.told c.args.outlet.now) c.requires.table c.requires.counts c.requires.outlet;
 }

@@ -6,5 +6,5 @@ use Rattle.forwarding.proofs.worker.serve_some.Given as goal
 abbrev pub invariant-loop : goal.invariant-loop
 invariant-loop g l = record {
   object : IsSeatOf l.cache l.seat;
-  work : IsAtWork l.passed (seen_by l.seat) l.table (g.O.Outlet.told l.outlet);
+  work : IsAtWork l.passed (seen_by l.seat) l.table l.counts (g.O.Outlet.told l.outlet);
 }

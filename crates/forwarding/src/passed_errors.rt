@@ -1,0 +1,75 @@
+//! The upstream's extended errors, passed on.
+ghost use Rattle.std.specs.Prelude.{◌≡◌, ◌≤◌, ◌+◌, ◌++◌, length};
+ghost use Rattle.reply_core.specs.Relay.{relay_octets};
+ghost use Rattle.reply_core.specs.Reply.{limit_of};
+ghost use Rattle.reply_core.specs.declared.rcode.TheConstants.{MAX_RCODE};
+ghost use Rattle.reply_core.specs.declared.draft.TheConstants.{MAX_REPLY};
+ghost use Rattle.forwarding.specs.Options.{opt_data, room_in};
+ghost use Rattle.forwarding.specs.ExtendedError.{errors_in, is_error_octets, told_relay, with_error};
+
+use crate::EXTENDED_ERROR;
+use crate::opt_options::{OptionOctets, append, opt_data, option_size, put_options, room_in};
+use arrayvec::ArrayVec;
+use dname::{octets_between, octets_from, u16_at};
+use dnswire::{Message, Question};
+use reply_core::{ReplyBuffer, write_relay};
+
+/// Writes the reply by which an upstream server's message is relayed to the client that asked the question, in place of what the
+/// buffer held, with the message's extended errors where the client has an OPT record, as far as there is room.
+pub fn write_told_relay(question: &Question, message: &Message, out: &mut ReplyBuffer)
+    requires { message.now.rcode ≤ MAX_RCODE }
+    ensures value { out.new ≡ told_relay question.now message.now }
+    ensures within_limit { length out.new ≤ limit_of question.now.edns }
+{
+    write_relay(question, message, out);
+    if question.edns.is_some() {
+        put_errors(question, message, out);
+    }
+}
+
+fn put_errors(question: &Question, message: &Message, out: &mut ReplyBuffer)
+    requires relay { out.old ≡ relay_octets question.now message.now }
+    requires within_limit { length out.old ≤ limit_of question.now.edns }
+    ensures value { out.new ≡ told_relay question.now message.now }
+    ensures within_limit { length out.new ≤ limit_of question.now.edns }
+{
+    let options = opt_data(&message.additional);
+    if options.is_empty() {
+        return;
+    }
+    let room = room_in(question.edns, out.as_slice());
+    let errors = errors_in(room, options);
+    put_options(question.edns, errors.as_slice(), out);
+}
+
+// The octets of the extended errors that the room has.
+fn errors_in(room: usize, octets: &[u8]) -> OptionOctets
+    requires { room ≤ MAX_REPLY }
+    ensures { result.items ≡ errors_in room octets.now }
+{
+    let mut errors: OptionOctets = ArrayVec::new();
+    let mut rest = octets;
+    for _passed in 0..octets.len() {
+        let Some(size) = option_size(rest) else {
+            return errors;
+        };
+        put_error(room, octets_between(rest, 0, size), &mut errors);
+        rest = octets_from(rest, size);
+    }
+    errors
+}
+
+fn put_error(room: usize, option: &[u8], errors: &mut OptionOctets)
+    requires { room ≤ MAX_REPLY }
+    ensures { errors.new.items ≡ with_error room option.now errors.old.items }
+{
+    if is_error(option) && errors.len() + option.len() <= room {
+        append(errors, option);
+    }
+}
+
+fn is_error(option: &[u8]) -> bool
+    ensures { result ≡ is_error_octets option.now }
+{
+    option.len() >= 6 && u16_at(option, 0) == EXTENDED_ERROR
+}
