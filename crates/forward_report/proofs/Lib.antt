@@ -1,0 +1,4 @@
+pub mod LookLemmas
+pub mod PutLemmas
+pub mod RunLemmas
+pub mod ShownLemmas

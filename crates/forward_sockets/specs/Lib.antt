@@ -1,0 +1,2 @@
+pub mod ClientRing
+pub mod OpenFault

@@ -1,0 +1,15 @@
+//! Tests of `forward_sockets`, with both ends in this process. Each wait ends after five seconds, if not sooner.
+#![tactic(auto)]
+
+#[cfg(test)]
+mod clients;
+#[cfg(test)]
+mod opening;
+#[cfg(test)]
+mod order;
+#[cfg(test)]
+mod scene;
+#[cfg(test)]
+mod slots;
+#[cfg(test)]
+mod ticks;
