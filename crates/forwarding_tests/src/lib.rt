@@ -6,9 +6,17 @@ mod answers;
 #[cfg(test)]
 mod clocks;
 #[cfg(test)]
+mod counts;
+#[cfg(test)]
+mod errors;
+#[cfg(test)]
+mod leading;
+#[cfg(test)]
 mod loaded;
 #[cfg(test)]
 mod many;
+#[cfg(test)]
+mod marks;
 #[cfg(test)]
 mod messages;
 #[cfg(test)]

@@ -1,7 +1,7 @@
 //! Events, one a row, and what is sent for each.
 use crate::loaded::Loaded;
 use crate::script::Script;
-use crate::served::first_wrong;
+use crate::served::{Served, serve};
 use crate::writing::{Changes, written};
 use forwarding::{Came, Moment, Receiver};
 use std::alloc::Global;
@@ -27,11 +27,22 @@ pub(crate) fn first_wrong_row<R: Wait>(
     step: u16,
     rows: &[Row],
 ) -> Result<Option<usize>, Fail> {
+    Ok(serve_rows(rt, alloc, passed, step, rows)?.wrong)
+}
+
+/// What comes of the rows, with the same IDs.
+pub(crate) fn serve_rows<R: Wait>(
+    rt: &R,
+    alloc: Global,
+    passed: &[&[u8]],
+    step: u16,
+    rows: &[Row],
+) -> Result<Served, Fail> {
     let dice = Loaded {
         next: Cell::new(7),
         step,
     };
-    first_wrong(rt, alloc, passed, &dice, script_of(alloc, rows)?)
+    serve(rt, alloc, passed, &dice, script_of(alloc, rows)?)
 }
 
 fn script_of(alloc: Global, rows: &[Row]) -> Result<Script, Fail> {

@@ -5,8 +5,9 @@ ghost use Rattle.waiting_table.specs.Waiting.{empty_table};
 
 use crate::loaded::Loaded;
 use crate::script::{Script, Step, first_otherwise};
+use counters::Counts;
 use dname::Name;
-use forwarding::{Came, Event, MemoryOutlet, Moment, PassedNames, serve_some};
+use forwarding::{Came, Event, Holding, MemoryOutlet, Moment, PassedNames, serve_some};
 use outside_core::DatagramOctets;
 use resolver::{CacheSeat, SharedCache};
 use std::alloc::Global;
@@ -17,6 +18,16 @@ use waiting_table::WaitingTable;
 /// How many more datagrams may be sent than the steps tell.
 const SPARE: usize = 64;
 
+/// What came of a script.
+#[derive(Drop)]
+pub(crate) struct Served {
+    /// The first step that went otherwise.
+    pub(crate) wrong: Option<usize>,
+    /// What the outlet was shown last.
+    pub(crate) shown: Counts,
+    pub(crate) holding: Holding,
+}
+
 /// The first step that goes otherwise, where these names are passed beside the resolver's own.
 pub(crate) fn first_wrong<R: Wait>(
     rt: &R,
@@ -25,6 +36,17 @@ pub(crate) fn first_wrong<R: Wait>(
     dice: &Loaded,
     script: Script,
 ) -> Result<Option<usize>, Fail> {
+    Ok(serve(rt, alloc, passed, dice, script)?.wrong)
+}
+
+/// Does what the script asks for, where these names are passed beside the resolver's own.
+pub(crate) fn serve<R: Wait>(
+    rt: &R,
+    alloc: Global,
+    passed: &[&[u8]],
+    dice: &Loaded,
+    script: Script,
+) -> Result<Served, Fail> {
     let names = passed_names(alloc, passed)?;
     let table = WaitingTable::new(alloc)?;
     let Script { events, steps } = script;
@@ -32,7 +54,7 @@ pub(crate) fn first_wrong<R: Wait>(
     let outlet = MemoryOutlet::with_room(rt, alloc, events, steps.len().saturating_add(SPARE))?;
     let (cache, mut seats) = SharedCache::with_seats(rt, alloc, 1)?;
     let found = match seats.pop() {
-        Some(seat) => Ok(served(
+        Some(seat) => Ok(run_script(
             rt, alloc, &cache, seat, &names, table, outlet, dice, number, &steps,
         )),
         None => Err(Fail::from("no seat")),
@@ -50,7 +72,7 @@ fn passed_names(alloc: Global, passed: &[&[u8]]) -> Result<PassedNames, Fail> {
     Ok(names)
 }
 
-fn served<R: Wait>(
+fn run_script<R: Wait>(
     rt: &R,
     alloc: Global,
     cache: &SharedCache,
@@ -61,22 +83,16 @@ fn served<R: Wait>(
     dice: &Loaded,
     number: usize,
     steps: &[Step],
-) -> Option<usize>
+) -> Served
     requires seat { IsSeatOf cache.now seat }
     requires table { table ≡ empty_table }
     requires outlet { outlet.carried ≡ [] }
 {
     let mut seat = seat;
     let mut table = table;
+    let mut counts = Counts::new();
     let mut outlet = outlet;
-    let mut event = Event {
-        moment: Moment {
-            seconds: 0,
-            millis: 0,
-        },
-        came: Came::Tick,
-        octets: DatagramOctets::of(&[]),
-    };
+    let mut event = no_event();
     serve_some(
         rt,
         alloc,
@@ -84,10 +100,27 @@ fn served<R: Wait>(
         &mut seat,
         names,
         &mut table,
+        &mut counts,
         &mut event,
         &mut outlet,
         dice,
         number,
     );
-    first_otherwise(outlet.carried(), steps)
+    Served {
+        wrong: first_otherwise(outlet.carried(), steps),
+        shown: outlet.shown().copy(),
+        holding: outlet.holding(),
+    }
+}
+
+// A place for events.
+fn no_event() -> Event {
+    Event {
+        moment: Moment {
+            seconds: 0,
+            millis: 0,
+        },
+        came: Came::Tick,
+        octets: DatagramOctets::of(&[]),
+    }
 }

@@ -2,7 +2,7 @@
 use outside_core::{DatagramOctets, MAX_DATAGRAM};
 
 /// The most octets of a message of the tests.
-const MOST: usize = 512;
+const MOST: usize = 1024;
 
 /// Octets that stand in the place of others, from those positions on.
 pub(crate) type Changes = &'static [(usize, &'static [u8])];
