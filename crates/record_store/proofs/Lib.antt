@@ -1,6 +1,7 @@
 pub mod CountLemmas
 pub mod DenialLemmas
 pub mod DroppingLemmas
+pub mod GaugeLemmas
 pub mod GoingLemmas
 pub mod GoneLemmas
 pub mod LongestLemmas

@@ -29,7 +29,7 @@ AreWhole zones = (zone : OneZone) → Contains zones zone → IsOneZone zone
 
 -- ---- of one zone
 
-each_here : (zone : OneZone) → IsOneZone zone → (chain : ZoneChain) → Contains (chains_in zone) chain → chain.zone ≡ zone.apex
+pub each_here : (zone : OneZone) → IsOneZone zone → (chain : ZoneChain) → Contains (chains_in zone) chain → chain.zone ≡ zone.apex
 each_here zone is chain has = All-contains (λ (c : ZoneChain). c.zone ≡ zone.apex) (chains_in zone) chain is.here has
 
 pub zone_here : (zone : OneZone) → IsOneZone zone → filter (in_zone zone.apex) (chains_in zone) ≡ chains_in zone
@@ -52,7 +52,7 @@ none_of_zones apex (zone ∷ zones) whole none =
     ∙ ap (λ l. l ++ filter (in_zone apex) (chains_of_zones zones)) (zone_elsewhere zone (whole zone (here zone zones)) apex (none zone (here zone zones)))
     ∙ none_of_zones apex zones (λ z has. whole z (there zone zones z has)) (λ z has. none z (there zone zones z has))
 
-less_differ : (one other : OneZone) → apex_cmp one other ≡ Less → one.apex ≡ other.apex → ⊥
+pub less_differ : (one other : OneZone) → apex_cmp one other ≡ Less → one.apex ≡ other.apex → ⊥
 less_differ one other less same = cc (less, canonical_same one.apex other.apex same)
 
 pub one_of_zones : (zones : List OneZone) → IsInOrder apex_cmp zones → AreWhole zones → (zone : OneZone) → Contains zones zone → filter (in_zone zone.apex) (chains_of_zones zones) ≡ chains_in zone

@@ -5,3 +5,4 @@ pub mod Holding
 pub mod Dropping
 pub mod Putting
 pub mod LookUp
+pub mod Gauges

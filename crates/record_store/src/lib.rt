@@ -1,11 +1,12 @@
 //! The records that a cache holds, found by search: the held state of `cache_meaning`, in the order of keys.
 //!
-//! Public clauses cite the definitions of `cache_meaning` and `held_laws` (`KeyOrder`). Specs of its own, which serve the inner
-//! steps, in reading order: `Marks`, `Ranks`, `Counts`, `Holding`, `LookUp`, `Putting`, `Dropping`.
+//! Public clauses cite the definitions of `cache_meaning` and `held_laws` (`KeyOrder`), and `Gauges`. Specs of its own, which serve the
+//! inner steps, in reading order: `Marks`, `Ranks`, `Counts`, `Holding`, `LookUp`, `Putting`, `Dropping`.
 #![tactic(auto)]
 
 mod counts;
 mod dropping;
+mod gauges;
 mod goings;
 mod gone;
 mod holding;

@@ -5,6 +5,7 @@ ghost use Rattle.cache_meaning.specs.Held.{nothing_held, most_records};
 ghost use Rattle.cache_meaning.specs.Zones.{TwoChains, zone_in, zone_for};
 ghost use Rattle.held_laws.specs.HeldLaws.{NoneDisplaces};
 ghost use Rattle.held_laws.specs.KeyOrder.{kept_after};
+ghost use Rattle.record_store.specs.Gauges.{zone_count};
 
 use crate::holding::Holding;
 use denial_records::Batch;
@@ -44,6 +45,20 @@ impl Store {
         ensures apart { NoneDisplaces self.now.records }
     {
         self.holding.len()
+    }
+
+    /// Of how many zones a record is held, at no cost that grows with them.
+    pub fn zones(&self) -> usize
+        ensures { result ≡ zone_count self.now.records }
+    {
+        self.holding.zones()
+    }
+
+    /// How many chains are held, at a cost linear in the number of zones.
+    pub fn chains(&self) -> usize
+        ensures { result ≡ length self.now.chains }
+    {
+        self.holding.chains()
     }
 
     /// What is held after the batch, or want of memory.

@@ -12,4 +12,6 @@ mod counted;
 #[cfg(test)]
 mod full;
 #[cfg(test)]
+mod gauges;
+#[cfg(test)]
 mod records;
