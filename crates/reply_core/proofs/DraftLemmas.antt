@@ -1,10 +1,10 @@
 -- Octets that are put one after the other are put at once.
-use Rattle.std.proofs.Common.{◌≡◌, Bool, false, ℕ, ◌+◌, ◌<◌, ◌≤◌, true, List, [], ◌∷◌, ◌++◌, length, Option, Some, None, is_none, refl, sym, ◌∙◌, ap, arith, append_assoc, append-nil, length-append, inl, inr}
+use Rattle.std.proofs.Common.{◌≡◌, Bool, false, ℕ, ◌+◌, ◌<◌, ◌≤◌, true, List, [], ◌∷◌, ◌++◌, length, length-take, take, Option, Some, None, is_none, refl, sym, ◌∙◌, ap, arith, append_assoc, append-nil, length-append, inl, inr}
 use Rattle.std.specs.Prelude.{if◌then◌else◌}
 use Rattle.std.specs.List.{fold}
 use Rattle.std.proofs.lemmas.List.Sums.{fold-append}
 use Rattle.std.proofs.lemmas.Bool.Decides.{nat_tests, leb_tells}
-use Rattle.reply_core.specs.Draft.{Contents, within, put_octet, put, blank, octets_of}
+use Rattle.reply_core.specs.Draft.{Contents, within, put_octet, put, cut, blank, octets_of}
 
 pub put-put : (draft : Contents) (first second : List ℕ) → put (put draft first) second ≡ put draft (first ++ second)
 unfolding put
@@ -76,6 +76,12 @@ put-blank limit octets = rw (some-put limit [] octets (omega arith)) refl
 -- what a blank draft took stands on it
 pub blank-has : (limit : ℕ) (octets : List ℕ) (draft : Contents) → draft ≡ put (blank limit) octets → length octets ≤ limit → octets_of draft.written ≡ octets
 blank-has limit octets draft is small = ap (λ s. octets_of s.written) (is ∙ put-blank limit octets) ∙ ap octets_of (fits limit octets small)
+
+-- what is put after a cut stands behind the octets that it left
+pub cut-has : (at limit : ℕ) (draft : Contents) (octets : List ℕ) → at + length octets ≤ limit → octets_of (put (cut at limit draft) octets).written ≡ take at (octets_of draft.written) ++ octets
+cut-has at limit draft octets small =
+    let kept = take at (octets_of draft.written) in
+    ap (λ s. octets_of s.written) (put-room limit kept octets (omega (arith, length-take at (octets_of draft.written))))
 
 put-lost-at : (limit : ℕ) (written : Option (List ℕ)) (octets : List ℕ) → is_none written ≡ true → put (record { limit = limit; written = written }) octets ≡ record { limit = limit; written = written }
 put-lost-at limit None octets none = put-over limit octets

@@ -1,6 +1,6 @@
 -- The records of a section that are relayed, and when a relay is whole.
-use Rattle.std.proofs.Common.{◌≡◌, ℕ, ◌+◌, ◌%◌, ◌^◌, ◌<◌, ◌≤◌, Bool, true, false, List, [], ◌∷◌, ◌++◌, length, get_or, take, drop, Some, None, is_none, refl, sym, ◌∙◌, ap, cond, arith, append-nil, inl, inr}
-use Rattle.std.specs.Prelude.{not, nat_le, if◌then◌else◌, filter}
+use Rattle.std.proofs.Common.{◌≡◌, ℕ, ◌+◌, ◌%◌, ◌^◌, ◌<◌, Bool, true, false, List, [], ◌∷◌, ◌++◌, length, get_or, take, drop, Some, None, is_none, refl, sym, ◌∙◌, ap, cond, arith, append-nil, inl, inr}
+use Rattle.std.specs.Prelude.{not, nat_le, filter}
 use Rattle.std.specs.List.{flat_map}
 use Rattle.std.proofs.lemmas.Bool.Decides.{leb_tells}
 use Rattle.std.proofs.lemmas.Grind.{flat_map-append}
@@ -13,7 +13,7 @@ use Rattle.reply_core.specs.Draft.{Contents, within, put, blank}
 use Rattle.reply_core.specs.Relay.{rr_octets}
 use Rattle.reply_core.specs.Reply.{header_octets}
 use Rattle.reply_core.proofs.CountLemmas.{big_bytes-low16, count16-append}
-use Rattle.reply_core.proofs.DraftLemmas.{put-put, put-lost, put-blank, fits}
+use Rattle.reply_core.proofs.DraftLemmas.{put-put, put-lost, put-blank}
 use Rattle.reply_core.proofs.ReplyLemmas.{header-counts}
 
 -- records that are put after records
@@ -97,9 +97,3 @@ has_whole limit whole draft is some =
       | inl le ↦ held ∙ (rw le.0 refl)
       | inr gt ↦ let lost : draft.written ≡ None = held ∙ (rw gt.0 refl) in let bad = rw lost at some in cc
     ]
-
--- what is not whole is truncated, which fits
-pub has_truncated : (limit : ℕ) (test : Bool) (whole truncated : List ℕ) (draft : Contents) → test ≡ false → draft ≡ put (blank limit) truncated → length truncated ≤ limit → draft.written ≡ Some (if test then whole else truncated)
-has_truncated limit test whole truncated draft cut is small =
-    let held : draft.written ≡ within limit truncated = ap (λ s. s.written) (is ∙ put-blank limit truncated) in
-    held ∙ fits limit truncated small ∙ (rw cut refl)

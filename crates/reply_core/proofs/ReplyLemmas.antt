@@ -1,17 +1,17 @@
 -- A reply is whole within the limit, and else truncated.
-use Rattle.std.proofs.Common.{◌≡◌, ℕ, ◌≤◌, true, false, List, ◌++◌, length, Some, None, is_none, inl, inr, refl, sym, ◌∙◌, ap}
+use Rattle.std.proofs.Common.{◌≡◌, ℕ, ◌≤◌, true, false, List, ◌++◌, length, Option, Some, None, is_none, inl, inr, refl, sym, ◌∙◌, ap, subst}
 use Rattle.std.specs.Prelude.{nat_le, slice_set, slice_index_or, if◌then◌else◌}
 use Rattle.std.specs.List.{flat_map}
 use Rattle.std.proofs.lemmas.Bool.Decides.{leb_tells}
 use Rattle.byteorder.specs.Endian.{big_bytes}
 use Rattle.reply_core.specs.Count.{count16, HasPut}
-use Rattle.reply_core.specs.Draft.{Contents, within, put, set_octet, blank}
+use Rattle.reply_core.specs.Draft.{Contents, within, put, set_octet, blank, octets_of}
 use Rattle.reply_core.specs.Reply.{ReplyRecord, record_octets, header_octets}
 use Rattle.reply_core.proofs.DraftLemmas.{put-put, put-blank, fits}
 use Rattle.reply_core.proofs.RecordLemmas.{put-records}
 use Rattle.reply_core.proofs.CountLemmas.{big_bytes-low16}
 
-pub written-whole : (limit : ℕ) (whole truncated : List ℕ) (draft : Contents) → draft ≡ put (blank limit) whole → is_none draft.written ≡ false → draft.written ≡ Some (if nat_le (length whole) limit then whole else truncated)
+written-whole : (limit : ℕ) (whole truncated : List ℕ) (draft : Contents) → draft ≡ put (blank limit) whole → is_none draft.written ≡ false → draft.written ≡ Some (if nat_le (length whole) limit then whole else truncated)
 written-whole limit whole truncated draft is some =
     let held : draft.written ≡ within limit whole = ap (λ s. s.written) (is ∙ put-blank limit whole) in
     elim (leb_tells (length whole) limit) [
@@ -19,7 +19,7 @@ written-whole limit whole truncated draft is some =
       | inr too_long ↦ let lost : draft.written ≡ None = held ∙ (rw too_long.0 refl) in let bad = rw lost at some in cc
     ]
 
-pub written-truncated : (limit : ℕ) (whole truncated : List ℕ) (tried draft : Contents) → tried ≡ put (blank limit) whole → is_none tried.written ≡ true → draft ≡ put (blank limit) truncated → length truncated ≤ limit → draft.written ≡ Some (if nat_le (length whole) limit then whole else truncated)
+written-truncated : (limit : ℕ) (whole truncated : List ℕ) (tried draft : Contents) → tried ≡ put (blank limit) whole → is_none tried.written ≡ true → draft ≡ put (blank limit) truncated → length truncated ≤ limit → draft.written ≡ Some (if nat_le (length whole) limit then whole else truncated)
 written-truncated limit whole truncated tried draft was none is small =
     let held : draft.written ≡ within limit truncated = ap (λ s. s.written) (is ∙ put-blank limit truncated) in
     let lost : tried.written ≡ within limit whole = ap (λ s. s.written) (was ∙ put-blank limit whole) in
@@ -29,7 +29,7 @@ written-truncated limit whole truncated tried draft was none is small =
     ]
 
 -- what was not beyond the limit is within it
-pub whole-within : (limit : ℕ) (whole truncated : List ℕ) (draft : Contents) → draft ≡ put (blank limit) whole → is_none draft.written ≡ false → length (if nat_le (length whole) limit then whole else truncated) ≤ limit
+whole-within : (limit : ℕ) (whole truncated : List ℕ) (draft : Contents) → draft ≡ put (blank limit) whole → is_none draft.written ≡ false → length (if nat_le (length whole) limit then whole else truncated) ≤ limit
 whole-within limit whole truncated draft is some =
     let held : draft.written ≡ within limit whole = ap (λ s. s.written) (is ∙ put-blank limit whole) in
     elim (leb_tells (length whole) limit) [
@@ -37,9 +37,28 @@ whole-within limit whole truncated draft is some =
       | inr too_long ↦ let lost : draft.written ≡ None = held ∙ (rw too_long.0 refl) in let bad = rw lost at some in cc
     ]
 
-pub either-within : (limit : ℕ) (whole truncated : List ℕ) → length truncated ≤ limit → length (if nat_le (length whole) limit then whole else truncated) ≤ limit
+either-within : (limit : ℕ) (whole truncated : List ℕ) → length truncated ≤ limit → length (if nat_le (length whole) limit then whole else truncated) ≤ limit
 either-within limit whole truncated small =
     elim (leb_tells (length whole) limit) [ inl whole_fits ↦ rw whole_fits.0 whole_fits.1 | inr too_long ↦ rw too_long.0 small ]
+
+-- a draft's octets are the whole where that is within the limit, else the truncated, and within it themselves
+pub record IsSent (limit : ℕ) (whole truncated : List ℕ) (draft : Contents) : Type 0 where
+  pub octets : octets_of draft.written ≡ (if nat_le (length whole) limit then whole else truncated)
+  pub within_limit : length (octets_of draft.written) ≤ limit
+
+sent : (limit : ℕ) (whole truncated : List ℕ) (draft : Contents) → draft.written ≡ Some (if nat_le (length whole) limit then whole else truncated) → length (if nat_le (length whole) limit then whole else truncated) ≤ limit → IsSent limit whole truncated draft
+sent limit whole truncated draft is small = record {
+  octets = ap octets_of is;
+  within_limit = subst (λ (octets : Option (List ℕ)). length (octets_of octets) ≤ limit) (sym is) small;
+}
+
+pub sent-whole : (limit : ℕ) (whole truncated : List ℕ) (draft : Contents) → draft ≡ put (blank limit) whole → is_none draft.written ≡ false → IsSent limit whole truncated draft
+sent-whole limit whole truncated draft is some =
+    sent limit whole truncated draft (written-whole limit whole truncated draft is some) (whole-within limit whole truncated draft is some)
+
+pub sent-truncated : (limit : ℕ) (whole truncated : List ℕ) (tried draft : Contents) → tried ≡ put (blank limit) whole → is_none tried.written ≡ true → draft ≡ put (blank limit) truncated → length truncated ≤ limit → IsSent limit whole truncated draft
+sent-truncated limit whole truncated tried draft was none is small =
+    sent limit whole truncated draft (written-truncated limit whole truncated tried draft was none is small) (either-within limit whole truncated small)
 
 -- a header with these octets as numbers of records
 abbrev header_with : ℕ → ℕ → ℕ → ℕ → List ℕ → List ℕ → List ℕ

@@ -1,5 +1,5 @@
 -- No public clause cites this module. Octets that are put one after the other, up to a limit.
-use Rattle.std.specs.Prelude.{ℕ, if◌then◌else◌, nat_le, List, [], ◌∷◌, ◌++◌, length, slice_set, Option, Some, None}
+use Rattle.std.specs.Prelude.{ℕ, if◌then◌else◌, nat_le, List, [], ◌∷◌, ◌++◌, length, take, slice_set, Option, Some, None}
 use Rattle.std.specs.List.{fold}
 use Rattle.std.specs.Option.{option_map}
 
@@ -39,3 +39,7 @@ blank limit = record { limit = limit; written = Some [] }
 abbrev pub octets_of : Option (List ℕ) → List ℕ
 octets_of None = []
 octets_of (Some octets) = octets
+
+-- the draft with the octets before a place alone, for another limit
+abbrev pub cut : ℕ → ℕ → Contents → Contents
+cut at limit draft = record { limit = limit; written = Some (take at (octets_of draft.written)) }

@@ -74,13 +74,20 @@ abbrev pub truncated_relay : Question → Message → List ℕ
 truncated_relay question message =
     bare_octets question (relay_flags question message true) (relay_upper question message)
 
--- the message came whole, and the whole reply is within the client's limit
-abbrev pub is_whole : Question → Message → Bool
-is_whole question message =
-    not (is_set TC message.flags) && nat_le (length (whole_relay question message)) (limit_of question.edns)
+-- the message came whole, and the whole reply is within the limit
+abbrev pub is_whole_within : ℕ → Question → Message → Bool
+is_whole_within limit question message =
+    not (is_set TC message.flags) && nat_le (length (whole_relay question message)) limit
 
 -- the reply that relays the message: whole where that can be, else truncated
-abbrev pub relay_octets : Question → Message → List ℕ
-relay_octets question message =
-    if is_whole question message then whole_relay question message
+abbrev pub relay_within : ℕ → Question → Message → List ℕ
+relay_within limit question message =
+    if is_whole_within limit question message then whole_relay question message
     else truncated_relay question message
+
+-- both within what a datagram of the client takes
+abbrev pub is_whole : Question → Message → Bool
+is_whole question message = is_whole_within (limit_of question.edns) question message
+
+abbrev pub relay_octets : Question → Message → List ℕ
+relay_octets question message = relay_within (limit_of question.edns) question message

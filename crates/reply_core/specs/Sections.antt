@@ -36,11 +36,16 @@ abbrev pub truncated_with : Question → ℕ → List ℕ
 truncated_with question rcode = bare_octets question (coded_flags question rcode true) 0
 
 -- whole where that is within the limit, else truncated
-abbrev pub sent_octets : Question → ℕ → ℕ → List ReplyRecord → List ReplyRecord → List ℕ
-sent_octets question rcode ttl answers authorities =
-    if nat_le (length (whole_with question rcode ttl answers authorities)) (limit_of question.edns)
+abbrev pub sent_within : ℕ → Question → ℕ → ℕ → List ReplyRecord → List ReplyRecord → List ℕ
+sent_within limit question rcode ttl answers authorities =
+    if nat_le (length (whole_with question rcode ttl answers authorities)) limit
     then whole_with question rcode ttl answers authorities
     else truncated_with question rcode
+
+-- within what a datagram of the client takes
+abbrev pub sent_octets : Question → ℕ → ℕ → List ReplyRecord → List ReplyRecord → List ℕ
+sent_octets question rcode ttl answers authorities =
+    sent_within (limit_of question.edns) question rcode ttl answers authorities
 
 -- the answers by way of the question's own alias: its set, and the set that answers for its target
 abbrev pub alias_answers : Question → SetRec → List Label → Proof → List ReplyRecord
@@ -50,8 +55,9 @@ alias_answers question alias target proof =
 
 -- ---- a reply in work
 
--- its question, RCODE and TTL, the octets so far, and the numbers of answers and authorities as a header has them
+-- its limit, question, RCODE and TTL, the octets so far, and the numbers of answers and authorities as a header has them
 pub record Written : Type 0 where
+  pub limit : ℕ
   pub question : Question
   pub rcode : ℕ
   pub ttl : ℕ
@@ -65,14 +71,19 @@ opening_octets question rcode =
     header_octets question.id (coded_flags question rcode false) 1 0 0 (opt_count question.edns)
     ++ question.asked.items
 
--- a reply to the question, with this RCODE and TTL, that has these answers and authorities so far
-pub record HasWritten (question : Question) (rcode ttl : ℕ) (answers authorities : List ReplyRecord) (written : Written)
+-- a reply to the question within the limit, with this RCODE and TTL, that has these answers and authorities so far
+pub record HasWrittenWithin (limit : ℕ) (question : Question) (rcode ttl : ℕ) (answers authorities : List ReplyRecord) (written : Written)
     : Type 0 where
+  pub bounded : written.limit ≡ limit
   pub asked : written.question ≡ question
   pub coded : written.rcode ≡ rcode
   pub lives : written.ttl ≡ ttl
   pub octets :
-      written.contents ≡ put (blank (limit_of question.edns))
+      written.contents ≡ put (blank limit)
       (opening_octets question rcode ++ flat_map (record_octets ttl) (answers ++ authorities))
   pub answer_count : written.answers ≡ count16 answers
   pub authority_count : written.authorities ≡ count16 authorities
+
+-- within what a datagram of the client takes
+abbrev pub HasWritten : Question → ℕ → ℕ → List ReplyRecord → List ReplyRecord → Written → Type 0
+HasWritten question = HasWrittenWithin (limit_of question.edns) question

@@ -1,18 +1,19 @@
 //! The reply by way of the question's own alias.
-ghost use Rattle.std.specs.Prelude.{◌≡◌, ◌≤◌, Some};
+ghost use Rattle.std.specs.Prelude.{◌≡◌, ◌≤◌, length};
+ghost use Rattle.dnswire.specs.declared.edns.TheConstants.{LEAST_PAYLOAD};
 ghost use Rattle.reply_core.specs.Count.{HasPut};
 ghost use Rattle.reply_core.specs.Draft.{put, blank};
 ghost use Rattle.reply_core.specs.Reply.{rcode_of, authority_records};
-ghost use Rattle.reply_core.specs.Sections.{alias_answers, whole_with, sent_octets};
+ghost use Rattle.reply_core.specs.Sections.{alias_answers, whole_with, sent_within, sent_octets};
 ghost use Rattle.reply_core.specs.Shown.{shown_by};
 
-use crate::ReplyBuffer;
-use crate::draft::{Draft, MAX_REPLY};
+use crate::draft::Draft;
 use crate::header::{
     opt_count, put_header, put_opt, put_question, reply_flags, set_counts, wants_dnssec,
 };
 use crate::records::put_answer;
 use crate::reply::{limit_of, put_authorities, put_truncated};
+use crate::{Reply, ReplyBuffer};
 use denial_records::{KeptSet, Verdict};
 use dname::Name;
 use dnswire::Question;
@@ -31,32 +32,37 @@ pub fn write_alias_reply(
         (alias_answers question.now alias.now target.now (shown_by verdict.now))
         (authority_records question.now (shown_by verdict.now)) }
 {
-    fill(&mut out.draft, question, alias, target, verdict, ttl);
+    let limit = limit_of(question.edns);
+    write_alias_reply_within(limit, question, alias, target, verdict, ttl, out);
 }
 
-fn fill(
-    draft: &mut Draft<MAX_REPLY>,
+/// The same within this limit.
+pub fn write_alias_reply_within<const N: usize>(
+    limit: usize,
     question: &Question,
     alias: &KeptSet,
     target: &Name,
     verdict: &Verdict<'_>,
     ttl: u32,
+    out: &mut Reply<N>,
 )
-    ensures { draft.new.written ≡ Some (sent_octets question.now (rcode_of verdict.now.kind) ttl
+    requires room { limit ≤ N }
+    requires least { LEAST_PAYLOAD ≤ limit }
+    ensures value { out.new ≡ sent_within limit question.now (rcode_of verdict.now.kind) ttl
         (alias_answers question.now alias.now target.now (shown_by verdict.now))
-        (authority_records question.now (shown_by verdict.now))) }
+        (authority_records question.now (shown_by verdict.now)) }
+    ensures within_limit { length out.new ≤ limit }
 {
-    let limit = limit_of(question.edns);
-    put_whole(draft, limit, question, alias, target, verdict, ttl);
-    if draft.is_over() {
-        draft.restart(limit);
-        put_truncated(draft, question, verdict.kind);
+    put_whole(&mut out.draft, limit, question, alias, target, verdict, ttl);
+    if out.draft.is_over() {
+        out.draft.restart(limit);
+        put_truncated(&mut out.draft, question, verdict.kind);
     }
 }
 
 // The reply with all its records, in place of what the draft held.
-fn put_whole(
-    draft: &mut Draft<MAX_REPLY>,
+fn put_whole<const N: usize>(
+    draft: &mut Draft<N>,
     limit: usize,
     question: &Question,
     alias: &KeptSet,
@@ -64,7 +70,7 @@ fn put_whole(
     verdict: &Verdict<'_>,
     ttl: u32,
 )
-    requires { limit ≤ MAX_REPLY }
+    requires { limit ≤ N }
     ensures { draft.new
         ≡ put (blank limit) (whole_with question.now (rcode_of verdict.now.kind) ttl
         (alias_answers question.now alias.now target.now (shown_by verdict.now))
@@ -82,8 +88,8 @@ fn put_whole(
 }
 
 // The alias and the set that answers for its target, and the number of their records modulo 2^16.
-fn put_answers(
-    draft: &mut Draft<MAX_REPLY>,
+fn put_answers<const N: usize>(
+    draft: &mut Draft<N>,
     question: &Question,
     alias: &KeptSet,
     target: &Name,

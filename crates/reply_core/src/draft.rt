@@ -1,5 +1,5 @@
 ghost use Rattle.std.specs.Prelude.{◌≡◌, ◌≤◌, length, is_none};
-ghost use Rattle.reply_core.specs.Draft.{put, set_octet, blank, octets_of};
+ghost use Rattle.reply_core.specs.Draft.{put, set_octet, cut, blank, octets_of};
 
 use arrayvec::ArrayVec;
 use std::marker::Model;
@@ -51,7 +51,17 @@ impl<const N: usize> Draft<N> {
         requires { limit ≤ N }
         ensures { self.new ≡ blank limit }
     {
-        self.octets.clear();
+        self.cut(0, limit);
+    }
+
+    /// Keeps the octets before place `at`, for another limit.
+    pub(crate) fn cut(&mut self, at: usize, limit: usize)
+        requires at { at ≤ length (octets_of self.old.written) }
+        requires room { at ≤ limit }
+        requires limit { limit ≤ N }
+        ensures { self.new ≡ cut at limit self.old }
+    {
+        self.octets.truncate(at);
         self.limit = limit;
         self.over = false;
     }

@@ -19,12 +19,12 @@ mod reply;
 mod reply_buffer;
 mod sections;
 
-pub use alias_reply::write_alias_reply;
+pub use alias_reply::{write_alias_reply, write_alias_reply_within};
 pub use ask::write_ask;
 pub use draft::{MAX_LONG_REPLY, MAX_REPLY};
 pub use error::{write_error, write_plain};
-pub use long_reply::{LongReplyBuffer, write_long_reply};
-pub use relay::write_relay;
-pub use reply::write_reply;
-pub use reply_buffer::ReplyBuffer;
+pub use long_reply::write_long_reply;
+pub use relay::{write_relay, write_relay_within};
+pub use reply::{limit_of, write_reply, write_reply_within};
+pub use reply_buffer::{LongReplyBuffer, Reply, ReplyBuffer};
 pub use sections::Sections;

@@ -4,17 +4,17 @@ ghost use Rattle.dnswire.specs.declared.edns.TheConstants.{LEAST_PAYLOAD};
 ghost use Rattle.reply_core.specs.Count.{count16};
 ghost use Rattle.reply_core.specs.Draft.{put};
 ghost use Rattle.reply_core.specs.Reply.{limit_of};
-ghost use Rattle.reply_core.specs.Relay.{relay_octets, is_whole, whole_relay, truncated_relay, relay_rcode, relay_upper, relay_ad, relay_flags, relayed, rr_octets, is_relayed, is_proof_type, asks_for};
+ghost use Rattle.reply_core.specs.Relay.{relay_octets, relay_within, is_whole_within, whole_relay, truncated_relay, relay_rcode, relay_upper, relay_ad, relay_flags, relayed, rr_octets, is_relayed, is_proof_type, asks_for};
 ghost use Rattle.reply_core.specs.declared.rcode.TheConstants.{MAX_RCODE};
 
-use crate::ReplyBuffer;
-use crate::draft::{Draft, MAX_REPLY};
+use crate::draft::Draft;
 use crate::header::{
     flag, flags_of, head_of, opt_count, put_bare, put_header, put_opt, put_question, wants_dnssec,
 };
 use crate::rcode::SERVER_FAILURE;
 use crate::records::put_rest;
 use crate::reply::limit_of;
+use crate::{Reply, ReplyBuffer};
 use dname::types::{ANY_TYPE, NSEC_TYPE, NSEC3_TYPE, OPT_TYPE, RRSIG_TYPE};
 use dnswire::flags::{AD, TC};
 use dnswire::{Message, Question, Rr, RrList};
@@ -26,40 +26,53 @@ pub fn write_relay(question: &Question, message: &Message, out: &mut ReplyBuffer
     ensures value { out.new ≡ relay_octets question.now message.now }
     ensures within_limit { length out.new ≤ limit_of question.now.edns }
 {
-    fill(&mut out.draft, question, message);
+    write_relay_within(limit_of(question.edns), question, message, out);
 }
 
-fn fill(draft: &mut Draft<MAX_REPLY>, question: &Question, message: &Message)
-    requires { message.now.rcode ≤ MAX_RCODE }
-    ensures value { draft.new.written ≡ Some (relay_octets question.now message.now) }
-    ensures within_limit { length (relay_octets question.now message.now)
-        ≤ limit_of question.now.edns }
+/// The same within this limit.
+pub fn write_relay_within<const N: usize>(
+    limit: usize,
+    question: &Question,
+    message: &Message,
+    out: &mut Reply<N>,
+)
+    requires room { limit ≤ N }
+    requires least { LEAST_PAYLOAD ≤ limit }
+    requires rcode { message.now.rcode ≤ MAX_RCODE }
+    ensures value { out.new ≡ relay_within limit question.now message.now }
+    ensures within_limit { length out.new ≤ limit }
 {
-    if put_within(draft, question, message) {
+    if put_within(&mut out.draft, limit, question, message) {
         return;
     }
-    draft.restart(limit_of(question.edns));
-    put_truncated(draft, question, message);
+    out.draft.restart(limit);
+    put_truncated(&mut out.draft, question, message);
 }
 
 // Whether the whole reply can be sent; then it is put in place of what the draft held.
-fn put_within(draft: &mut Draft<MAX_REPLY>, question: &Question, message: &Message) -> bool
-    requires { message.now.rcode ≤ MAX_RCODE }
-    ensures exact { result ≡ is_whole question.now message.now }
+fn put_within<const N: usize>(
+    draft: &mut Draft<N>,
+    limit: usize,
+    question: &Question,
+    message: &Message,
+) -> bool
+    requires room { limit ≤ N }
+    requires rcode { message.now.rcode ≤ MAX_RCODE }
+    ensures exact { result ≡ is_whole_within limit question.now message.now }
     ensures value { result ≡ true
         → draft.new.written ≡ Some (whole_relay question.now message.now) }
 {
     if message.flags.has_tc() {
         return false;
     }
-    draft.restart(limit_of(question.edns));
+    draft.restart(limit);
     put_whole(draft, question, message);
     !draft.is_over()
 }
 
 // The reply with all records that the client gets. They are counted before they are put: their types alone tell which
 // they are, and no octet of them is looked at for that.
-fn put_whole(draft: &mut Draft<MAX_REPLY>, question: &Question, message: &Message)
+fn put_whole<const N: usize>(draft: &mut Draft<N>, question: &Question, message: &Message)
     requires { message.now.rcode ≤ MAX_RCODE }
     ensures { draft.new ≡ put draft.old (whole_relay question.now message.now) }
 {
@@ -84,7 +97,7 @@ fn put_whole(draft: &mut Draft<MAX_REPLY>, question: &Question, message: &Messag
     put_opt(draft, relay_upper(question, message), question.edns);
 }
 
-fn put_truncated(draft: &mut Draft<MAX_REPLY>, question: &Question, message: &Message)
+fn put_truncated<const N: usize>(draft: &mut Draft<N>, question: &Question, message: &Message)
     requires { message.now.rcode ≤ MAX_RCODE }
     ensures value { draft.new ≡ put draft.old (truncated_relay question.now message.now) }
     ensures small { length (truncated_relay question.now message.now) ≤ LEAST_PAYLOAD }
@@ -106,7 +119,7 @@ fn count_section(question: &Question, section: &RrList) -> u16
     count
 }
 
-fn put_section(draft: &mut Draft<MAX_REPLY>, question: &Question, section: &RrList)
+fn put_section<const N: usize>(draft: &mut Draft<N>, question: &Question, section: &RrList)
     ensures { draft.new
         ≡ put draft.old (flat_map rr_octets (relayed question.now section.now)) }
 {
@@ -120,7 +133,7 @@ fn put_section(draft: &mut Draft<MAX_REPLY>, question: &Question, section: &RrLi
     }
 }
 
-fn put_rr(draft: &mut Draft<MAX_REPLY>, rr: &Rr)
+fn put_rr<const N: usize>(draft: &mut Draft<N>, rr: &Rr)
     ensures { draft.new ≡ put draft.old (rr_octets rr.now) }
 {
     draft.put(rr.owner.name().wire());

@@ -6,12 +6,12 @@ ghost use Rattle.reply_core.specs.Shown.{shown_by};
 ghost use Rattle.dnswire.specs.declared.edns.TheConstants.{LEAST_PAYLOAD};
 ghost use Rattle.reply_core.specs.declared.draft.TheConstants.{MAX_REPLY};
 
-use crate::ReplyBuffer;
 use crate::draft::{Draft, MAX_REPLY};
 use crate::header::{
     opt_count, put_bare, put_header, put_opt, put_question, reply_flags, set_counts, wants_dnssec,
 };
 use crate::records::{put_answer, put_denial, put_soa};
+use crate::{Reply, ReplyBuffer};
 use denial_records::{Kind, Verdict};
 use dnswire::{Edns, LEAST_PAYLOAD, Question};
 
@@ -21,28 +21,26 @@ pub fn write_reply(question: &Question, verdict: &Verdict<'_>, out: &mut ReplyBu
     ensures value { out.new ≡ reply_octets question.now (shown_by verdict.now) verdict.now.ttl }
     ensures within_limit { length out.new ≤ limit_of question.now.edns }
 {
-    fill(&mut out.draft, limit_of(question.edns), question, verdict);
+    write_reply_within(limit_of(question.edns), question, verdict, out);
 }
 
-/// Puts the reply in place of what the draft held: with all its records where that is within the limit, else
-/// truncated.
-pub(crate) fn fill<const N: usize>(
-    draft: &mut Draft<N>,
+/// The same within this limit: with all records where that is within it, else truncated.
+pub fn write_reply_within<const N: usize>(
     limit: usize,
     question: &Question,
     verdict: &Verdict<'_>,
+    out: &mut Reply<N>,
 )
     requires room { limit ≤ N }
     requires least { LEAST_PAYLOAD ≤ limit }
-    ensures value { draft.new.written
-        ≡ Some (limited_octets limit question.now (shown_by verdict.now) verdict.now.ttl) }
-    ensures within_limit { length (limited_octets limit question.now (shown_by verdict.now)
-        verdict.now.ttl) ≤ limit }
+    ensures value { out.new
+        ≡ limited_octets limit question.now (shown_by verdict.now) verdict.now.ttl }
+    ensures within_limit { length out.new ≤ limit }
 {
-    put_whole(draft, limit, question, verdict);
-    if draft.is_over() {
-        draft.restart(limit);
-        put_truncated(draft, question, verdict.kind);
+    put_whole(&mut out.draft, limit, question, verdict);
+    if out.draft.is_over() {
+        out.draft.restart(limit);
+        put_truncated(&mut out.draft, question, verdict.kind);
     }
 }
 
@@ -115,8 +113,8 @@ pub(crate) fn put_authorities<const N: usize>(
 
 const LEAST: usize = LEAST_PAYLOAD as usize;
 
-/// The octets that a reply has at most.
-pub(crate) fn limit_of(edns: Option<Edns>) -> usize
+/// The octets that a reply in a datagram has at most.
+pub fn limit_of(edns: Option<Edns>) -> usize
     ensures value { result ≡ limit_of edns }
     ensures low { LEAST_PAYLOAD ≤ result }
     ensures high { result ≤ MAX_REPLY }

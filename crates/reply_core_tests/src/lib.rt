@@ -14,4 +14,8 @@ mod relay;
 #[cfg(test)]
 mod reply;
 #[cfg(test)]
+mod reply_buffer;
+#[cfg(test)]
 mod sections;
+#[cfg(test)]
+mod within;

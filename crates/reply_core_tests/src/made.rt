@@ -130,7 +130,7 @@ pub(crate) fn joined(alloc: Global, parts: &[&[u8]]) -> Result<Vec<u8>, OutOfMem
     Ok(octets)
 }
 
-const TRUNCATED: &[u8] = b"\x12\x34\x83\x80\0\x01\0\0\0\0\0\0\x07example\0\0\x10\0\x01";
+pub(crate) const TRUNCATED: &[u8] = b"\x12\x34\x83\x80\0\x01\0\0\0\0\0\0\x07example\0\0\x10\0\x01";
 
 const TRUNCATED_WITH_OPT: &[u8] =
     b"\x12\x34\x83\x80\0\x01\0\0\0\0\0\x01\x07example\0\0\x10\0\x01\0\0\x29\x04\xd0\0\0\0\0\0\0";

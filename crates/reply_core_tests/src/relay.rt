@@ -1,7 +1,7 @@
 use crate::made::{OPT, OPT_WITH_DO, joined, question};
 use dname::OutOfMemory;
 use dnswire::{Edns, HeaderFlags, Message, Question, read_message};
-use reply_core::{ReplyBuffer, write_relay};
+use reply_core::{LongReplyBuffer, MAX_LONG_REPLY, ReplyBuffer, write_relay, write_relay_within};
 use std::alloc::Global;
 use std::test::Fail;
 
@@ -309,6 +309,65 @@ fn a_relay_over_the_limit_is_truncated(rt: HostRuntime) -> Result<(), Fail> {
         (Some(0), 474, 28),
     ];
     let wrong = first_wrong_size(rt.alloc(), &cases)?;
+    assert!(rt; wrong.is_none(), "{wrong:?}");
+    Ok(())
+}
+
+// The limit, the client's OPT size, the message's flags, the octets of the TXT record's data, those of the reply.
+type LongCase = (usize, Option<u16>, u16, usize, usize);
+
+// Relays the message of one TXT record, with these flags, to a client without DO.
+fn relay_within(alloc: Global, case: &LongCase, out: &mut LongReplyBuffer) -> Result<(), Fail> {
+    let (limit, size, flags, data, _) = *case;
+    let mut message = read_message(alloc, &long_message(alloc, data)?)?;
+    message.flags = HeaderFlags::of(flags);
+    let edns = match size {
+        Some(size) => Some(Edns {
+            size,
+            dnssec: false,
+        }),
+        None => None,
+    };
+    let question = question_for(b"\0\0\x10\0\x01", 16, edns)?;
+    if message.rcode <= 4095 {
+        write_relay_within(limit.clamp(512, MAX_LONG_REPLY), &question, &message, out);
+    }
+    Ok(())
+}
+
+// The first case whose relay has another size, or another header, and its size.
+fn first_wrong_limit(alloc: Global, cases: &[LongCase]) -> Result<Option<(usize, usize)>, Fail> {
+    let mut out = LongReplyBuffer::new();
+    for (i, case) in cases.iter().enumerate() {
+        relay_within(alloc, case, &mut out)?;
+        let head = if case.4 < 30 {
+            b"\x12\x34\x83\x80\0\x01\0\0\0\0".as_slice()
+        } else {
+            b"\x12\x34\x81\x80\0\x01\0\x01\0\0".as_slice()
+        };
+        let found = out.as_slice().len();
+        if found != case.4 || !out.as_slice().starts_with(head) {
+            return Ok(Some((i, found)));
+        }
+    }
+    Ok(None)
+}
+
+#[test]
+fn a_relay_is_whole_up_to_its_limit(rt: HostRuntime) -> Result<(), Fail> {
+    let cases: [LongCase; 8] = [
+        (512, None, 0x8180, 484, 512),
+        (512, None, 0x8180, 485, 17),
+        (600, Some(512), 0x8180, 561, 600),
+        (600, Some(4096), 0x8180, 562, 28),
+        // two octets hold a length of 65,535 at most (RFC 1035, section 4.2.2)
+        (65_535, Some(512), 0x8180, 65_496, 65_535),
+        (65_535, Some(512), 0x8180, 65_497, 28),
+        // a message that came truncated stays so (RFC 2181, section 9)
+        (65_535, None, 0x8380, 100, 17),
+        (65_535, Some(4096), 0x8380, 100, 28),
+    ];
+    let wrong = first_wrong_limit(rt.alloc(), &cases)?;
     assert!(rt; wrong.is_none(), "{wrong:?}");
     Ok(())
 }

@@ -16,7 +16,7 @@ use Rattle.denial_records.specs.declared.set_rec.SetRec.{SetRec}
 use Rattle.dname.specs.Name.{Label}
 use Rattle.reply_core.specs.Kept.{listed}
 use Rattle.reply_core.specs.Reply.{ReplyRecord, wants_dnssec, set_records, proof_records}
-use Rattle.reply_core.specs.Sections.{Written, HasWritten}
+use Rattle.reply_core.specs.Sections.{Written, HasWrittenWithin}
 use Rattle.reply_core.specs.Shown.{denial_in}
 use Rattle.resolver.specs.Walk.{End}
 use Rattle.resolver.specs.WalkReply.{same_set, dname_records, way_dnames, way_records, end_records, answers_after, same_denial, are_new, way_denials, end_denials, denials_after}
@@ -70,21 +70,21 @@ denials_of (ways.Dname set) next = refl
 
 module _ (name : List Label) (links : List LentWay) (last : List Label) (end : End) where
   -- the records of the links so far are written, and those of the rest make the whole
-  pub record HasAnswered (question : Question) (rcode ttl : ℕ) (place : ℕ) (here : Written) : Type 0 where
+  pub record HasAnswered (limit : ℕ) (question : Question) (rcode ttl : ℕ) (place : ℕ) (here : Written) : Type 0 where
     pub done : List ReplyRecord
-    pub written : HasWritten question rcode ttl done [] here
+    pub written : HasWrittenWithin limit question rcode ttl done [] here
     pub rest :
         done ++ answers_after (wants_dnssec question) (dnames_by (take place links)) (links_by (led_by name (take place links)) (drop place links)) last end
         ≡ answers_after (wants_dnssec question) [] (links_by name links) last end
 
-  pub answered_none : (question : Question) (rcode ttl : ℕ) (here : Written) → HasWritten question rcode ttl [] [] here → HasAnswered question rcode ttl 0 here
-  answered_none question rcode ttl here was = record { done = []; written = was; rest = refl }
+  pub answered_none : (limit : ℕ) (question : Question) (rcode ttl : ℕ) (here : Written) → HasWrittenWithin limit question rcode ttl [] [] here → HasAnswered limit question rcode ttl 0 here
+  answered_none limit question rcode ttl here was = record { done = []; written = was; rest = refl }
 
-  pub answered_more : (question : Question) (rcode ttl : ℕ) (place : ℕ) (way : LentWay) (owner : List Label) (here there : Written) → place < length links → way ≡ get_or links place way → owner ≡ led_by name (take place links)
-      → HasAnswered question rcode ttl place here
-      → ((answers : List ReplyRecord) → HasWritten question rcode ttl answers [] here → HasWritten question rcode ttl (answers ++ way_records (wants_dnssec question) (dnames_by (take place links)) owner (way_by way (next_by owner way))) [] there)
-      → HasAnswered question rcode ttl (place + 1) there
-  answered_more question rcode ttl place way owner here there inside at is was puts =
+  pub answered_more : (limit : ℕ) (question : Question) (rcode ttl : ℕ) (place : ℕ) (way : LentWay) (owner : List Label) (here there : Written) → place < length links → way ≡ get_or links place way → owner ≡ led_by name (take place links)
+      → HasAnswered limit question rcode ttl place here
+      → ((answers : List ReplyRecord) → HasWrittenWithin limit question rcode ttl answers [] here → HasWrittenWithin limit question rcode ttl (answers ++ way_records (wants_dnssec question) (dnames_by (take place links)) owner (way_by way (next_by owner way))) [] there)
+      → HasAnswered limit question rcode ttl (place + 1) there
+  answered_more limit question rcode ttl place way owner here there inside at is was puts =
       let dnssec = wants_dnssec question in
       let earlier = dnames_by (take place links) in
       let from = led_by name (take place links) in
@@ -104,14 +104,14 @@ module _ (name : List Label) (links : List LentWay) (last : List Label) (end : E
             ∙ was.rest;
       }
 
-  pub answered_all : (question : Question) (rcode ttl : ℕ) (place : ℕ) (here there : Written) → length links ≤ place
-      → HasAnswered question rcode ttl place here
-      → ((answers : List ReplyRecord) → HasWritten question rcode ttl answers [] here → HasWritten question rcode ttl (answers ++ end_records (wants_dnssec question) (dnames_by links) last end) [] there)
-      → HasWritten question rcode ttl (answers_after (wants_dnssec question) [] (links_by name links) last end) [] there
-  answered_all question rcode ttl place here there all_done was puts =
+  pub answered_all : (limit : ℕ) (question : Question) (rcode ttl : ℕ) (place : ℕ) (here there : Written) → length links ≤ place
+      → HasAnswered limit question rcode ttl place here
+      → ((answers : List ReplyRecord) → HasWrittenWithin limit question rcode ttl answers [] here → HasWrittenWithin limit question rcode ttl (answers ++ end_records (wants_dnssec question) (dnames_by links) last end) [] there)
+      → HasWrittenWithin limit question rcode ttl (answers_after (wants_dnssec question) [] (links_by name links) last end) [] there
+  answered_all limit question rcode ttl place here there all_done was puts =
       let all : take place links ≡ links = take_all place links all_done in
       let none : drop place links ≡ [] = drop_of_length-le links all_done in
-      subst (λ them. HasWritten question rcode ttl them [] there)
+      subst (λ them. HasWrittenWithin limit question rcode ttl them [] there)
       ((λ i. was.done ++ answers_after (wants_dnssec question) (dnames_by (sym all i)) (links_by (led_by name (take place links)) (sym none i)) last end) ∙ was.rest)
       (puts was.done was.written)
 
@@ -120,22 +120,22 @@ module _ (name : List Label) (links : List LentWay) (last : List Label) (end : E
 -- some denials more
 pub record Puts (denials : List Record) (before after : Written) : Type 0 where
   pub writes :
-      (question : Question) (rcode ttl : ℕ) (answers authorities : List ReplyRecord) → HasWritten question rcode ttl answers authorities before
-      → HasWritten question rcode ttl answers (authorities ++ flat_map (proof_records (wants_dnssec question)) denials) after
+      (limit : ℕ) (question : Question) (rcode ttl : ℕ) (answers authorities : List ReplyRecord) → HasWrittenWithin limit question rcode ttl answers authorities before
+      → HasWrittenWithin limit question rcode ttl answers (authorities ++ flat_map (proof_records (wants_dnssec question)) denials) after
 
 -- of a list of denials two parts are written one after the other
 pub puts_both : (first second : List Record) (before between after : Written) → Puts first before between → Puts second between after → Puts (first ++ second) before after
 puts_both first second before between after one two = record {
-  writes = λ question rcode ttl answers authorities was.
+  writes = λ limit question rcode ttl answers authorities was.
       let f = proof_records (wants_dnssec question) in
-      subst (λ all. HasWritten question rcode ttl answers all after)
+      subst (λ all. HasWrittenWithin limit question rcode ttl answers all after)
       (append_assoc authorities (flat_map f first) (flat_map f second) ∙ ap (λ more. authorities ++ more) (sym (flat_map-append f first second)))
-      (two.writes question rcode ttl answers (authorities ++ flat_map f first) (one.writes question rcode ttl answers authorities was));
+      (two.writes limit question rcode ttl answers (authorities ++ flat_map f first) (one.writes limit question rcode ttl answers authorities was));
 }
 
 pub puts_none : (written : Written) → Puts [] written written
 puts_none written = record {
-  writes = λ question rcode ttl answers authorities was. subst (λ all. HasWritten question rcode ttl answers all written) (sym (append-nil authorities)) was;
+  writes = λ limit question rcode ttl answers authorities was. subst (λ all. HasWrittenWithin limit question rcode ttl answers all written) (sym (append-nil authorities)) was;
 }
 
 pub puts_same : (first second : List Record) (before after : Written) → first ≡ second → Puts first before after → Puts second before after

@@ -8,7 +8,7 @@ use Rattle.denial_records.specs.declared.verdict.Kind.{Kind}
 use Rattle.denial_records.specs.declared.verdict.Kind.TheVariants as kinds
 use Rattle.cache_meaning.specs.Held.{Held}
 use Rattle.resolver.specs.Walk.{Way, ByAlias, ByDname, Link, End, Proved, Made, TooLong, Walk}
-use Rattle.resolver.specs.WalkReply.{way_denials, end_denials, walk_in, octets_at}
+use Rattle.resolver.specs.WalkReply.{way_denials, end_denials, walk_in, octets_within}
 use Rattle.resolver.specs.declared.origin.Origin.{Origin}
 use Rattle.resolver.specs.declared.origin.Origin.TheVariants.{Set, NoData, NameError, Wildcard, Alias, Redirection}
 use Rattle.resolver.specs.declared.rule.Rule.{Rule}
@@ -50,10 +50,10 @@ origin_of walk = origin_by walk.links walk.end
 abbrev pub origin_in : Rule → Held → Question → ℕ → Option Origin
 origin_in rule held question now = option_map origin_of (walk_in rule held question now)
 
--- that of the walk and the reply that it gives; neither where there is no walk
-pub record IsReplyOf (question : Question) (now : ℕ) (found : Option Walk) (origin : Option Origin) (octets : List ℕ) : Type 0 where
+-- that of the walk and the reply that it gives within the limit; neither where there is no walk
+pub record IsReplyOf (limit : ℕ) (question : Question) (now : ℕ) (found : Option Walk) (origin : Option Origin) (octets : List ℕ) : Type 0 where
   pub made : origin ≡ option_map origin_of found
-  pub written : octets ≡ unwrap_or (option_map (octets_at question now) found) []
+  pub written : octets ≡ unwrap_or (option_map (octets_within limit question now) found) []
 
 -- whether a denial has part in the reply
 abbrev pub is_synthesized : Origin → Bool

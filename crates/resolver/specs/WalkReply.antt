@@ -12,8 +12,8 @@ use Rattle.denial_records.specs.declared.record.Record.{Record}
 use Rattle.denial_records.specs.declared.record.Record.TheVariants.{Set, Nsec, Nsec3}
 use Rattle.cache_meaning.specs.Held.{Held, same_parameters, parameters_of}
 use Rattle.reply_core.specs.Kept.{owner_of, listed}
-use Rattle.reply_core.specs.Reply.{ReplyRecord, wants_dnssec, rcode_of, set_records, proof_records}
-use Rattle.reply_core.specs.Sections.{alias_record, sent_octets}
+use Rattle.reply_core.specs.Reply.{ReplyRecord, wants_dnssec, rcode_of, set_records, proof_records, limit_of}
+use Rattle.reply_core.specs.Sections.{alias_record, sent_within}
 use Rattle.reply_core.specs.declared.rcode.TheConstants.{NO_ERROR, YX_DOMAIN}
 use Rattle.resolver.specs.Walk.{Way, ByAlias, ByDname, Link, End, Proved, Made, TooLong, Walk, walk_for, walk_ttl}
 use Rattle.resolver.specs.declared.rule.Rule.{Rule}
@@ -115,11 +115,15 @@ end_rcode (Made set target) = NO_ERROR
 end_rcode (TooLong set) = YX_DOMAIN
 
 -- the reply, whole where that is within the limit, else truncated
-abbrev pub walk_octets : Question → Walk → ℕ → List ℕ
-walk_octets question walk ttl =
-    sent_octets question (end_rcode walk.end) ttl
+abbrev pub walk_within : ℕ → Question → Walk → ℕ → List ℕ
+walk_within limit question walk ttl =
+    sent_within limit question (end_rcode walk.end) ttl
     (walk_answers (wants_dnssec question) walk)
     (walk_authorities (wants_dnssec question) walk)
+
+-- within what a datagram of the client takes
+abbrev pub walk_octets : Question → Walk → ℕ → List ℕ
+walk_octets question walk ttl = walk_within (limit_of question.edns) question walk ttl
 
 -- ---- what held records give
 
@@ -127,9 +131,16 @@ abbrev pub walk_in : Rule → Held → Question → ℕ → Option Walk
 walk_in rule held question now = walk_for rule held now question.name question.qtype question.qclass
 
 -- the reply of a walk at a moment, with the TTL that it then has
+abbrev pub octets_within : ℕ → Question → ℕ → Walk → List ℕ
+octets_within limit question now walk = walk_within limit question walk (walk_ttl now walk)
+
 abbrev pub octets_at : Question → ℕ → Walk → List ℕ
-octets_at question now walk = walk_octets question walk (walk_ttl now walk)
+octets_at question now walk = octets_within (limit_of question.edns) question now walk
 
 -- the reply by the rule, or none where the query is forwarded
+abbrev pub walk_reply_within : ℕ → Rule → Held → Question → ℕ → Option (List ℕ)
+walk_reply_within limit rule held question now =
+    option_map (octets_within limit question now) (walk_in rule held question now)
+
 abbrev pub walk_reply_in : Rule → Held → Question → ℕ → Option (List ℕ)
-walk_reply_in rule held question now = option_map (octets_at question now) (walk_in rule held question now)
+walk_reply_in rule held question now = walk_reply_within (limit_of question.edns) rule held question now

@@ -57,6 +57,6 @@ pub use replying::reply;
 pub use rule::Rule;
 pub use shared_cache::{CacheSeat, SharedCache};
 pub use walk::{End, MAX_LINKS, Walk, Way};
-pub use walk_replying::walk_reply;
+pub use walk_replying::{walk_reply, walk_reply_within};
 pub use walking::{follow, synthesise, walk_from};
-pub use writing::{write_redirected, write_trail, write_walk};
+pub use writing::{write_redirected, write_trail, write_walk, write_walk_within};

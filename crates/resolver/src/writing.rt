@@ -2,12 +2,14 @@
 ghost use Rattle.std.specs.Prelude.{◌≡◌, ◌≤◌, ◌++◌, ℕ, List, [], length, take, unwrap_or};
 ghost use Rattle.std.specs.List.{flat_map};
 ghost use Rattle.dname.specs.Name.{Label};
+ghost use Rattle.dnswire.specs.declared.edns.TheConstants.{LEAST_PAYLOAD};
 ghost use Rattle.dnswire.specs.declared.question.Question.{Question as Asked};
 ghost use Rattle.reply_core.specs.Kept.{owner_of, listed};
 ghost use Rattle.reply_core.specs.Reply.{ReplyRecord, wants_dnssec, rcode_of, set_records, proof_records};
-ghost use Rattle.reply_core.specs.Sections.{HasWritten};
+ghost use Rattle.reply_core.specs.Sections.{HasWrittenWithin};
 ghost use Rattle.reply_core.specs.Shown.{shown_by, denial_in};
-ghost use Rattle.resolver.specs.WalkReply.{dname_records, made_records, way_records, end_records, walk_answers, end_denials, are_new, denials_after, end_soa, end_rcode, walk_octets};
+ghost use Rattle.reply_core.specs.declared.draft.TheConstants.{MAX_LONG_REPLY};
+ghost use Rattle.resolver.specs.WalkReply.{dname_records, made_records, way_records, end_records, walk_answers, end_denials, are_new, denials_after, end_soa, end_rcode, walk_within, walk_octets};
 ghost use Rattle.resolver.specs.Lent.{made_by, next_by, way_by, links_by, end_by, walk_by, one_alias, dnames_by, denials_in, denials_by};
 
 use crate::leading::{made_name, next_name};
@@ -17,13 +19,30 @@ use denial_records::{Denial, KeptSet, Kind, Verdict};
 use dname::Name;
 use dnswire::Question;
 use reply_core::rcode::{NAME_ERROR, NO_ERROR, YX_DOMAIN};
-use reply_core::{ReplyBuffer, Sections};
+use reply_core::{Reply, ReplyBuffer, Sections, limit_of};
 
 /// Writes the reply that the walk gives to the question, with the walk's TTL, in place of what the buffer held.
 pub fn write_walk(question: &Question, walk: &Walk<'_>, out: &mut ReplyBuffer)
     ensures { out.new ≡ walk_octets question.now (walk_by walk.now) walk.now.ttl }
 {
-    let mut sections = Sections::begin(question, end_rcode(&walk.end), walk.ttl);
+    write_walk_within(limit_of(question.edns), question, walk, out);
+}
+
+/// The same within this limit.
+pub fn write_walk_within<const N: usize>(
+    limit: usize,
+    question: &Question,
+    walk: &Walk<'_>,
+    out: &mut Reply<N>,
+)
+    requires size { N ≤ MAX_LONG_REPLY }
+    requires room { limit ≤ N }
+    requires least { LEAST_PAYLOAD ≤ limit }
+    ensures value { out.new ≡ walk_within limit question.now (walk_by walk.now) walk.now.ttl }
+    ensures within_limit { length out.new ≤ limit }
+{
+    let rcode = end_rcode(&walk.end);
+    let mut sections = Sections::begin_within(limit, question, rcode, walk.ttl);
     put_answers(&mut sections, walk);
     put_soa(&mut sections, &walk.end);
     put_denials(&mut sections, walk.links.as_slice(), &walk.end);
@@ -45,10 +64,10 @@ pub fn write_redirected(question: &Question, redirected: &Walk<'_>, out: &mut Re
 }
 
 // The records of each link, and those that answer at the end.
-fn put_answers(sections: &mut Sections<'_>, walk: &Walk<'_>)
-    ensures { (question : Asked) (rcode ttl : ℕ)
-        → HasWritten question rcode ttl [] [] sections.old
-        → HasWritten question rcode ttl
+fn put_answers<const N: usize>(sections: &mut Sections<'_, N>, walk: &Walk<'_>)
+    ensures { (limit : ℕ) (question : Asked) (rcode ttl : ℕ)
+        → HasWrittenWithin limit question rcode ttl [] [] sections.old
+        → HasWrittenWithin limit question rcode ttl
         (walk_answers (wants_dnssec question) (walk_by walk.now)) [] sections.new }
 {
     let links = walk.links.as_slice();
@@ -61,10 +80,15 @@ fn put_answers(sections: &mut Sections<'_>, walk: &Walk<'_>)
     put_end(sections, links, &walk.last_name, &walk.end);
 }
 
-fn put_way(sections: &mut Sections<'_>, earlier: &[Way<'_>], name: &Name, way: &Way<'_>)
-    ensures { (question : Asked) (rcode ttl : ℕ) (answers : List ReplyRecord)
-        → HasWritten question rcode ttl answers [] sections.old
-        → HasWritten question rcode ttl
+fn put_way<const N: usize>(
+    sections: &mut Sections<'_, N>,
+    earlier: &[Way<'_>],
+    name: &Name,
+    way: &Way<'_>,
+)
+    ensures { (limit : ℕ) (question : Asked) (rcode ttl : ℕ) (answers : List ReplyRecord)
+        → HasWrittenWithin limit question rcode ttl answers [] sections.old
+        → HasWrittenWithin limit question rcode ttl
         (answers ++ way_records (wants_dnssec question) (dnames_by earlier.now) name.now
         (way_by way.now (next_by name.now way.now))) [] sections.new }
 {
@@ -74,10 +98,15 @@ fn put_way(sections: &mut Sections<'_>, earlier: &[Way<'_>], name: &Name, way: &
     }
 }
 
-fn put_end(sections: &mut Sections<'_>, earlier: &[Way<'_>], name: &Name, end: &End<'_>)
-    ensures { (question : Asked) (rcode ttl : ℕ) (answers : List ReplyRecord)
-        → HasWritten question rcode ttl answers [] sections.old
-        → HasWritten question rcode ttl
+fn put_end<const N: usize>(
+    sections: &mut Sections<'_, N>,
+    earlier: &[Way<'_>],
+    name: &Name,
+    end: &End<'_>,
+)
+    ensures { (limit : ℕ) (question : Asked) (rcode ttl : ℕ) (answers : List ReplyRecord)
+        → HasWrittenWithin limit question rcode ttl answers [] sections.old
+        → HasWrittenWithin limit question rcode ttl
         (answers ++ end_records (wants_dnssec question) (dnames_by earlier.now) name.now
         (end_by name.now end.now)) [] sections.new }
 {
@@ -89,10 +118,15 @@ fn put_end(sections: &mut Sections<'_>, earlier: &[Way<'_>], name: &Name, end: &
 }
 
 // A DNAME set, and the CNAME that it makes.
-fn put_made(sections: &mut Sections<'_>, earlier: &[Way<'_>], name: &Name, set: &KeptSet)
-    ensures { (question : Asked) (rcode ttl : ℕ) (answers : List ReplyRecord)
-        → HasWritten question rcode ttl answers [] sections.old
-        → HasWritten question rcode ttl
+fn put_made<const N: usize>(
+    sections: &mut Sections<'_, N>,
+    earlier: &[Way<'_>],
+    name: &Name,
+    set: &KeptSet,
+)
+    ensures { (limit : ℕ) (question : Asked) (rcode ttl : ℕ) (answers : List ReplyRecord)
+        → HasWrittenWithin limit question rcode ttl answers [] sections.old
+        → HasWrittenWithin limit question rcode ttl
         (answers ++ made_records (wants_dnssec question) (dnames_by earlier.now) name.now set.now
         (unwrap_or (made_by name.now set.now) name.now)) [] sections.new }
 {
@@ -101,10 +135,10 @@ fn put_made(sections: &mut Sections<'_>, earlier: &[Way<'_>], name: &Name, set: 
 }
 
 // A DNAME set, unless an earlier link goes by it.
-fn put_dname(sections: &mut Sections<'_>, earlier: &[Way<'_>], set: &KeptSet)
-    ensures { (question : Asked) (rcode ttl : ℕ) (answers : List ReplyRecord)
-        → HasWritten question rcode ttl answers [] sections.old
-        → HasWritten question rcode ttl
+fn put_dname<const N: usize>(sections: &mut Sections<'_, N>, earlier: &[Way<'_>], set: &KeptSet)
+    ensures { (limit : ℕ) (question : Asked) (rcode ttl : ℕ) (answers : List ReplyRecord)
+        → HasWrittenWithin limit question rcode ttl answers [] sections.old
+        → HasWrittenWithin limit question rcode ttl
         (answers ++ dname_records (wants_dnssec question) (dnames_by earlier.now) set.now) []
         sections.new }
 {
@@ -114,11 +148,11 @@ fn put_dname(sections: &mut Sections<'_>, earlier: &[Way<'_>], set: &KeptSet)
 }
 
 // The SOA set of the last proof.
-fn put_soa(sections: &mut Sections<'_>, end: &End<'_>)
-    ensures { (name : List Label) (question : Asked) (rcode ttl : ℕ)
+fn put_soa<const N: usize>(sections: &mut Sections<'_, N>, end: &End<'_>)
+    ensures { (name : List Label) (limit : ℕ) (question : Asked) (rcode ttl : ℕ)
         (answers : List ReplyRecord)
-        → HasWritten question rcode ttl answers [] sections.old
-        → HasWritten question rcode ttl answers (flat_map (λ soa. set_records
+        → HasWrittenWithin limit question rcode ttl answers [] sections.old
+        → HasWrittenWithin limit question rcode ttl answers (flat_map (λ soa. set_records
         (wants_dnssec question) (owner_of soa) soa) (listed (end_soa (end_by name end.now))))
         sections.new }
 {
@@ -129,11 +163,11 @@ fn put_soa(sections: &mut Sections<'_>, end: &End<'_>)
 }
 
 // The denial records of the links and of the end, each once.
-fn put_denials(sections: &mut Sections<'_>, links: &[Way<'_>], end: &End<'_>)
-    ensures { (name last : List Label) (question : Asked) (rcode ttl : ℕ)
+fn put_denials<const N: usize>(sections: &mut Sections<'_, N>, links: &[Way<'_>], end: &End<'_>)
+    ensures { (name last : List Label) (limit : ℕ) (question : Asked) (rcode ttl : ℕ)
         (answers authorities : List ReplyRecord)
-        → HasWritten question rcode ttl answers authorities sections.old
-        → HasWritten question rcode ttl answers (authorities ++ flat_map (proof_records
+        → HasWrittenWithin limit question rcode ttl answers authorities sections.old
+        → HasWrittenWithin limit question rcode ttl answers (authorities ++ flat_map (proof_records
         (wants_dnssec question))
         (denials_after [] (links_by name links.now) (end_by last end.now))) sections.new }
 {
@@ -150,10 +184,15 @@ fn first_of<'a, 'b>(links: &'b [Way<'a>], count: usize) -> &'b [Way<'a>]
     &links[..count]
 }
 
-fn put_those_of_way(sections: &mut Sections<'_>, earlier: &[Way<'_>], way: &Way<'_>)
-    ensures { (question : Asked) (rcode ttl : ℕ) (answers authorities : List ReplyRecord)
-        → HasWritten question rcode ttl answers authorities sections.old
-        → HasWritten question rcode ttl answers (authorities ++ flat_map (proof_records
+fn put_those_of_way<const N: usize>(
+    sections: &mut Sections<'_, N>,
+    earlier: &[Way<'_>],
+    way: &Way<'_>,
+)
+    ensures { (limit : ℕ) (question : Asked) (rcode ttl : ℕ)
+        (answers authorities : List ReplyRecord)
+        → HasWrittenWithin limit question rcode ttl answers authorities sections.old
+        → HasWrittenWithin limit question rcode ttl answers (authorities ++ flat_map (proof_records
         (wants_dnssec question)) (are_new (denials_by earlier.now) (denials_in way.now)))
         sections.new }
 {
@@ -163,11 +202,15 @@ fn put_those_of_way(sections: &mut Sections<'_>, earlier: &[Way<'_>], way: &Way<
     }
 }
 
-fn put_those_of_end(sections: &mut Sections<'_>, earlier: &[Way<'_>], end: &End<'_>)
-    ensures { (name : List Label) (question : Asked) (rcode ttl : ℕ)
+fn put_those_of_end<const N: usize>(
+    sections: &mut Sections<'_, N>,
+    earlier: &[Way<'_>],
+    end: &End<'_>,
+)
+    ensures { (name : List Label) (limit : ℕ) (question : Asked) (rcode ttl : ℕ)
         (answers authorities : List ReplyRecord)
-        → HasWritten question rcode ttl answers authorities sections.old
-        → HasWritten question rcode ttl answers (authorities ++ flat_map (proof_records
+        → HasWrittenWithin limit question rcode ttl answers authorities sections.old
+        → HasWrittenWithin limit question rcode ttl answers (authorities ++ flat_map (proof_records
         (wants_dnssec question)) (are_new (denials_by earlier.now)
         (end_denials (end_by name end.now)))) sections.new }
 {
@@ -178,10 +221,15 @@ fn put_those_of_end(sections: &mut Sections<'_>, earlier: &[Way<'_>], end: &End<
 }
 
 // The denial records of a verdict that no earlier link has.
-fn put_new_denials(sections: &mut Sections<'_>, earlier: &[Way<'_>], verdict: &Verdict<'_>)
-    ensures { (question : Asked) (rcode ttl : ℕ) (answers authorities : List ReplyRecord)
-        → HasWritten question rcode ttl answers authorities sections.old
-        → HasWritten question rcode ttl answers (authorities ++ flat_map (proof_records
+fn put_new_denials<const N: usize>(
+    sections: &mut Sections<'_, N>,
+    earlier: &[Way<'_>],
+    verdict: &Verdict<'_>,
+)
+    ensures { (limit : ℕ) (question : Asked) (rcode ttl : ℕ)
+        (answers authorities : List ReplyRecord)
+        → HasWrittenWithin limit question rcode ttl answers authorities sections.old
+        → HasWrittenWithin limit question rcode ttl answers (authorities ++ flat_map (proof_records
         (wants_dnssec question)) (are_new (denials_by earlier.now) (shown_by verdict.now).denials))
         sections.new }
 {
@@ -190,10 +238,15 @@ fn put_new_denials(sections: &mut Sections<'_>, earlier: &[Way<'_>], verdict: &V
     put_new_denial(sections, earlier, &verdict.third);
 }
 
-fn put_new_denial(sections: &mut Sections<'_>, earlier: &[Way<'_>], place: &Option<Denial<'_>>)
-    ensures { (question : Asked) (rcode ttl : ℕ) (answers authorities : List ReplyRecord)
-        → HasWritten question rcode ttl answers authorities sections.old
-        → HasWritten question rcode ttl answers (authorities ++ flat_map (proof_records
+fn put_new_denial<const N: usize>(
+    sections: &mut Sections<'_, N>,
+    earlier: &[Way<'_>],
+    place: &Option<Denial<'_>>,
+)
+    ensures { (limit : ℕ) (question : Asked) (rcode ttl : ℕ)
+        (answers authorities : List ReplyRecord)
+        → HasWrittenWithin limit question rcode ttl answers authorities sections.old
+        → HasWrittenWithin limit question rcode ttl answers (authorities ++ flat_map (proof_records
         (wants_dnssec question)) (are_new (denials_by earlier.now) (denial_in place.now)))
         sections.new }
 {

@@ -9,7 +9,7 @@ use Rattle.reply_core.proofs.ReplyLemmas.{header-counts, put-parts}
 use Rattle.reply_core.proofs.alias_reply.put_whole.Goals as goal
 
 pub returns : goal.returns
-returns c =
+returns g c =
     let question = c.args.question.now in
     let proof = shown_by c.args.verdict.now in
     let ttl = c.args.ttl in

@@ -6,10 +6,10 @@ use Rattle.reply_core.proofs.relay.put_section.Goals as goal
 use Rattle.reply_core.proofs.relay.put_section.Goals.{then-is_relayed, else-is_relayed}
 
 pub loop-rr-init : goal.loop-rr-init
-loop-rr-init c = sym (put-nil c.args.draft.now)
+loop-rr-init g c = sym (put-nil c.args.draft.now)
 
 pub loop-rr-preserved : goal.loop-rr-preserved
-loop-rr-preserved c =
+loop-rr-preserved g c =
     let within = rw c.as_slice-rr-items.ensures at c.loop-rr-test.true in
     let is = rw c.as_slice-rr-items.ensures at c.rr-item.is in
     let passes = is_relayed c.args.question.now in
@@ -19,5 +19,5 @@ loop-rr-preserved c =
     ]
 
 pub returns-then-is_over : goal.returns-then-is_over
-returns-then-is_over c =
+returns-then-is_over g c =
     put-stopped_among (is_relayed c.args.question.now) c.args.section.now c.loop-rr.rr-index c.args.draft.now c.loop-rr.draft c.loop-rr.invariant (sym c.is_over.ensures ∙ c.if-is_over.true)

@@ -5,4 +5,4 @@ use Rattle.reply_core.specs.Relay.{rr_octets, relayed}
 use Rattle.reply_core.proofs.relay.put_section.Given as goal
 
 abbrev pub invariant-loop-rr : goal.invariant-loop-rr
-invariant-loop-rr l = l.draft ≡ put l.initial.draft (flat_map rr_octets (relayed l.question (take l.rr-index l.section)))
+invariant-loop-rr g l = l.draft ≡ put l.initial.draft (flat_map rr_octets (relayed l.question (take l.rr-index l.section)))

@@ -8,7 +8,7 @@ use Rattle.reply_core.proofs.RelayLemmas.{header-sections, put-relay}
 use Rattle.reply_core.proofs.relay.put_whole.Goals as goal
 
 pub returns : goal.returns
-returns c =
+returns g c =
     let question = c.args.question.now in
     let message = c.args.message.now in
     let answers = relayed question message.answer in

@@ -4,11 +4,11 @@ use Rattle.resolver.proofs.WalkReplyLemmas.{zone_proof_replies, zone_beyond_repl
 use Rattle.resolver.proofs.walk_replying.reply_from.Goals as goal
 
 pub returns-in-Some : goal.returns-in-Some
-returns-in-Some c =
-    zone_proof_replies c.args.rule c.args.store.now c.args.question.now c.args.now c.args.zone.now c.in-Some.verdict c.proof_origin.result c.write_reply.new.out
-    c.requires c.in-Some.ensures.proved (c.in-Some.ensures.exact.0 refl) c.proof_origin.ensures c.write_reply.ensures.value
+returns-in-Some g c =
+    zone_proof_replies c.args.limit c.args.rule c.args.store.now c.args.question.now c.args.now c.args.zone.now c.in-Some.verdict c.proof_origin.result c.write_reply_within.new.out
+    c.requires.zone c.in-Some.ensures.proved (c.in-Some.ensures.exact.0 refl) c.proof_origin.ensures c.write_reply_within.ensures.value
 
 pub returns : goal.returns
-returns c =
-    zone_beyond_replies c.args.rule c.args.store.now c.args.question.now c.args.now c.args.zone.now c.reply_by_walk.result c.reply_by_walk.new.out
-    c.requires (λ some. false≢true (c.in_default.ensures.exact.1 some)) c.reply_by_walk.ensures
+returns g c =
+    zone_beyond_replies c.args.limit c.args.rule c.args.store.now c.args.question.now c.args.now c.args.zone.now c.reply_by_walk.result c.reply_by_walk.new.out
+    c.requires.zone (λ some. false≢true (c.in_default.ensures.exact.1 some)) c.reply_by_walk.ensures

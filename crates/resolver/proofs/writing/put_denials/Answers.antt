@@ -5,10 +5,10 @@ use Rattle.resolver.proofs.WritingLemmas.{Puts, left_is, puts_same, puts_denials
 use Rattle.resolver.proofs.writing.put_denials.Goals as goal
 
 pub loop-place-init : goal.loop-place-init
-loop-place-init c = λ last. puts_denials_first c.args.links.now (end_by last c.args.end.now) c.args.sections.now
+loop-place-init g c = λ last. puts_denials_first c.args.links.now (end_by last c.args.end.now) c.args.sections.now
 
 pub loop-place-preserved : goal.loop-place-preserved
-loop-place-preserved c = λ last.
+loop-place-preserved g c = λ last.
     let links = c.args.links.now in
     let way = c.index-links-place.result in
     let inside : c.loop-place.place < length links = omega (arith, c.loop-place-test.true) in
@@ -18,7 +18,7 @@ loop-place-preserved c = λ last.
     puts_denials_next links (end_by last c.args.end.now) c.args.sections.now c.loop-place.sections c.put_those_of_way.new.sections c.loop-place.place way inside at (c.loop-place.invariant last) puts
 
 pub returns : goal.returns
-returns c = λ name last.
+returns g c = λ name last.
     let links = c.args.links.now in
     let end = end_by last c.args.end.now in
     let all_done : length links ≤ c.loop-place.place = omega (arith, c.loop-place-test.false) in

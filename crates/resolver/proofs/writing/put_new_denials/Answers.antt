@@ -6,7 +6,7 @@ use Rattle.resolver.proofs.WritingLemmas.{puts_both, puts_same, new_in_turn}
 use Rattle.resolver.proofs.writing.put_new_denials.Goals as goal
 
 pub returns : goal.returns
-returns c =
+returns g c =
     let earlier = denials_by c.args.earlier.now in
     let first = denial_in c.args.verdict.now.first in
     let second = denial_in c.args.verdict.now.second in

@@ -5,6 +5,6 @@ use Rattle.reply_core.proofs.SectionsLemmas.{written-answers}
 use Rattle.reply_core.proofs.sections.Sections.put_alias.Goals as goal
 
 pub returns : goal.returns
-returns c question rcode ttl answers was =
-    written-answers question rcode ttl answers (λ dnssec. alias_record c.args.owner.now c.args.target.now ∷ [])
+returns g c limit question rcode ttl answers was =
+    written-answers limit question rcode ttl answers (λ dnssec. alias_record c.args.owner.now c.args.target.now ∷ [])
     _ _ _ _ _ (rw c.self.view_is was) refl (has_put-one _ _ _ _ c.put_alias.ensures) refl
