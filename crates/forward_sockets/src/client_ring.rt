@@ -66,7 +66,8 @@ impl ClientRing {
         ensures somebody { 1 ≤ result }
         ensures none_else { (other : ℕ) → other ≢ result → IsSome (client_at self.new other)
             → client_at self.new other ≡ client_at self.old other }
-        ensures kept { (other at : ℕ) → other ≢ result → at < PLACES → IsFreeAt self.old at
+        ensures kept { (other at : ℕ) → other ≢ result
+            → at < PLACES → IsFreeAt self.old at
             → client_at self.new other ≡ client_at self.old other }
     {
         let at = self.free_place();
@@ -82,7 +83,8 @@ impl ClientRing {
     // The next free place, or the next one where none is.
     fn free_place(&self) -> usize
         ensures within { result < PLACES }
-        ensures free { (at : ℕ) → at < PLACES → IsFreeAt self.now at → IsFreeAt self.now result }
+        ensures free { (at : ℕ) → at < PLACES
+            → IsFreeAt self.now at → IsFreeAt self.now result }
     {
         for step in 0..PLACES {
             let at = (self.next + step) % PLACES;

@@ -32,12 +32,14 @@ pub struct Sockets {
     events: Events,
     listeners: Listeners,
     askings: Askings,
-    // What is left of both until the next look.
+    // How many tries of both are left until both have their turns again.
     answers: u32,
     queries: u32,
     buffer: [u8; MAX_DATAGRAM],
     moment: Moment,
-    tick_due: u64,
+    // When the next tick is due, and whether it is.
+    next_tick: u64,
+    tick_is_due: bool,
     faults: Faults,
 }
 
@@ -64,22 +66,21 @@ impl Sockets {
             queries: 0,
             buffer: [0; MAX_DATAGRAM],
             moment: Moment::START,
-            tick_due: 0,
+            next_tick: 0,
+            tick_is_due: false,
             faults: Faults::NONE,
         })
     }
 
-    /// Waits for what comes next, and puts its octets into `into`. It is a tick where a quarter of a second has gone by since the
-    /// last one, whatever else has come, and the first time. Answers come before queries: at most 16 queries come between two looks
-    /// at the slots' sockets, and in between what these are told to have. Of a datagram of more than 4,096 octets the rest is lost.
+    /// Waits for what comes next, and puts its octets into `into`. A tick is due the first time, where a quarter of a second has gone
+    /// by since the last one, and after a signal. Answers that lie at the slots' sockets come before it, 256 at most once it is due,
+    /// and queries after it. Else answers come before queries too: at most 16 queries come between two looks at the slots' sockets,
+    /// and in between what these are told to have. Of a datagram of more than 4,096 octets the rest is lost.
     ///
     /// A failed call is counted as a fault, and ends nothing. A clock that fails stands still.
     pub fn receive<C: Clock>(&mut self, clock: &C, into: &mut DatagramOctets) -> Arrival {
-        self.moment.go_on(clock);
+        self.go_on(clock);
         for _ in 0..TRIES {
-            if self.moment.millis >= self.tick_due {
-                break;
-            }
             if let Some(came) = self.try_once(clock, into) {
                 return self.arrival(came);
             }
@@ -87,10 +88,28 @@ impl Sockets {
         self.arrival(Came::Tick)
     }
 
+    // Goes on to what the clock says. The thread may have been held up since the last look, so a tick that is due wants another.
+    fn go_on<C: Clock>(&mut self, clock: &C) {
+        self.moment.go_on(clock);
+        if self.moment.millis >= self.next_tick {
+            self.make_due(clock);
+        }
+    }
+
+    // Has a tick come once the answers that are there now have come.
+    fn make_due<C: Clock>(&mut self, clock: &C) {
+        if !self.tick_is_due {
+            self.tick_is_due = true;
+            self.answers = ANSWERS;
+        }
+        let _told = self.look(clock, 0);
+    }
+
     // What came, now.
     fn arrival(&mut self, came: Came) -> Arrival {
         if came == Came::Tick {
-            self.tick_due = self.moment.millis.saturating_add(TICK);
+            self.tick_is_due = false;
+            self.next_tick = self.moment.millis.saturating_add(TICK);
         }
         Arrival {
             moment: self.moment,
@@ -98,11 +117,15 @@ impl Sockets {
         }
     }
 
-    // Reads one socket that may have something, or, where none has one or each had its turn, looks at all.
+    // Reads one socket that may have something, or, where none has or each had its turn, looks at all. A tick that is due comes
+    // between the answers and the queries.
     fn try_once<C: Clock>(&mut self, clock: &C, into: &mut DatagramOctets) -> Option<Came> {
         if self.answers > 0 && !self.askings.ready.is_empty() {
             self.answers -= 1;
             return self.try_answer(into);
+        }
+        if self.tick_is_due {
+            return Some(Came::Tick);
         }
         if self.queries > 0 && !self.listeners.ready.is_empty() {
             self.queries -= 1;
@@ -110,7 +133,12 @@ impl Sockets {
         }
         self.answers = ANSWERS;
         self.queries = QUERIES;
-        self.look(clock)
+        if self.askings.ready.is_empty() && self.listeners.ready.is_empty() {
+            self.wait(clock);
+        } else {
+            let _told = self.look(clock, 0);
+        }
+        None
     }
 
     fn try_answer(&mut self, into: &mut DatagramOctets) -> Option<Came> {
@@ -125,30 +153,27 @@ impl Sockets {
         Some(Came::Query { client })
     }
 
-    // Asks the system which sockets have something. Where none is known to have, it waits until one has or a tick is due.
-    fn look<C: Clock>(&mut self, clock: &C) -> Option<Came> {
-        let waits = self.askings.ready.is_empty() && self.listeners.ready.is_empty();
-        let patience = if waits {
-            self.tick_due.saturating_sub(self.moment.millis)
+    // Waits until a socket has something or a tick is due. It is due too where the clock stood still, or a signal came.
+    fn wait<C: Clock>(&mut self, clock: &C) {
+        let patience = self.next_tick.saturating_sub(self.moment.millis);
+        if self.look(clock, patience) {
+            self.go_on(clock);
         } else {
-            0
-        };
-        let looked = self
-            .poll
-            .poll(&mut self.events, Some(Duration::from_millis(patience)));
-        let failed = self.faults.wait.note(looked).is_none();
+            self.moment.go_on(clock);
+            self.make_due(clock);
+        }
+    }
+
+    // Asks the system which sockets have something. Where none has, or the call fails, it waits for so many milliseconds. Whether
+    // one has something.
+    fn look<C: Clock>(&mut self, clock: &C, patience: u64) -> bool {
+        let patience = Duration::from_millis(patience);
+        let looked = self.poll.poll(&mut self.events, Some(patience));
+        if self.faults.wait.note(looked).is_none() {
+            thread::sleep(clock, patience);
+        }
         self.mark_ready();
-        if !waits {
-            return None;
-        }
-        if failed {
-            thread::sleep(clock, Duration::from_millis(TICK));
-        }
-        self.moment.go_on(clock);
-        if self.events.is_empty() {
-            return Some(Came::Tick);
-        }
-        None
+        !self.events.is_empty()
     }
 
     fn mark_ready(&mut self) {

@@ -8,6 +8,8 @@ mod opening;
 #[cfg(test)]
 mod order;
 #[cfg(test)]
+mod overdue;
+#[cfg(test)]
 mod scene;
 #[cfg(test)]
 mod slots;
