@@ -202,9 +202,15 @@ faults_text workers =
 
 -- ---- all of it
 
+abbrev pub held_text : CacheReport → List ℕ
+held_text cache =
+    single (codes "dnsreplay_held_records") (codes "Records that the cache holds.") Gauge cache.records
+    ++ single (codes "dnsreplay_held_zones") (codes "Zones of which the cache holds a record.") Gauge cache.zones
+    ++ single (codes "dnsreplay_held_chains") (codes "NSEC and NSEC3 chains of which the cache holds a record.") Gauge cache.chains
+
 abbrev pub cache_text : CacheReport → List ℕ
 cache_text cache =
-    single (codes "dnsreplay_held_records") (codes "Records that the cache holds.") Gauge cache.records
+    held_text cache
     ++ single (codes "dnsreplay_cache_version") (codes "Answers placed in the cache.") Counts cache.version
 
 unfoldable pub status_text_of : List WorkerReport → CacheReport → List ℕ

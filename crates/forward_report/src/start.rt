@@ -69,7 +69,8 @@ fn put_upstream(text: &mut String, upstream: SocketAddr, workers: usize) -> Resu
 }
 
 fn put_warning(text: &mut String, upstream: SocketAddr) -> Result<(), AllocError>
-    ensures { OnOk result (string_bytes text.new ≡ string_bytes text.old ++ warning_line upstream) }
+    ensures { OnOk result
+        (string_bytes text.new ≡ string_bytes text.old ++ warning_line upstream) }
 {
     writeln!(
         text,

@@ -1,5 +1,5 @@
 ghost use Rattle.std.specs.Prelude.{◌≡◌, ◌++◌, IfOk, OnOk, codes, string_bytes};
-ghost use Rattle.forward_report.specs.Status.{cache_text, call_case, count_text, counts_text, failure_text, failures_text, family_text, faults_text, head, line, single, status_text_of, word_of};
+ghost use Rattle.forward_report.specs.Status.{cache_text, call_case, count_text, counts_text, failure_text, failures_text, family_text, faults_text, head, held_text, line, single, status_text_of, word_of};
 
 use crate::family::{Family, case_of};
 use crate::{CacheReport, Call, CallFaults, WorkerReport};
@@ -154,6 +154,20 @@ fn call_case(call: Call) -> &'static str
 fn put_cache(text: &mut String, cache: CacheReport) -> Result<(), AllocError>
     ensures { OnOk result (string_bytes text.new ≡ string_bytes text.old ++ cache_text cache) }
 {
+    put_held(text, cache)?;
+    put_single(
+        text,
+        "dnsreplay_cache_version",
+        "Answers placed in the cache.",
+        Kind::Counts,
+        cache.version,
+    )?;
+    Ok(())
+}
+
+fn put_held(text: &mut String, cache: CacheReport) -> Result<(), AllocError>
+    ensures { OnOk result (string_bytes text.new ≡ string_bytes text.old ++ held_text cache) }
+{
     put_single(
         text,
         "dnsreplay_held_records",
@@ -163,10 +177,17 @@ fn put_cache(text: &mut String, cache: CacheReport) -> Result<(), AllocError>
     )?;
     put_single(
         text,
-        "dnsreplay_cache_version",
-        "Answers placed in the cache.",
-        Kind::Counts,
-        cache.version,
+        "dnsreplay_held_zones",
+        "Zones of which the cache holds a record.",
+        Kind::Gauge,
+        cache.zones,
+    )?;
+    put_single(
+        text,
+        "dnsreplay_held_chains",
+        "NSEC and NSEC3 chains of which the cache holds a record.",
+        Kind::Gauge,
+        cache.chains,
     )?;
     Ok(())
 }

@@ -118,6 +118,12 @@ dnsreplay_faults_total{call=\"send\",worker=\"1\"} 149\n\
 # HELP dnsreplay_held_records Records that the cache holds.\n\
 # TYPE dnsreplay_held_records gauge\n\
 dnsreplay_held_records 131072\n\
+# HELP dnsreplay_held_zones Zones of which the cache holds a record.\n\
+# TYPE dnsreplay_held_zones gauge\n\
+dnsreplay_held_zones 4021\n\
+# HELP dnsreplay_held_chains NSEC and NSEC3 chains of which the cache holds a record.\n\
+# TYPE dnsreplay_held_chains gauge\n\
+dnsreplay_held_chains 5310\n\
 # HELP dnsreplay_cache_version Answers placed in the cache.\n\
 # TYPE dnsreplay_cache_version counter\n\
 dnsreplay_cache_version 18446744073709551615\n";
@@ -127,6 +133,12 @@ const END: &str = "\
 # HELP dnsreplay_held_records Records that the cache holds.\n\
 # TYPE dnsreplay_held_records gauge\n\
 dnsreplay_held_records 131072\n\
+# HELP dnsreplay_held_zones Zones of which the cache holds a record.\n\
+# TYPE dnsreplay_held_zones gauge\n\
+dnsreplay_held_zones 4021\n\
+# HELP dnsreplay_held_chains NSEC and NSEC3 chains of which the cache holds a record.\n\
+# TYPE dnsreplay_held_chains gauge\n\
+dnsreplay_held_chains 5310\n\
 # HELP dnsreplay_cache_version Answers placed in the cache.\n\
 # TYPE dnsreplay_cache_version counter\n\
 dnsreplay_cache_version 18446744073709551615\n";
@@ -150,6 +162,8 @@ fn worker(first: u64) -> WorkerReport {
 fn cache() -> CacheReport {
     CacheReport {
         records: 131_072,
+        zones: 4_021,
+        chains: 5_310,
         version: u64::MAX,
     }
 }
@@ -166,7 +180,7 @@ fn the_status_of_two_workers(rt: HostRuntime) -> Result<(), Fail> {
 fn the_status_of_none(rt: HostRuntime) -> Result<(), Fail> {
     let text = status_text(rt.alloc(), &[], cache())?;
     assert!(rt;
-        text.as_str().ends_with(END) && text.as_str().lines().count() == 32,
+        text.as_str().ends_with(END) && text.as_str().lines().count() == 38,
         "{text}"
     );
     Ok(())

@@ -1,5 +1,6 @@
 //! An answer of the upstream.
 ghost use Rattle.std.specs.Prelude.{◌≡◌, ◌≤◌, ◌<◌, length, Some, None, IfOk, IfSome, OnOk};
+ghost use mathlib.Core.List.{IsPrefix};
 ghost use Rattle.cache_versions.specs.Seats.{seen_by};
 ghost use Rattle.counters.specs.Counts.{times, with_tally};
 ghost use Rattle.resolver.specs.Caches.{IsSeatOf};
@@ -46,6 +47,7 @@ pub(crate) fn serve_answer<R: Wait, O: Outlet>(
     requires called { IsCalled passed.now (seen_by seat.old) table.old counts.old event.now
         (O.Outlet.told outlet.old) }
     ensures object { IsSeatOf cache.now seat.new }
+    ensures begins { IsPrefix (seen_by seat.old) (seen_by seat.new) }
     ensures work { IsAtWork passed.now (seen_by seat.new) table.new counts.new
         (O.Outlet.told outlet.new) }
 {
@@ -139,6 +141,7 @@ fn serve_message<R: Wait, O: Outlet>(
     requires called { IsCalled passed.now (seen_by seat.old) table.old counts.old event.now
         (O.Outlet.told outlet.old) }
     ensures object { IsSeatOf cache.now seat.new }
+    ensures begins { IsPrefix (seen_by seat.old) (seen_by seat.new) }
     ensures work { IsAtWork passed.now (seen_by seat.new) table.new counts.new
         (O.Outlet.told outlet.new) }
 {

@@ -66,10 +66,7 @@ impl<'a, R: Wait> MemoryOutlet<'a, R> {
             incoming,
             room,
             shown: Counts::new(),
-            holding: Holding {
-                records: 0,
-                version: 0,
-            },
+            holding: Holding::nothing(),
         })
     }
 

@@ -1,17 +1,13 @@
 //! Options in the OPT record that ends a reply, and those of a message's.
-ghost use Rattle.std.specs.Prelude.{◌≡◌, ◌≤◌, ◌+◌, ◌++◌, length, IfSome};
+ghost use Rattle.std.specs.Prelude.{◌≡◌, ◌≤◌, ◌+◌, length, IfSome};
 ghost use Rattle.reply_core.specs.Reply.{limit_of};
 ghost use Rattle.reply_core.specs.declared.draft.TheConstants.{MAX_REPLY};
 ghost use Rattle.forwarding.specs.Options.{can_take, has_no_data, option_size, opt_data, room_in, told, with_options};
 
-use arrayvec::ArrayVec;
 use dname::types::OPT_TYPE;
-use dname::{octets_between, u16_at};
+use dname::u16_at;
 use dnswire::{Edns, LEAST_PAYLOAD, RrList};
 use reply_core::{MAX_REPLY, ReplyBuffer};
-
-/// Octets of a reply's options.
-pub(crate) type OptionOctets = ArrayVec<u8, MAX_REPLY>;
 
 // The octets of a code and a length.
 const OPTION_HEAD: usize = 4;
@@ -48,21 +44,9 @@ fn set_options(options: &[u8], out: &mut ReplyBuffer)
     requires room { length out.old + length options.now ≤ MAX_REPLY }
     ensures { out.new ≡ with_options options.now out.old }
 {
-    let mut octets: OptionOctets = ArrayVec::new();
-    let reply = out.as_slice();
-    append(&mut octets, octets_between(reply, 0, reply.len() - 2));
-    append(&mut octets, &(options.len() as u16).to_be_bytes());
-    append(&mut octets, options);
-    out.fill(octets.as_slice());
-}
-
-/// Appends octets for which there is room.
-pub(crate) fn append(octets: &mut OptionOctets, piece: &[u8])
-    requires { length octets.old.items + length piece.now ≤ MAX_REPLY }
-    ensures { octets.new.items ≡ octets.old.items ++ piece.now }
-{
-    let fitted = octets.try_extend_from_slice(piece).is_ok();
-    prove!(fitted);
+    let end = out.as_slice().len();
+    out.replace_from(end - 2, &(options.len() as u16).to_be_bytes());
+    out.replace_from(end, options);
 }
 
 /// The octets that the reply may have more.

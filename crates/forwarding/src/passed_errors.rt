@@ -1,5 +1,5 @@
 //! The upstream's extended errors, passed on.
-ghost use Rattle.std.specs.Prelude.{◌≡◌, ◌≤◌, ◌+◌, ◌++◌, length};
+ghost use Rattle.std.specs.Prelude.{◌≡◌, ◌≤◌, length};
 ghost use Rattle.reply_core.specs.Relay.{relay_octets};
 ghost use Rattle.reply_core.specs.Reply.{limit_of};
 ghost use Rattle.reply_core.specs.declared.rcode.TheConstants.{MAX_RCODE};
@@ -8,11 +8,14 @@ ghost use Rattle.forwarding.specs.Options.{opt_data, room_in};
 ghost use Rattle.forwarding.specs.ExtendedError.{errors_in, is_error_octets, told_relay, with_error};
 
 use crate::EXTENDED_ERROR;
-use crate::opt_options::{OptionOctets, append, opt_data, option_size, put_options, room_in};
+use crate::opt_options::{opt_data, option_size, put_options, room_in};
 use arrayvec::ArrayVec;
 use dname::{octets_between, octets_from, u16_at};
 use dnswire::{Message, Question};
-use reply_core::{ReplyBuffer, write_relay};
+use reply_core::{MAX_REPLY, ReplyBuffer, write_relay};
+
+// Octets of a reply's options.
+type OptionOctets = ArrayVec<u8, MAX_REPLY>;
 
 /// Writes the reply by which an upstream server's message is relayed to the client that asked the question, in place of what the
 /// buffer held, with the message's extended errors where the client has an OPT record, as far as there is room.
@@ -64,7 +67,8 @@ fn put_error(room: usize, option: &[u8], errors: &mut OptionOctets)
     ensures { errors.new.items ≡ with_error room option.now errors.old.items }
 {
     if is_error(option) && errors.len() + option.len() <= room {
-        append(errors, option);
+        let fitted = errors.try_extend_from_slice(option).is_ok();
+        prove!(fitted);
     }
 }
 

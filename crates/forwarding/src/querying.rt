@@ -43,6 +43,7 @@ pub(crate) fn serve_query<O: Outlet, D: Dice>(
     requires called { IsCalled passed.now (seen_by seat.old) table.old counts.old event.now
         (O.Outlet.told outlet.old) }
     ensures object { IsSeatOf cache.now seat.new }
+    ensures begins { IsPrefix (seen_by seat.old) (seen_by seat.new) }
     ensures work { IsAtWork passed.now (seen_by seat.new) table.new counts.new
         (O.Outlet.told outlet.new) }
 {
@@ -131,6 +132,7 @@ fn serve_question<O: Outlet, D: Dice>(
     requires called { IsCalled passed.now (seen_by seat.old) table.old counts.old event.now
         (O.Outlet.told outlet.old) }
     ensures object { IsSeatOf cache.now seat.new }
+    ensures begins { IsPrefix (seen_by seat.old) (seen_by seat.new) }
     ensures work { IsAtWork passed.now (seen_by seat.new) table.new counts.new
         (O.Outlet.told outlet.new) }
 {

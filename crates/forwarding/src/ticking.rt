@@ -10,7 +10,7 @@ ghost use Rattle.waiting_table.specs.Steps.{is_due_in, is_late_in, late_clients,
 ghost use Rattle.waiting_table.specs.declared.waiting_table.TheConstants.{SLOTS};
 ghost use Rattle.forwarding.specs.declared.event.Came.TheVariants as comes;
 ghost use Rattle.forwarding.specs.Done.{due_in, tick_done, tick_sends};
-ghost use Rattle.forwarding.specs.Holding.{holding_of};
+ghost use Rattle.forwarding.specs.Holding.{WasHeld, holding_of};
 ghost use Rattle.forwarding.specs.Lawful.{IsAtWork, IsCalled, MaySendAll, more_sent};
 
 use crate::asking::ask;
@@ -24,7 +24,7 @@ use resolver::{CacheSeat, SharedCache};
 use waiting_table::{SLOTS, WaitingTable};
 
 /// Nothing came for a while: the seat lets its old version go, late questions are given up, and those that are due are asked again.
-/// Gives what the version holds.
+/// `holding` is what was held at the last tick, and becomes what is held now.
 pub(crate) fn serve_tick<O: Outlet, D: Dice>(
     outlet: &mut O,
     dice: &D,
@@ -33,47 +33,54 @@ pub(crate) fn serve_tick<O: Outlet, D: Dice>(
     passed: &PassedNames,
     table: &mut WaitingTable,
     counts: &mut Counts,
+    holding: &mut Holding,
     event: &Event,
     out: &mut ReplyBuffer,
-) -> Holding
+)
     requires object { IsSeatOf cache.now seat.old }
+    requires holding { WasHeld holding.old (seen_by seat.old) }
     requires tick { event.now.came ≡ comes.Tick }
     requires called { IsCalled passed.now (seen_by seat.old) table.old counts.old event.now
         (O.Outlet.told outlet.old) }
     ensures object { IsSeatOf cache.now seat.new }
     ensures work { IsAtWork passed.now (seen_by seat.new) table.new counts.new
         (O.Outlet.told outlet.new) }
-    ensures holding { result ≡ holding_of (seen_by seat.new) }
+    ensures holding { holding.new ≡ holding_of (seen_by seat.new) }
 {
     each_turn_is_lawful();
-    let holding = look_over(cache, seat);
+    look_over(cache, seat, holding);
     let now = event.moment.millis;
     if table.next_due(0, now) == table.len() {
         counts.each_is_small();
-        return holding;
+        return;
     }
     count_tick(table, now, counts);
     let ids = draw(dice, table, now);
     tick(outlet, cache, seat, passed, table, &ids, now, out);
-    holding
 }
 
-// What the published version holds, to which the seat goes on.
-fn look_over(cache: &SharedCache, seat: &mut CacheSeat) -> Holding
-    requires { IsSeatOf cache.now seat.old }
+// What the published version holds, to which the seat goes on. It is counted where it isn't the version of the last tick.
+fn look_over(cache: &SharedCache, seat: &mut CacheSeat, holding: &mut Holding)
+    requires object { IsSeatOf cache.now seat.old }
+    requires holding { WasHeld holding.old (seen_by seat.old) }
     ensures on { HasGoneOn cache.now seat.old seat.new }
-    ensures holding { result ≡ holding_of (seen_by seat.new) }
+    ensures holding { holding.new ≡ holding_of (seen_by seat.new) }
 {
     let version = cache.read(seat);
-    holding_of(&version)
+    if version.number() != holding.version {
+        *holding = holding_of(&version);
+    }
 }
 
 fn holding_of(version: &VersionRef<'_, Store>) -> Holding
     requires { opening_by (seat_in version.now) ≡ nothing_held }
     ensures { result ≡ holding_of (seen_by (seat_in version.now)) }
 {
+    let state = version.state();
     Holding {
-        records: version.state().len(),
+        records: state.len(),
+        zones: state.zones(),
+        chains: state.chains(),
         version: version.number(),
     }
 }

@@ -4,12 +4,13 @@ ghost use Rattle.cache_versions.specs.Seats.{seen_by};
 ghost use Rattle.counters.specs.Counts.{no_counts};
 ghost use Rattle.resolver.specs.Caches.{IsSeatOf};
 ghost use Rattle.waiting_table.specs.Waiting.{empty_table};
+ghost use Rattle.forwarding.specs.Holding.{WasHeld};
 ghost use Rattle.forwarding.specs.Lawful.{IsAtWork, IsCalled, IsNew};
 
 use crate::answering::serve_answer;
 use crate::querying::serve_query;
 use crate::ticking::serve_tick;
-use crate::{Came, Dice, Event, Outlet, PassedNames};
+use crate::{Came, Dice, Event, Holding, Outlet, PassedNames};
 use counters::Counts;
 use reply_core::ReplyBuffer;
 use resolver::{CacheSeat, SharedCache};
@@ -38,10 +39,22 @@ pub fn serve_on<R: Wait, O: Outlet, D: Dice>(
     requires outlet { IsNew (O.Outlet.told outlet.old) }
     ensures { ⊥ }
 {
+    let mut holding = Holding::nothing();
     let mut out = ReplyBuffer::new();
     for _ in rt.forever() {
         serve_next(
-            rt, alloc, cache, seat, passed, table, counts, event, outlet, dice, &mut out,
+            rt,
+            alloc,
+            cache,
+            seat,
+            passed,
+            table,
+            counts,
+            &mut holding,
+            event,
+            outlet,
+            dice,
+            &mut out,
         );
     }
     unreachable!()
@@ -69,15 +82,27 @@ pub fn serve_some<R: Wait, O: Outlet, D: Dice>(
     ensures work { IsAtWork passed.now (seen_by seat.new) table.new counts.new
         (O.Outlet.told outlet.new) }
 {
+    let mut holding = Holding::nothing();
     let mut out = ReplyBuffer::new();
     for _ in 0..events {
         serve_next(
-            rt, alloc, cache, seat, passed, table, counts, event, outlet, dice, &mut out,
+            rt,
+            alloc,
+            cache,
+            seat,
+            passed,
+            table,
+            counts,
+            &mut holding,
+            event,
+            outlet,
+            dice,
+            &mut out,
         );
     }
 }
 
-// Waits for the next event, and does what it asks for.
+// Waits for the next event, and does what it asks for. `holding` is what was held at the last tick.
 fn serve_next<R: Wait, O: Outlet, D: Dice>(
     rt: &R,
     alloc: Global,
@@ -86,6 +111,7 @@ fn serve_next<R: Wait, O: Outlet, D: Dice>(
     passed: &PassedNames,
     table: &mut WaitingTable,
     counts: &mut Counts,
+    holding: &mut Holding,
     event: &mut Event,
     outlet: &mut O,
     dice: &D,
@@ -94,13 +120,15 @@ fn serve_next<R: Wait, O: Outlet, D: Dice>(
     requires object { IsSeatOf cache.now seat.old }
     requires work { IsAtWork passed.now (seen_by seat.old) table.old counts.old
         (O.Outlet.told outlet.old) }
+    requires holding { WasHeld holding.old (seen_by seat.old) }
     ensures object { IsSeatOf cache.now seat.new }
     ensures work { IsAtWork passed.now (seen_by seat.new) table.new counts.new
         (O.Outlet.told outlet.new) }
+    ensures holding { WasHeld holding.new (seen_by seat.new) }
 {
     outlet.receive(rt, event);
     serve_event(
-        rt, alloc, cache, seat, passed, table, counts, event, outlet, dice, out,
+        rt, alloc, cache, seat, passed, table, counts, holding, event, outlet, dice, out,
     );
 }
 
@@ -113,6 +141,7 @@ fn serve_event<R: Wait, O: Outlet, D: Dice>(
     passed: &PassedNames,
     table: &mut WaitingTable,
     counts: &mut Counts,
+    holding: &mut Holding,
     event: &Event,
     outlet: &mut O,
     dice: &D,
@@ -121,9 +150,11 @@ fn serve_event<R: Wait, O: Outlet, D: Dice>(
     requires object { IsSeatOf cache.now seat.old }
     requires called { IsCalled passed.now (seen_by seat.old) table.old counts.old event.now
         (O.Outlet.told outlet.old) }
+    requires holding { WasHeld holding.old (seen_by seat.old) }
     ensures object { IsSeatOf cache.now seat.new }
     ensures work { IsAtWork passed.now (seen_by seat.new) table.new counts.new
         (O.Outlet.told outlet.new) }
+    ensures holding { WasHeld holding.new (seen_by seat.new) }
 {
     match event.came {
         Came::Query { client } => {
@@ -138,8 +169,10 @@ fn serve_event<R: Wait, O: Outlet, D: Dice>(
             );
         }
         Came::Tick => {
-            let holding = serve_tick(outlet, dice, cache, seat, passed, table, counts, event, out);
-            outlet.show(cache, seat, passed, counts, holding);
+            serve_tick(
+                outlet, dice, cache, seat, passed, table, counts, holding, event, out,
+            );
+            outlet.show(cache, seat, passed, counts, *holding);
         }
     }
 }

@@ -128,6 +128,8 @@ fn what_is_held_is_told(rt: HostRuntime) -> Result<(), Fail> {
     let holding = served.holding;
     let wanted = Holding {
         records: 3,
+        zones: 1,
+        chains: 1,
         version: 1,
     };
     assert!(rt; holding == wanted, "{holding:?}");

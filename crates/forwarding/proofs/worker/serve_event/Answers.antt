@@ -1,5 +1,7 @@
 use Rattle.std.proofs.Common.{◌∙◌, sym, ap}
+use Rattle.cache_versions.specs.Seats.{seen_by}
 use Rattle.forwarding.specs.declared.event.Came.TheVariants as comes
+use Rattle.forwarding.proofs.HoldingLemmas.{held_now, held_still}
 use Rattle.forwarding.proofs.worker.serve_event.Goals as goal
 
 pub serve_answer-requires-clause-answer : goal.serve_answer-requires-clause-answer
@@ -7,7 +9,7 @@ serve_answer-requires-clause-answer g c = c.in-Answer.is ∙ ap comes.Answer (sy
 
 pub show-requires : goal.show-requires
 show-requires g c = record {
-  object = c.serve_tick-holding.ensures.object;
-  exact = (c.serve_tick-holding.new.table, c.serve_tick-holding.ensures.work);
-  holding = c.serve_tick-holding.ensures.holding;
+  object = c.serve_tick.ensures.object;
+  exact = (c.serve_tick.new.table, c.serve_tick.ensures.work);
+  holding = c.serve_tick.ensures.holding;
 }
