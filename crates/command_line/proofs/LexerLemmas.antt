@@ -4,7 +4,7 @@ use Rattle.std.specs.List.{list_any}
 use Rattle.std.specs.Str.{bytes_eq}
 use Rattle.std.specs.Str.Parse.{IsNumeral}
 use Rattle.std.specs.Char.{digit_value}
-use Rattle.std.proofs.lemmas.Bool.{false≢true, eqb-true, eqb-false}
+use Rattle.std.proofs.lemmas.Bool.{false≢true, eqb-true, eqb-false, or_right}
 use Rattle.std.proofs.lemmas.Slice.Eq.{bytes_eq-Decides}
 use Rattle.clap.specs.Lexer.{long_of, short_of, name_and_value}
 use Rattle.clap.proofs.CutLemmas.{Lacks}
@@ -12,8 +12,16 @@ use Rattle.clap.proofs.LexerLemmas.{name_and_value-at, name_and_value-without}
 use Rattle.command_line.specs.Words.{Word}
 use Rattle.command_line.specs.Options.{dashed, dashes, is_name}
 
+abbrev pub has_equals : Word → Bool
+has_equals text = list_any (λ o. o == 61) text
+
 abbrev is_bare : Word → Bool
-is_bare text = not (list_any (λ o. o == 61) text)
+is_bare text = not (has_equals text)
+
+-- a word that joins a value to a name
+pub equals_in : (name text : Word) → has_equals (name ++ 61 ∷ text) ≡ true
+equals_in [] text = refl
+equals_in (octet ∷ name) text = or_right (octet == 61) (has_equals (name ++ 61 ∷ text)) (equals_in name text)
 
 -- ---- equal words
 

@@ -5,3 +5,9 @@ pub mod SoundLemmas
 pub mod FullLemmas
 pub mod GivenLemmas
 pub mod CommandLemmas
+pub mod SpelledLemmas
+pub mod DraftLemmas
+pub mod NameTextLemmas
+pub mod ChoiceLemmas
+pub mod WrongLemmas
+pub mod ForwardLemmas

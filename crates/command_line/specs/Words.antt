@@ -1,9 +1,23 @@
 -- The words of the command line, those after the program's name: which of them are a command, with which values.
-use Rattle.std.specs.Prelude.{◌≡◌, ◌⊎◌, ℕ, ◌+◌, ◌-◌, ◌<◌, ◌≤◌, List, [], ◌∷◌, ◌++◌, length, map, codes, string_bytes, String}
+use Rattle.std.specs.Prelude.{◌≡◌, ◌≢◌, ◌⊎◌, ℕ, ◌+◌, ◌-◌, ◌==◌, ◌||◌, ◌<◌, ◌≤◌, Bool, false, List, [], ◌∷◌, ◌++◌, length, map, filter, Option, Some, None, IsTrue, if◌then◌else◌, codes, string_bytes, String}
+use Rattle.std.specs.List.{All, AllPairs, Contains, slice_split}
+use Rattle.std.specs.Option.{option_to_list}
+use Rattle.std.specs.Char.{is_ascii_alphanumeric}
+use Rattle.std.specs.Str.{bytes_eq}
 use Rattle.std.specs.Str.Parse.{IsNumeral, digits_value}
+use Rattle.std.specs.Net.Addr.{IsUnspecifiedV4, IsUnspecifiedV6, MatchIp}
+use Rattle.std.specs.Net.Grammar.{IsSocketText}
+use Rattle.std.specs.Net.Socket.{socket_ip, socket_port}
 use Rattle.std.specs.declared.alloc.Global.{Global}
+use Rattle.std.specs.declared.net.socket_addr.SocketAddr.{SocketAddr}
+use Rattle.dname.specs.Name.{Label, HasLabelLength, lowered, wire_of}
 use Rattle.command_line.specs.declared.command.Command.{Command}
-use Rattle.command_line.specs.declared.command.Command.TheVariants.{Replay, Selfrun, Serve, Chase, Redirect, Follow, Tcp, Audit}
+use Rattle.command_line.specs.declared.command.Command.TheVariants.{Replay, Selfrun, Serve, Chase, Redirect, Follow, Tcp, Audit, Forward, Help, Version}
+use Rattle.command_line.specs.declared.flag.Flag.{Flag}
+use Rattle.command_line.specs.declared.flag.Flag.TheVariants.{Listen, Upstream, Workers, Pass, Status}
+use Rattle.command_line.specs.declared.forward_settings.ForwardSettings.{ForwardSettings}
+use Rattle.command_line.specs.declared.topic.Topic.{Topic}
+use Rattle.command_line.specs.declared.topic.Topic.TheVariants as topic
 
 -- a word, octet by octet
 abbrev pub Word : Type 0
@@ -36,7 +50,7 @@ pub data Gives : List (Setting × ℕ) → List Word → Type 0 where
       → given ≡ before ++ (setting, value) ∷ after → words ≡ front ++ back
       → Sets setting value front → Gives (before ++ after) back → Gives given words
 
--- ---- the commands
+-- ---- the ranges of values
 
 abbrev pub workers_setting : Setting
 workers_setting = record { name = codes "--workers"; least = 1; most = 32 }
@@ -67,6 +81,137 @@ pub record HasPorts (listen upstream workers : ℕ) : Type 0 where
   pub last : listen + workers - 1 ≤ 65535
   pub apart : (upstream < listen) ⊎ (listen + workers ≤ upstream)
 
+-- ---- the options of `forward`
+
+-- an option with the text of its value
+abbrev pub Choice : Type 0
+Choice = Flag × Word
+
+abbrev pub flag_name : Flag → Word
+flag_name Listen = codes "--listen"
+flag_name Upstream = codes "--upstream"
+flag_name Workers = codes "--workers"
+flag_name Pass = codes "--pass"
+flag_name Status = codes "--status"
+
+-- the text begins with a hyphen (45)
+abbrev pub begins_with_hyphen : Word → Bool
+begins_with_hyphen [] = false
+begins_with_hyphen (octet ∷ more) = octet == 45
+
+-- the words are this option with its value, and then the rest: two words, of which the second begins with no hyphen, or one
+pub data BeginsWith (choice : Choice) (rest words : List Word) : Type 0 where
+  two :
+      begins_with_hyphen choice.1 ≡ false → words ≡ flag_name choice.0 ∷ choice.1 ∷ rest
+      → BeginsWith choice rest words
+  one : words ≡ (flag_name choice.0 ++ 61 ∷ choice.1) ∷ rest → BeginsWith choice rest words
+
+-- the words are these options, one behind another, and then the rest
+abbrev pub AreOptions : List Choice → List Word → List Word → Type 0
+AreOptions [] rest words = words ≡ rest
+AreOptions (choice ∷ more) rest words =
+    (behind : List Word) × BeginsWith choice behind words × AreOptions more rest behind
+
+-- the texts that an option has among these, in their order
+abbrev pub texts_of : Flag → List Choice → List Word
+texts_of flag choices =
+    map (λ choice. choice.1)
+    (filter (λ choice. bytes_eq (flag_name flag) (flag_name choice.0)) choices)
+
+-- the texts spell the values, each its own
+abbrev pub AreSpelled : {A : Type 0} → (Word → A → Type 0) → List Word → List A → Type 0
+AreSpelled Spells [] [] = Unit {0}
+AreSpelled Spells [] (value ∷ values) = ⊥
+AreSpelled Spells (text ∷ more) [] = ⊥
+AreSpelled Spells (text ∷ more) (value ∷ values) =
+    Spells text value × AreSpelled Spells more values
+
+-- it is 0.0.0.0 or ::, which stand for every address of the machine
+abbrev pub IsEvery : SocketAddr → Type 0
+IsEvery place = MatchIp (socket_ip place) IsUnspecifiedV4 IsUnspecifiedV6
+
+-- the text writes an address and a port at which one may listen, or which one may ask
+pub record IsPlaceText (text : Word) (place : SocketAddr) : Type 0 where
+  pub written : IsSocketText text place
+  pub single : IsEvery place → ⊥
+  pub port : 1 ≤ socket_port place
+
+-- the text without a dot (46) at its end
+abbrev pub without_dot : Word → Word
+without_dot [] = []
+without_dot (octet ∷ []) = if octet == 46 then [] else octet ∷ []
+without_dot (octet ∷ next ∷ more) = octet ∷ without_dot (next ∷ more)
+
+-- the octet is a letter, a digit, '-' or '_'
+abbrev pub is_label_octet : ℕ → Bool
+is_label_octet octet = is_ascii_alphanumeric octet || (octet == 45 || octet == 95)
+
+-- the text is a label: 1 to 63 such octets (RFC 1035, section 2.3.4)
+pub record IsLabelText (text : Word) : Type 0 where
+  pub size : HasLabelLength text
+  pub octets : All (λ octet. IsTrue (is_label_octet octet)) text
+
+-- the parts are the labels of the name, which keeps them with A to Z lowered and has at most 255 octets (RFC 1035, section 2.3.4)
+pub record AreLabelsOf (parts : List Word) (name : List Label) : Type 0 where
+  pub each : All IsLabelText parts
+  pub kept : name ≡ map lowered parts
+  pub fits : length (wire_of name) ≤ 255
+
+-- the text writes the name, label by label with dots between them, and maybe one at the end
+abbrev pub IsNameText : Word → List Label → Type 0
+IsNameText text name = AreLabelsOf (slice_split (λ octet. octet == 46) (without_dot text)) name
+
+-- the text is the path, octet by octet, and has one at least
+pub record IsPathText (text path : Word) : Type 0 where
+  pub same : path ≡ text
+  pub some : 1 ≤ length text
+
+-- the options set these: up to eight places at which to listen, no two the same; one server at most, at none of them; one count of
+-- workers at most; up to 16 names that are passed; and one file at most. Each is set by an option of its own
+pub record AreSet
+    (choices : List Choice) (places servers : List SocketAddr) (counts : List ℕ)
+    (names : List (List Label)) (files : List Word) : Type 0 where
+  pub listens : AreSpelled IsPlaceText (texts_of Listen choices) places
+  pub few : length places ≤ 8
+  pub apart : AllPairs (λ one other. one ≢ other) places
+  pub asks : AreSpelled IsPlaceText (texts_of Upstream choices) servers
+  pub one_server : length servers ≤ 1
+  pub elsewhere : All (λ server. Contains places server → ⊥) servers
+  pub workers : AreSpelled (IsValue workers_setting) (texts_of Workers choices) counts
+  pub one_count : length counts ≤ 1
+  pub passes : AreSpelled IsNameText (texts_of Pass choices) names
+  pub few_passes : length names ≤ 16
+  pub tells : AreSpelled IsPathText (texts_of Status choices) files
+  pub one_file : length files ≤ 1
+
+-- the words behind `forward` are its options, and ask for this: one place at least at which to listen, one server, one count of
+-- workers, and maybe names and a file
+pub record AsksForward (words : List Word) (settings : ForwardSettings) : Type 0 where
+  pub choices : List Choice
+  pub given : AreOptions choices [] words
+  pub some : 1 ≤ length settings.listens
+  pub set :
+      AreSet choices settings.listens (settings.upstream ∷ []) (settings.workers ∷ [])
+      settings.passes (option_to_list settings.status)
+
+-- ---- the commands
+
+abbrev pub topic_name : Topic → Word
+topic_name topic.Replay = codes "replay"
+topic_name topic.Selfrun = codes "selfrun"
+topic_name topic.Serve = codes "serve"
+topic_name topic.Chase = codes "chase"
+topic_name topic.Redirect = codes "redirect"
+topic_name topic.Follow = codes "follow"
+topic_name topic.Tcp = codes "tcp"
+topic_name topic.Audit = codes "audit"
+topic_name topic.Forward = codes "forward"
+
+-- this word, alone or behind a command's name
+abbrev pub about : Option Topic → Word → List Word
+about None word = word ∷ []
+about (Some topic) word = topic_name topic ∷ word ∷ []
+
 -- the words after a command's name are its options; `chase`, `redirect`, `follow` and `audit` have none
 abbrev pub Means : List Word → Command → Type 0
 Means words (Replay workers) =
@@ -86,6 +231,10 @@ Means words (Tcp listen connections) =
     (options : List Word) × (words ≡ codes "tcp" ∷ options)
     × Gives ((listen_setting, listen) ∷ (connections_setting, connections) ∷ []) options
 Means words Audit = words ≡ codes "audit" ∷ []
+Means words (Forward settings) =
+    (options : List Word) × (words ≡ codes "forward" ∷ options) × AsksForward options settings
+Means words (Help topic) = words ≡ about topic (codes "--help")
+Means words Version = (topic : Option Topic) × (words ≡ about topic (codes "--version"))
 
 abbrev pub texts : List (String Global) → List Word
 texts words = map string_bytes words

@@ -1,66 +1,25 @@
-ghost use Rattle.std.specs.Prelude.{◌≡◌, ◌↔◌, ◌≤◌, ℕ, [], ◌∷◌, drop, length, IfOk, IfSome, IsTrue, Some};
+ghost use Rattle.std.specs.Prelude.{◌≡◌, ◌↔◌, ◌≤◌, ℕ, [], ◌∷◌, drop, length, IfNone, IfOk, IfSome, IsTrue, None, Some};
 ghost use Rattle.std.specs.String.{string_bytes};
-ghost use Rattle.command_line.specs.Words.{AreWordsOf, Gives, texts, workers_setting, seed_setting, names_setting, queries_setting, listen_setting, upstream_setting, datagrams_setting, connections_setting, HasPorts};
-ghost use Rattle.command_line.specs.Options.{IsBareNamed};
-ghost use Rattle.command_line.specs.declared.command.Command.TheVariants.{Replay, Selfrun, Serve, Tcp};
+ghost use Rattle.command_line.specs.Words.{AreWordsOf, AsksForward, Gives, IsCommand, texts, workers_setting, seed_setting, names_setting, queries_setting, listen_setting, upstream_setting, datagrams_setting, connections_setting, HasPorts};
+ghost use Rattle.command_line.specs.Faults.{IsFaultIn, IsFaultOf, IsForward};
+ghost use Rattle.command_line.specs.Options.{IsBareNamed, IsTold, IsToldBy};
+ghost use Rattle.command_line.specs.declared.command.Command.TheVariants.{Replay, Selfrun, Serve, Tcp, Forward};
+ghost use Rattle.command_line.specs.declared.forward_settings.ForwardSettings.{ForwardSettings};
 
+use crate::drafting::settings_of;
+use crate::fault::Fault;
+use crate::forward_settings::ForwardSettings;
 use crate::matching::{matches_of, value_in};
-use crate::setting::Setting;
+use crate::refusal::Refusal;
+use crate::setting::{CONNECTIONS, DATAGRAMS, LISTEN, NAMES, QUERIES, SEED, UPSTREAM, WORKERS};
+use crate::topic::Topic;
 use std::alloc::{AllocError, Global};
 
 /// Memory ran out.
 pub type OutOfMemory = AllocError;
 
-const WORKERS: Setting<'static> = Setting {
-    name: "workers",
-    least: 1,
-    most: 32,
-};
-
-const SEED: Setting<'static> = Setting {
-    name: "seed",
-    least: 0,
-    most: u32::MAX,
-};
-
-const NAMES: Setting<'static> = Setting {
-    name: "names",
-    least: 1,
-    most: 10_000,
-};
-
-const QUERIES: Setting<'static> = Setting {
-    name: "queries",
-    least: 0,
-    most: 100_000,
-};
-
-const LISTEN: Setting<'static> = Setting {
-    name: "listen",
-    least: 1,
-    most: 65_535,
-};
-
-const UPSTREAM: Setting<'static> = Setting {
-    name: "upstream",
-    least: 1,
-    most: 65_535,
-};
-
-const DATAGRAMS: Setting<'static> = Setting {
-    name: "datagrams",
-    least: 1,
-    most: 5_000,
-};
-
-const CONNECTIONS: Setting<'static> = Setting {
-    name: "connections",
-    least: 1,
-    most: 100,
-};
-
 /// What the words ask for.
-#[derive(Clone, Copy, Debug, PartialEq, Eq)]
+#[derive(Debug, Drop)]
 pub enum Command {
     /// Frames are replayed over this many workers, 1 to 32.
     Replay {
@@ -94,11 +53,18 @@ pub enum Command {
     },
     /// A recorded run is audited against a zone.
     Audit,
+    /// Clients' queries are answered from the cache or forwarded, with no end.
+    Forward(ForwardSettings),
+    /// It is told how the command is called, or the program.
+    Help(Option<Topic>),
+    /// The program's version is told.
+    Version,
 }
 
 /// The command that the words after the program's name are, if they are one. Each of its options
 /// stands there once, in any order, as `--name value` or `--name=value`; a value is 1 to 10 ASCII
-/// digits. `OutOfMemory` comes only where memory runs out.
+/// digits. In `forward` some stand more often, or not at all, and values are of other kinds too.
+/// `OutOfMemory` comes only where memory runs out.
 pub fn command_of(alloc: Global, words: &[String]) -> Result<Option<Command>, OutOfMemory>
     ensures read { IfOk result (λ found. IfSome found (AreWordsOf words.now)) }
     ensures every { (command : _) → AreWordsOf words.now command
@@ -109,6 +75,9 @@ pub fn command_of(alloc: Global, words: &[String]) -> Result<Option<Command>, Ou
     }
     let first = &words[0];
     let options = after_first(words);
+    if let Some(told) = told_of(first, options) {
+        return Ok(Some(told));
+    }
     if is_word(first, "replay") {
         return replay_of(alloc, options);
     }
@@ -121,7 +90,49 @@ pub fn command_of(alloc: Global, words: &[String]) -> Result<Option<Command>, Ou
     if is_word(first, "tcp") {
         return tcp_of(alloc, options);
     }
+    if is_word(first, "forward") {
+        return forward_of(alloc, options);
+    }
     Ok(bare_of(first, options))
+}
+
+/// The first fault of words that begin with `forward` and are no command. Other words have none.
+/// `OutOfMemory` comes only where memory runs out.
+pub fn fault_of<'a>(alloc: Global, words: &'a [String]) -> Result<Option<Fault<'a>>, OutOfMemory>
+    ensures told { IfOk result (λ found. IfSome found (IsFaultOf words.entry.now)) }
+    ensures none { IfOk result (λ found. IfNone found
+        (IsForward words.entry.now → IsCommand words.entry.now)) }
+    ensures right { IsCommand words.entry.now → IfOk result (λ found. found ≡ None) }
+{
+    if words.is_empty() {
+        return Ok(None);
+    }
+    let first = &words[0];
+    let options = after_first(words);
+    if !is_word(first, "forward") {
+        return Ok(None);
+    }
+    if told_of(first, options).is_some() {
+        return Ok(None);
+    }
+    fault_in(alloc, options)
+}
+
+// The first fault of the words behind `forward`.
+fn fault_in<'a>(alloc: Global, options: &'a [String]) -> Result<Option<Fault<'a>>, OutOfMemory>
+    ensures told { IfOk result (λ found.
+        IfSome found (IsFaultIn (texts options.entry.now))) }
+    ensures none { IfOk result (λ found. IfNone found
+        ((settings : ForwardSettings) × AsksForward (texts options.entry.now) settings)) }
+{
+    match settings_of(alloc, options) {
+        Ok(settings) => {
+            drop(settings);
+            Ok(None)
+        }
+        Err(Refusal::Faulty(fault)) => Ok(Some(fault)),
+        Err(Refusal::OutOfMemory) => Err(AllocError),
+    }
 }
 
 fn replay_of(alloc: Global, options: &[String]) -> Result<Option<Command>, OutOfMemory>
@@ -257,6 +268,50 @@ fn tcp_of(alloc: Global, options: &[String]) -> Result<Option<Command>, OutOfMem
     }))
 }
 
+fn forward_of(alloc: Global, options: &[String]) -> Result<Option<Command>, OutOfMemory>
+    ensures read { IfOk result (λ found. IfSome found (λ command. (settings : ForwardSettings)
+        × (command ≡ Forward settings) × AsksForward (texts options.now) settings)) }
+    ensures every { (settings : ForwardSettings) → AsksForward (texts options.now) settings
+        → IfOk result (λ found. found ≡ Some (Forward settings)) }
+{
+    match settings_of(alloc, options) {
+        Ok(settings) => Ok(Some(Command::Forward(settings))),
+        Err(Refusal::Faulty(_)) => Ok(None),
+        Err(Refusal::OutOfMemory) => Err(AllocError),
+    }
+}
+
+// What is told of a command, or of the program, if that is asked for.
+fn told_of(first: &String, options: &[String]) -> Option<Command>
+    ensures read { IfSome result (IsTold (string_bytes first.now ∷ texts options.now)) }
+    ensures every { (command : _)
+        → IsTold (string_bytes first.now ∷ texts options.now) command
+        → result ≡ Some command }
+{
+    if options.is_empty() {
+        return told_by(first, None);
+    }
+    let topic = Topic::named(first.as_str())?;
+    if options.len() > 1 {
+        return None;
+    }
+    told_by(&options[0], Some(topic))
+}
+
+fn told_by(word: &String, topic: Option<Topic>) -> Option<Command>
+    ensures read { IfSome result (IsToldBy (string_bytes word.now) topic) }
+    ensures every { (command : _) → IsToldBy (string_bytes word.now) topic command
+        → result ≡ Some command }
+{
+    if is_word(word, "--help") {
+        return Some(Command::Help(topic));
+    }
+    if is_word(word, "--version") {
+        return Some(Command::Version);
+    }
+    None
+}
+
 // The command that has no options, if the first word is its name, and the only word.
 fn bare_of(first: &String, options: &[String]) -> Option<Command>
     ensures read { IfSome result (λ command. (texts options.now ≡ [])
@@ -302,6 +357,3 @@ fn is_word(word: &String, text: &str) -> bool
 {
     word.as_str() == text
 }
-
-#[cfg(test)]
-mod tests;

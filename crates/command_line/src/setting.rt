@@ -10,6 +10,54 @@ pub(crate) struct Setting<'a> {
     pub(crate) most: u32,
 }
 
+pub(crate) const WORKERS: Setting<'static> = Setting {
+    name: "workers",
+    least: 1,
+    most: 32,
+};
+
+pub(crate) const SEED: Setting<'static> = Setting {
+    name: "seed",
+    least: 0,
+    most: u32::MAX,
+};
+
+pub(crate) const NAMES: Setting<'static> = Setting {
+    name: "names",
+    least: 1,
+    most: 10_000,
+};
+
+pub(crate) const QUERIES: Setting<'static> = Setting {
+    name: "queries",
+    least: 0,
+    most: 100_000,
+};
+
+pub(crate) const LISTEN: Setting<'static> = Setting {
+    name: "listen",
+    least: 1,
+    most: 65_535,
+};
+
+pub(crate) const UPSTREAM: Setting<'static> = Setting {
+    name: "upstream",
+    least: 1,
+    most: 65_535,
+};
+
+pub(crate) const DATAGRAMS: Setting<'static> = Setting {
+    name: "datagrams",
+    least: 1,
+    most: 5_000,
+};
+
+pub(crate) const CONNECTIONS: Setting<'static> = Setting {
+    name: "connections",
+    least: 1,
+    most: 100,
+};
+
 impl<'a> Setting<'a> {
     /// The value that the text spells, if it is one of the option's.
     pub(crate) fn value_of(&self, text: &str) -> Option<u32>

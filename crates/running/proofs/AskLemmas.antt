@@ -8,7 +8,7 @@ use Rattle.resolver.specs.declared.answering.Answering.{Answering}
 use Rattle.resolver.specs.declared.answering.Answering.TheVariants.{ByProof, ByWalk}
 use Rattle.command_line.specs.Words.{AreWordsOf}
 use Rattle.command_line.specs.declared.command.Command.{Command}
-use Rattle.command_line.specs.declared.command.Command.TheVariants.{Replay, Selfrun, Serve, Chase, Redirect, Follow, Tcp, Audit}
+use Rattle.command_line.specs.declared.command.Command.TheVariants.{Replay, Selfrun, Serve, Chase, Redirect, Follow, Tcp, Audit, Forward, Help, Version}
 use Rattle.running.specs.Run.{AsksReplay}
 
 answering_of : Command → Answering
@@ -20,6 +20,9 @@ answering_of Redirect = ByWalk Redirection
 answering_of Follow = ByWalk Both
 answering_of (Tcp listen connections) = ByProof
 answering_of Audit = ByProof
+answering_of (Forward settings) = ByProof
+answering_of (Help topic) = ByProof
+answering_of Version = ByProof
 
 workers_of : Command → ℕ
 workers_of (Replay workers) = workers
@@ -30,6 +33,9 @@ workers_of Redirect = 1
 workers_of Follow = 1
 workers_of (Tcp listen connections) = 0
 workers_of Audit = 0
+workers_of (Forward settings) = 0
+workers_of (Help topic) = 0
+workers_of Version = 0
 
 -- the words are a command that replays so
 record Asked (words : List (String Global)) (answering : Answering) (workers : ℕ) : Type 0 where

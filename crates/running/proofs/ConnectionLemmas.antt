@@ -11,7 +11,7 @@ use Rattle.stream_server.specs.declared.connect_fault.ConnectFault.TheVariants a
 use Rattle.stream_server.proofs.BackLemmas.{came_none, none_served}
 use Rattle.running.specs.Connections.{ArePlacedBy, HasServedAfter, HasServedPartAfter, IsOfTcp}
 use Rattle.running.specs.declared.status.Status.{Status}
-use Rattle.running.specs.declared.status.Status.TheVariants.{Usage, WriteFault, HarborFault}
+use Rattle.running.specs.declared.status.Status.TheVariants.{Usage, WriteFault, HarborFault, ListenFault}
 
 abbrev Ended : Type 0
 Ended = Result (Unit {0}) ConnectFault
@@ -88,3 +88,11 @@ not_harbor status (inr (inl is)) other = cc
 not_harbor status (inr (inr (inl (inl is)))) other = cc
 not_harbor status (inr (inr (inl (inr is)))) other = cc
 not_harbor status (inr (inr (inr is))) other = cc
+
+pub not_listen : (status : Status) → IsOfTcp status → status ≡ ListenFault → ⊥
+not_listen status (inl (inl is)) other = cc
+not_listen status (inl (inr is)) other = cc
+not_listen status (inr (inl is)) other = cc
+not_listen status (inr (inr (inl (inl is)))) other = cc
+not_listen status (inr (inr (inl (inr is)))) other = cc
+not_listen status (inr (inr (inr is))) other = cc

@@ -2,7 +2,9 @@ pub mod AskLemmas
 pub mod AuditLemmas
 pub mod ConnectionLemmas
 pub mod CountLemmas
+pub mod ForwardLemmas
 pub mod GivenLemmas
+pub mod HelpLemmas
 pub mod LoadLemmas
 pub mod MadeLemmas
 pub mod RunLemmas

@@ -5,7 +5,7 @@ use Rattle.std.specs.declared.alloc.Global.{Global}
 use Rattle.std.proofs.lemmas.Option.{none-some, same_Some}
 use Rattle.command_line.specs.Words.{Word, AreWordsOf, Means, texts}
 use Rattle.command_line.specs.declared.command.Command.{Command}
-use Rattle.command_line.specs.declared.command.Command.TheVariants.{Replay, Selfrun, Serve, Chase, Redirect, Follow, Tcp, Audit}
+use Rattle.command_line.specs.declared.command.Command.TheVariants.{Replay, Selfrun, Serve, Chase, Redirect, Follow, Tcp, Audit, Forward, Help, Version}
 use Rattle.command_line.proofs.CommandLemmas.{servable}
 use Rattle.serving.specs.declared.service.Service.{Service}
 use Rattle.running.specs.Serve.{service_of}
@@ -27,6 +27,9 @@ asked_of Redirect = service_of 0 0 0 0
 asked_of Follow = service_of 0 0 0 0
 asked_of (Tcp listen connections) = service_of 0 0 0 0
 asked_of Audit = service_of 0 0 0 0
+asked_of (Forward settings) = service_of 0 0 0 0
+asked_of (Help topic) = service_of 0 0 0 0
+asked_of Version = service_of 0 0 0 0
 
 -- one command asks for one service
 pub same_service : (command : Command) (l u w d l' u' w' d' : ℕ) → command ≡ Serve l u w d → Some command ≡ Some (Serve l' u' w' d') → service_of l u w d ≡ service_of l' u' w' d'
@@ -42,6 +45,9 @@ port_of Redirect = 0
 port_of Follow = 0
 port_of (Tcp listen connections) = listen
 port_of Audit = 0
+port_of (Forward settings) = 0
+port_of (Help topic) = 0
+port_of Version = 0
 
 connections_of : Command → ℕ
 connections_of (Replay workers) = 0
@@ -52,6 +58,9 @@ connections_of Redirect = 0
 connections_of Follow = 0
 connections_of (Tcp listen connections) = connections
 connections_of Audit = 0
+connections_of (Forward settings) = 0
+connections_of (Help topic) = 0
+connections_of Version = 0
 
 -- and for one port, and so many connections
 pub same_tcp : (command : Command) (l c l' c' : ℕ) → command ≡ Tcp l c → Some command ≡ Some (Tcp l' c') → (l ≡ l') × (c ≡ c')

@@ -1,5 +1,7 @@
 pub mod Audit
 pub mod Connections
+pub mod Forward
+pub mod Help
 pub mod Made
 pub mod Run
 pub mod Serve

@@ -4,9 +4,12 @@ ghost use Rattle.command_line.specs.Words.{IsCommand, AreWordsOf};
 ghost use Rattle.running.specs.Run.{AsksReplay, HasGiven, HasReplayed, IsReadOn, IsReadTo, IsReplayed, IsCutShort, IsTaken, IsNoFrames, IsOfReplay, IsOfSelfrun, IsRefused, IsStatusOf};
 ghost use Rattle.running.specs.declared.reading.TheConstants.{MAX_INPUT, MAX_SOURCE};
 ghost use Rattle.running.specs.Summary.{IsSummed, IsSummedInPart};
-ghost use Rattle.command_line.specs.declared.command.Command.TheVariants.{Selfrun, Serve, Tcp, Audit};
+ghost use Rattle.command_line.specs.declared.command.Command.TheVariants.{Selfrun, Serve, Tcp, Audit, Forward};
+ghost use Rattle.command_line.specs.declared.forward_settings.ForwardSettings.{ForwardSettings};
 ghost use Rattle.resolver.specs.declared.answering.Answering.{Answering};
 ghost use Rattle.serving.specs.Back.{CameBack, AllServedWhole};
+ghost use Rattle.running.specs.Forward.{IsOfForward, IsWant};
+ghost use Rattle.running.specs.Help.{AsksText, IsOfText, IsTextCut, IsTextWritten};
 ghost use Rattle.running.specs.Serve.{service_of, EndedInWant, IsOfServe, ServedInPart};
 ghost use Rattle.running.specs.Connections.{HasServed, HasServedInPart, IsOfTcp};
 ghost use Rattle.run_audit.specs.declared.finding.Finding.TheVariants.{Yes};
@@ -14,12 +17,14 @@ ghost use Rattle.run_audit.specs.Line.{finding_line};
 ghost use Rattle.running.specs.Audit.{AreUpheld, HasAudited, HasAuditedInPart, IsAuditStatusOf, IsOfAudit, IsTooLong, IsUnaudited};
 
 use crate::audit::run_the_audit;
+use crate::forward::{Outlets, run_forward};
 use crate::reading::{MAX_INPUT, ReadError, read_whole};
 use crate::replay::replay;
 use crate::selfrun::selfrun;
 use crate::status::Status;
 use crate::tcp::run_tcp;
-use command_line::{Command, command_of};
+use crate::telling::tell;
+use command_line::{Command, VERSION_LINE, command_of, help_text};
 use gateway::Gateway;
 use outside_core::{Clock, Gate, Harbor, Sink, Source, write_whole};
 use resolver::Rule;
@@ -39,9 +44,18 @@ const BY_REDIRECTION: Answering = Answering::ByWalk {
 
 const BY_BOTH: Answering = Answering::ByWalk { rule: Rule::Both };
 
-/// Runs the words, those after the program's name: replays or audits over the source and the sink, and serves over the harbor, or
-/// the gateway, at the moments that the clock tells. Workers of a replay pass the gate.
-pub fn run<R: Threads + Wait + Sync, S: Source, K: Sink, G: Gate, H: Harbor, C: Clock, W: Gateway>(
+/// Runs the words, those after the program's name: replays or audits over the source and the sink, serves over the harbor, or
+/// the gateway, at the moments that the clock tells, and forwards over the outlets. Workers of a replay pass the gate.
+pub fn run<
+    R: Threads + Wait + Sync,
+    S: Source,
+    K: Sink,
+    G: Gate,
+    H: Harbor,
+    C: Clock,
+    W: Gateway,
+    O: Outlets,
+>(
     rt: &R,
     alloc: Global,
     words: &[String],
@@ -51,6 +65,7 @@ pub fn run<R: Threads + Wait + Sync, S: Source, K: Sink, G: Gate, H: Harbor, C: 
     harbor: &mut H,
     clock: &C,
     gateway: &mut W,
+    outlets: &mut O,
 ) -> Status
     requires { W.Gateway.listens gateway.old ≡ None }
 
@@ -256,6 +271,41 @@ pub fn run<R: Threads + Wait + Sync, S: Source, K: Sink, G: Gate, H: Harbor, C: 
         → (Rose (S.faults source.old) (S.faults source.new) → ⊥)
         → (Rose (K.faults sink.old) (K.faults sink.new) → ⊥)
         → IsAuditStatusOf octets result ⊎ (result ≡ Status.OutOfMemory) }
+
+    // What `forward` can't begin with is told. Where outlets couldn't be opened none was handed
+    // out, so nothing was received. Once it serves it doesn't return. It neither reads nor writes.
+    ensures forward_ends { (settings : ForwardSettings)
+        → AreWordsOf words.now (Forward settings) → IsOfForward result }
+    ensures forward_complete { (settings : ForwardSettings)
+        → AreWordsOf words.now (Forward settings)
+        → (Rose (O.Outlets.faults outlets.old) (O.Outlets.faults outlets.new) → ⊥)
+        → IsWant result }
+    ensures forward_aside { (settings : ForwardSettings)
+        → AreWordsOf words.now (Forward settings)
+        → (source.new ≡ source.old) × (sink.new ≡ sink.old) }
+    ensures unlistened { result ≡ Status.ListenFault
+        → O.Outlets.is_open outlets.new ≡ O.Outlets.is_open outlets.old }
+    ensures listen_fault { result ≡ Status.ListenFault
+        → Rose (O.Outlets.faults outlets.old) (O.Outlets.faults outlets.new) }
+    ensures no_listen_fault { IsWant result
+        → O.Outlets.faults outlets.new ≡ O.Outlets.faults outlets.old }
+    ensures unforwarded { ((settings : ForwardSettings)
+        → AreWordsOf words.now (Forward settings) → ⊥)
+        → outlets.new ≡ outlets.old }
+
+    // A text that `--help` or `--version` asks for is written. It doesn't read.
+    ensures told { (text : List ℕ) → AsksText words.now text
+        → result ≡ Status.Good
+        → IsTextWritten text (K.written sink.old) (K.written sink.new) }
+    ensures told_in_part { (text : List ℕ) → AsksText words.now text
+        → result ≡ Status.WriteFault
+        → IsTextCut text (K.written sink.old) (K.written sink.new) }
+    ensures text_ends { (text : List ℕ) → AsksText words.now text → IsOfText result }
+    ensures text_complete { (text : List ℕ) → AsksText words.now text
+        → (Rose (K.faults sink.old) (K.faults sink.new) → ⊥)
+        → (result ≡ Status.Good) ⊎ (result ≡ Status.OutOfMemory) }
+    ensures text_unread { (text : List ℕ) → AsksText words.now text
+        → source.new ≡ source.old }
 {
     let command = match command_of(alloc, words) {
         Ok(Some(command)) => command,
@@ -266,10 +316,22 @@ pub fn run<R: Threads + Wait + Sync, S: Source, K: Sink, G: Gate, H: Harbor, C: 
         Command::Replay { workers } => {
             run_replay(rt, alloc, Answering::ByProof, workers, source, sink, gate)
         }
-        Command::Chase => run_replay(rt, alloc, BY_ALIASES, 1, source, sink, gate),
-        Command::Redirect => run_replay(rt, alloc, BY_REDIRECTION, 1, source, sink, gate),
-        Command::Follow => run_replay(rt, alloc, BY_BOTH, 1, source, sink, gate),
-        Command::Audit => run_the_audit(alloc, source, sink),
+        Command::Chase => {
+            drop(command);
+            run_replay(rt, alloc, BY_ALIASES, 1, source, sink, gate)
+        }
+        Command::Redirect => {
+            drop(command);
+            run_replay(rt, alloc, BY_REDIRECTION, 1, source, sink, gate)
+        }
+        Command::Follow => {
+            drop(command);
+            run_replay(rt, alloc, BY_BOTH, 1, source, sink, gate)
+        }
+        Command::Audit => {
+            drop(command);
+            run_the_audit(alloc, source, sink)
+        }
         Command::Selfrun {
             seed,
             names,
@@ -287,6 +349,16 @@ pub fn run<R: Threads + Wait + Sync, S: Source, K: Sink, G: Gate, H: Harbor, C: 
             listen,
             connections,
         } => { run_tcp(rt, alloc, listen, connections, source, gate, clock, gateway) }
+        Command::Forward(settings) => {
+            let status = run_forward(rt, alloc, &settings, outlets);
+            drop(settings);
+            status
+        }
+        Command::Help(topic) => tell(sink, help_text(topic)),
+        Command::Version => {
+            drop(command);
+            tell(sink, VERSION_LINE)
+        }
     }
 }
 
@@ -379,6 +451,7 @@ fn run_replay<R: Threads + Wait + Sync, S: Source, K: Sink, G: Gate>(
     ensures command { result ≡ Status.Usage → ⊥ }
     ensures unbound { result ≡ Status.HarborFault → ⊥ }
     ensures unconnected { result ≡ Status.GatewayFault → ⊥ }
+    ensures unlistened { result ≡ Status.ListenFault → ⊥ }
     ensures good { result ≡ Status.Good
         → IfSome (S.left source.old) (λ input.
         IsReplayed answering workers input (K.written sink.old) (K.written sink.new)) }

@@ -4,8 +4,11 @@ ghost use Rattle.command_line.specs.Words.{IsCommand, AreWordsOf};
 ghost use Rattle.running.specs.Run.{AsksReplay, HasGiven, HasReplayed, IsReadOn, IsReadTo, IsReplayed, IsCutShort, IsTaken, IsNoFrames, IsOfReplay, IsOfSelfrun, IsRefused, IsStatusOf};
 ghost use Rattle.running.specs.declared.reading.TheConstants.{MAX_INPUT, MAX_SOURCE};
 ghost use Rattle.running.specs.Summary.{IsSummed, IsSummedInPart};
-ghost use Rattle.command_line.specs.declared.command.Command.TheVariants.{Selfrun, Serve, Tcp, Audit};
+ghost use Rattle.command_line.specs.declared.command.Command.TheVariants.{Selfrun, Serve, Tcp, Audit, Forward};
+ghost use Rattle.command_line.specs.declared.forward_settings.ForwardSettings.{ForwardSettings};
 ghost use Rattle.resolver.specs.declared.answering.Answering.{Answering};
+ghost use Rattle.running.specs.Forward.{IsOfForward};
+ghost use Rattle.running.specs.Help.{AsksText, IsOfText, IsTextCut, IsTextWritten};
 ghost use Rattle.running.specs.Serve.{IsOfServe};
 ghost use Rattle.running.specs.Connections.{IsOfTcp};
 ghost use Rattle.run_audit.specs.declared.finding.Finding.TheVariants.{Yes};
@@ -13,19 +16,29 @@ ghost use Rattle.run_audit.specs.Line.{finding_line};
 ghost use Rattle.running.specs.Audit.{AreUpheld, HasAudited, HasAuditedInPart, IsAuditStatusOf, IsOfAudit, IsTooLong, IsUnaudited};
 
 use crate::commands::run;
+use crate::forward::{Board, UdpOutlets};
 use crate::status::Status;
 use gateway::TcpGateway;
 use outside_core::{OpenGate, Sink, Source, SystemClock, UdpHarbor};
 use std::alloc::Global;
+use std::fs::Files;
 use std::net::Net;
+use std::random::RandomSource;
 use std::sync::Wait;
 use std::thread::Threads;
 use std::time;
 
-/// Runs the words as the program does: it serves over the network's loopback ports at the moments of the machine's clock, and
-/// holds back no worker of a replay. Its clauses are those of `run` that don't speak of the harbor, the gateway, and what came back
-/// to them.
-pub fn run_here<R: Threads + Wait + Sync, N: Net, T: time::Clock + Sync + Drop, S: Source, K: Sink>(
+/// Runs the words as the program does: it serves over the network's loopback ports at the moments of the machine's clock, forwards
+/// over its sockets, and holds back no worker of a replay. Its clauses are those of `run` that don't speak of the harbor, the
+/// gateway, what came back to them, and the outlets.
+pub fn run_here<
+    R: Threads + Wait + Sync,
+    N: Net,
+    T: time::Clock + Sync + Drop,
+    M: Eprint + Files + RandomSource + Sync,
+    S: Source,
+    K: Sink,
+>(
     rt: &R,
     alloc: Global,
     words: &[String],
@@ -33,6 +46,7 @@ pub fn run_here<R: Threads + Wait + Sync, N: Net, T: time::Clock + Sync + Drop, 
     sink: &mut K,
     net: &N,
     clock: T,
+    machine: &M,
 ) -> Status
     ensures usage { result ≡ Status.Usage → IsCommand words.now → ⊥ }
     ensures no_command { (IsCommand words.now → ⊥)
@@ -144,10 +158,29 @@ pub fn run_here<R: Threads + Wait + Sync, N: Net, T: time::Clock + Sync + Drop, 
         → (Rose (S.faults source.old) (S.faults source.new) → ⊥)
         → (Rose (K.faults sink.old) (K.faults sink.new) → ⊥)
         → IsAuditStatusOf octets result ⊎ (result ≡ Status.OutOfMemory) }
+    ensures forward_ends { (settings : ForwardSettings)
+        → AreWordsOf words.now (Forward settings) → IsOfForward result }
+    ensures forward_aside { (settings : ForwardSettings)
+        → AreWordsOf words.now (Forward settings)
+        → (source.new ≡ source.old) × (sink.new ≡ sink.old) }
+    ensures told { (text : List ℕ) → AsksText words.now text
+        → result ≡ Status.Good
+        → IsTextWritten text (K.written sink.old) (K.written sink.new) }
+    ensures told_in_part { (text : List ℕ) → AsksText words.now text
+        → result ≡ Status.WriteFault
+        → IsTextCut text (K.written sink.old) (K.written sink.new) }
+    ensures text_ends { (text : List ℕ) → AsksText words.now text → IsOfText result }
+    ensures text_complete { (text : List ℕ) → AsksText words.now text
+        → (Rose (K.faults sink.old) (K.faults sink.new) → ⊥)
+        → (result ≡ Status.Good) ⊎ (result ≡ Status.OutOfMemory) }
+    ensures text_unread { (text : List ℕ) → AsksText words.now text
+        → source.new ≡ source.old }
 {
     let mut harbor = UdpHarbor::over(net);
     let mut gateway = TcpGateway::over(net);
-    let clock = SystemClock::over(clock);
+    let board = Board::new();
+    let mut outlets = UdpOutlets::over(net, &clock, machine, &board);
+    let clock = SystemClock::over(&clock);
     run(
         rt,
         alloc,
@@ -158,5 +191,6 @@ pub fn run_here<R: Threads + Wait + Sync, N: Net, T: time::Clock + Sync + Drop, 
         &mut harbor,
         &clock,
         &mut gateway,
+        &mut outlets,
     )
 }

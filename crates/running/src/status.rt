@@ -23,6 +23,10 @@ pub enum Status {
     HarborFault,
     /// The gateway couldn't listen or accept, or a connection failed.
     GatewayFault,
+    /// The outlets of a forwarder couldn't be opened. It has said why.
+    ListenFault,
+    /// A thread of a forwarder couldn't be started. It has said so.
+    ThreadFault,
 }
 
 impl Status {
@@ -33,7 +37,7 @@ impl Status {
         ExitCode::from(self.number())
     }
 
-    /// What the program says of it, without its name before.
+    /// What the program says of it, without its name before, where that hasn't been said.
     pub fn line(self) -> Option<&'static str> {
         match self {
             Status::Good => None,
@@ -46,6 +50,7 @@ impl Status {
             Status::OutOfMemory => Some("out of memory"),
             Status::InputTooLong => Some("input too long"),
             Status::HarborFault | Status::GatewayFault => Some("link fault"),
+            Status::ListenFault | Status::ThreadFault => None,
         }
     }
 
@@ -58,9 +63,9 @@ impl Status {
             Status::ReadFault => 3,
             Status::BadFrame => 4,
             Status::WriteFault => 5,
-            Status::OutOfMemory => 6,
+            Status::OutOfMemory | Status::ThreadFault => 6,
             Status::InputTooLong => 7,
-            Status::HarborFault | Status::GatewayFault => 8,
+            Status::HarborFault | Status::GatewayFault | Status::ListenFault => 8,
         }
     }
 }

@@ -4,6 +4,7 @@ ghost use Rattle.std.specs.List.{All};
 ghost use Rattle.gateway.specs.MemoryGateway.{IsFresh};
 
 use super::replays::{joined, source_of, words_of};
+use super::shut_outlets::{Hindrance, ShutOutlets};
 use gateway::{Gateway, MemoryGateway};
 use outside_core::{FixedClock, MemoryHarbor, MemorySink, MemorySource, OpenGate, OutOfMemory};
 use running::{Status, run};
@@ -108,6 +109,7 @@ pub fn run_over<R: Threads + Wait + Sync, W: Gateway>(
     let mut sink = MemorySink::with_room(alloc, 0, Vec::new(alloc))?;
     let mut harbor = MemoryHarbor::with_links(alloc, Vec::new(alloc), Vec::new(alloc))?;
     let clock = FixedClock { now: THEN };
+    let mut outlets = ShutOutlets::by(Hindrance::Address);
     Ok(run(
         rt,
         alloc,
@@ -118,6 +120,7 @@ pub fn run_over<R: Threads + Wait + Sync, W: Gateway>(
         &mut harbor,
         &clock,
         gateway,
+        &mut outlets,
     ))
 }
 

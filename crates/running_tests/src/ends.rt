@@ -100,7 +100,7 @@ const RUNS: [Run; 9] = [
 // The number and the line of a status.
 type Line = (Status, u8, Option<&'static str>);
 
-const LINES: [Line; 8] = [
+const LINES: [Line; 10] = [
     (Status::Good, 0, None),
     (
         Status::Usage,
@@ -115,6 +115,9 @@ const LINES: [Line; 8] = [
     (Status::OutOfMemory, 6, Some("out of memory")),
     (Status::InputTooLong, 7, Some("input too long")),
     (Status::HarborFault, 8, Some("link fault")),
+    // The forwarder has said these.
+    (Status::ListenFault, 8, None),
+    (Status::ThreadFault, 6, None),
 ];
 
 // The first row whose run ends or writes otherwise, and how.
@@ -170,13 +173,15 @@ fn ended<R: Threads + Wait + Sync, S: Source>(
     Ok((status, Vec::from_slice(alloc, sink.written())?))
 }
 
-const REFUSED: [&str; 6] = [
+const REFUSED: [&str; 8] = [
     "replay",
     "replay --workers 0",
     "replay --workers=33",
     "replay --workers 1 --",
     "selfrun --seed 1 --names 0 --queries 1",
     "serve --listen 5300 --upstream 5301 --workers 2 --datagrams 1",
+    "forward --listen 127.0.0.1:53",
+    "help",
 ];
 
 // The first words that aren't refused with nothing written, and how they end.

@@ -10,6 +10,8 @@ mod cuts;
 #[cfg(test)]
 mod ends;
 #[cfg(test)]
+mod forwards;
+#[cfg(test)]
 mod gates;
 #[cfg(test)]
 mod hostile;
@@ -20,6 +22,8 @@ mod machine;
 #[cfg(test)]
 mod message;
 #[cfg(test)]
+mod no_outlet;
+#[cfg(test)]
 mod pairs;
 #[cfg(test)]
 mod port;
@@ -29,6 +33,8 @@ mod replays;
 mod selfrun;
 #[cfg(test)]
 mod serve;
+#[cfg(test)]
+mod shut_outlets;
 #[cfg(test)]
 mod sockets;
 #[cfg(test)]

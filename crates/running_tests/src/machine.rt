@@ -7,7 +7,9 @@ use dname::OutOfMemory;
 use outside_core::{MemorySink, StreamSink, StreamSource};
 use running::{Status, run_here};
 use std::alloc::Global;
+use std::fs::Files;
 use std::net::{Ipv4Addr, Net, OpenListener, SocketAddr, SocketAddrV4, UdpSocket};
+use std::random::RandomSource;
 use std::sync::Wait;
 use std::sync::atomic::AtomicU32;
 use std::sync::atomic::Ordering::SeqCst;
@@ -173,10 +175,11 @@ const DENIED_LATER: &[u8] = b"\
     \x00\x00)\x04\xd0\x00\x00\x80\x00\x00\x00";
 
 // How a server of one worker and three datagrams ends, which asks that port upstream, and what it writes.
-fn served<R: Threads + Wait + Sync, N: Net>(
+fn served<R: Threads + Wait + Sync, N: Net, M: Eprint + Files + RandomSource + Sync>(
     rt: &R,
     alloc: Global,
     net: &N,
+    machine: &M,
     shared: &Shared,
     upstream: u16,
 ) -> Result<Ended, OutOfMemory> {
@@ -188,12 +191,21 @@ fn served<R: Threads + Wait + Sync, N: Net>(
     let mut sink = MemorySink::with_room(alloc, 8, Vec::new(alloc))?;
     let net = Telling { net, shared };
     let clock = Moved { shared };
-    let status = run_here(rt, alloc, &words, &mut source, &mut sink, &net, clock);
+    let status = run_here(
+        rt,
+        alloc,
+        &words,
+        &mut source,
+        &mut sink,
+        &net,
+        clock,
+        machine,
+    );
     Ok((status, Vec::from_slice(alloc, sink.written())?))
 }
 
 // Whether each side got what it should, and how the server ended.
-fn met<R: Threads + Wait + Sync, N: Net>(
+fn met<R: Threads + Wait + Sync, N: Net + Eprint + Files + RandomSource + Sync>(
     rt: &R,
     alloc: Global,
     net: &N,
@@ -207,7 +219,7 @@ fn met<R: Threads + Wait + Sync, N: Net>(
     let (asked, ended) = join(
         rt,
         || sides.are_served(&shared),
-        || served(rt, alloc, net, &shared, upstream),
+        || served(rt, alloc, net, net, &shared, upstream),
     );
     Ok((asked, ended?))
 }
@@ -235,7 +247,7 @@ const STREAMS: [(&str, &[u8], &[u8]); 2] = [
 ];
 
 // How the words end over streams, and what they write.
-fn streamed<R: Threads + Wait + Sync, M: Net + time::Clock + Sync>(
+fn streamed<R: Threads + Wait + Sync, M: Net + time::Clock + Eprint + Files + RandomSource + Sync>(
     rt: &R,
     alloc: Global,
     machine: &M,
@@ -246,12 +258,24 @@ fn streamed<R: Threads + Wait + Sync, M: Net + time::Clock + Sync>(
     let mut written = Vec::new(alloc);
     let mut source = StreamSource::over(input);
     let mut sink = StreamSink::over(&mut written);
-    let status = run_here(rt, alloc, &words, &mut source, &mut sink, machine, machine);
+    let status = run_here(
+        rt,
+        alloc,
+        &words,
+        &mut source,
+        &mut sink,
+        machine,
+        machine,
+        machine,
+    );
     Ok((status, written))
 }
 
 // The first row that ends or writes otherwise, and how.
-fn streamed_otherwise<R: Threads + Wait + Sync, M: Net + time::Clock + Sync>(
+fn streamed_otherwise<
+    R: Threads + Wait + Sync,
+    M: Net + time::Clock + Eprint + Files + RandomSource + Sync,
+>(
     rt: &R,
     alloc: Global,
     machine: &M,

@@ -1,6 +1,7 @@
 //! A server over the ports of this machine.
 
 use super::replays::{source_of, words_of};
+use super::shut_outlets::{Hindrance, ShutOutlets};
 use dname::OutOfMemory;
 use gateway::MemoryGateway;
 use outside_core::{FixedClock, MemorySink, OpenGate, UdpHarbor};
@@ -26,6 +27,7 @@ fn served_at<R: Threads + Wait + Sync, N: Net + Drop>(
     let mut harbor = UdpHarbor::over(net);
     let mut gateway = MemoryGateway::with_connections(alloc, Vec::new(alloc), Vec::new(alloc))?;
     let clock = FixedClock { now: 0 };
+    let mut outlets = ShutOutlets::by(Hindrance::Address);
     let status = run(
         rt,
         alloc,
@@ -36,6 +38,7 @@ fn served_at<R: Threads + Wait + Sync, N: Net + Drop>(
         &mut harbor,
         &clock,
         &mut gateway,
+        &mut outlets,
     );
     Ok((status, sink.written().len()))
 }

@@ -1,5 +1,6 @@
 //! Runs of words over sources and sinks in memory.
 
+use super::shut_outlets::{Hindrance, ShutOutlets};
 use dname::OutOfMemory;
 use gateway::MemoryGateway;
 use outside_core::{
@@ -33,6 +34,7 @@ pub fn run_words<R: Threads + Wait + Sync, S: Source, K: Sink, G: Gate>(
     let mut harbor = MemoryHarbor::with_links(alloc, Vec::new(alloc), Vec::new(alloc))?;
     let mut gateway = MemoryGateway::with_connections(alloc, Vec::new(alloc), Vec::new(alloc))?;
     let clock = FixedClock { now: 0 };
+    let mut outlets = ShutOutlets::by(Hindrance::Address);
     Ok(run(
         rt,
         alloc,
@@ -43,6 +45,7 @@ pub fn run_words<R: Threads + Wait + Sync, S: Source, K: Sink, G: Gate>(
         &mut harbor,
         &clock,
         &mut gateway,
+        &mut outlets,
     ))
 }
 

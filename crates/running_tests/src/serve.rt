@@ -5,6 +5,7 @@ ghost use Rattle.std.specs.List.{All};
 ghost use Rattle.outside_core.specs.MemoryLink.{IsFresh};
 
 use super::replays::{source_of, words_of};
+use super::shut_outlets::{Hindrance, ShutOutlets};
 use gateway::MemoryGateway;
 use outside_core::{
     Datagram, Event, FixedClock, MemoryHarbor, MemoryLink, MemorySink, OpenGate, OutOfMemory, Peer,
@@ -112,6 +113,7 @@ fn served<R: Threads + Wait + Sync>(
     let mut harbor = one_link(alloc, failing)?;
     let mut gateway = MemoryGateway::with_connections(alloc, Vec::new(alloc), Vec::new(alloc))?;
     let clock = FixedClock { now: THEN };
+    let mut outlets = ShutOutlets::by(Hindrance::Address);
     let status = run(
         rt,
         alloc,
@@ -122,6 +124,7 @@ fn served<R: Threads + Wait + Sync>(
         &mut harbor,
         &clock,
         &mut gateway,
+        &mut outlets,
     );
     Ok((status, harbor, sink.written().len()))
 }

@@ -7,9 +7,11 @@ use dname::OutOfMemory;
 use outside_core::MemorySink;
 use running::{Status, run_here};
 use std::alloc::Global;
+use std::fs::Files;
 use std::io;
 use std::io::{Read, Write};
 use std::net::{Net, OpenListener, OpenStream, Shutdown, SocketAddr};
+use std::random::RandomSource;
 use std::sync::Wait;
 use std::sync::atomic::AtomicU32;
 use std::test::Fail;
@@ -58,10 +60,11 @@ fn gets_reply<S: Read + Drop>(client: S) -> io::Result<bool> {
 }
 
 // How a server of two connections ends, and what it writes.
-fn served<R: Threads + Wait + Sync, N: Net>(
+fn served<R: Threads + Wait + Sync, N: Net, M: Eprint + Files + RandomSource + Sync>(
     rt: &R,
     alloc: Global,
     net: &N,
+    machine: &M,
 ) -> Result<Ended, OutOfMemory> {
     let words = words_of(alloc, "tcp --listen 5300 --connections 2")?;
     let mut source = source_of(alloc, ANSWER)?;
@@ -71,12 +74,21 @@ fn served<R: Threads + Wait + Sync, N: Net>(
         port: AtomicU32::new(0),
     };
     let clock = Moved { shared: &shared };
-    let status = run_here(rt, alloc, &words, &mut source, &mut sink, net, clock);
+    let status = run_here(
+        rt,
+        alloc,
+        &words,
+        &mut source,
+        &mut sink,
+        net,
+        clock,
+        machine,
+    );
     Ok((status, Vec::from_slice(alloc, sink.written())?))
 }
 
 // A client that goes within a length, and one that asks: how the server ends, and whether the second is answered.
-fn met<R: Threads + Wait + Sync, N: Net>(
+fn met<R: Threads + Wait + Sync, N: Net + Eprint + Files + RandomSource + Sync>(
     rt: &R,
     alloc: Global,
     net: &N,
@@ -86,7 +98,7 @@ fn met<R: Threads + Wait + Sync, N: Net>(
     drop(client(net, there, b"\x00")?);
     let asking = client(net, there, QUERY)?;
     let ready = Ready::<N> { listener };
-    let ended = served(rt, alloc, &ready)?;
+    let ended = served(rt, alloc, &ready, net)?;
     Ok((ended, gets_reply(asking)?))
 }
 

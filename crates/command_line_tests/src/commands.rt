@@ -1,4 +1,6 @@
-use super::*;
+//! The eight commands whose values are numbers.
+use crate::words::{command_in, taken};
+use command_line::{Command, OutOfMemory, command_of};
 use std::alloc::Global;
 use std::test::Fail;
 
@@ -28,16 +30,15 @@ const SELFRUNS: [(&str, u32, u32, u32); 4] = [
     ),
 ];
 
-// Words that are no command of any kind, or ask for help.
-const STRANGERS: [&str; 8] = [
+// Words that are no command of any kind.
+const STRANGERS: [&str; 7] = [
     "",
     "help",
-    "--help",
     "-h",
-    "--version",
+    "-V",
     "Replay|--workers|1",
     "--|replay|--workers|1",
-    "replay|--help",
+    "replay|-h",
 ];
 
 // Options that are missing, twice, cut short or without a value.
@@ -123,13 +124,6 @@ const SERVE_OPTIONS: [&str; 8] = [
     "serve|--listen|9|--upstream|12|--workers|4|--datagrams|1",
 ];
 
-const BARE: [(&str, Command); 4] = [
-    ("chase", Command::Chase),
-    ("redirect", Command::Redirect),
-    ("follow", Command::Follow),
-    ("audit", Command::Audit),
-];
-
 // They have no options, and no other names.
 const BARE_OPTIONS: [&str; 10] = [
     "chase|--workers|1",
@@ -163,16 +157,78 @@ const TCP_OPTIONS: [&str; 9] = [
     "tcp|--listen|5300|--connections|1|--workers|1",
 ];
 
-fn command_in(alloc: Global, text: &str) -> Result<Option<Command>, Fail> {
-    let mut words = Vec::new(alloc);
-    for word in text.split('|') {
-        words.push(String::from_str(alloc, word)?)?;
+// The words that ask for another number of workers than is wanted, or for none.
+fn replay_otherwise(alloc: Global) -> Result<Option<&'static str>, OutOfMemory> {
+    for (text, wanted) in REPLAYS {
+        let found = command_in(alloc, text)?;
+        if !matches!(found, Some(Command::Replay { workers }) if workers == wanted) {
+            return Ok(Some(text));
+        }
     }
-    Ok(command_of(alloc, &words)?)
+    Ok(None)
 }
 
-fn is_refused(alloc: Global, text: &str) -> Result<bool, Fail> {
-    Ok(command_in(alloc, text)?.is_none())
+// The words that ask for another zone than is wanted, or for none.
+fn selfrun_otherwise(alloc: Global) -> Result<Option<&'static str>, OutOfMemory> {
+    for (text, seed, names, queries) in SELFRUNS {
+        let wanted = (seed, names, queries);
+        let found = match command_in(alloc, text)? {
+            Some(
+                Command::Selfrun {
+                    seed,
+                    names,
+                    queries,
+                },
+            ) => Some((seed, names, queries)),
+            _ => None,
+        };
+        if found != Some(wanted) {
+            return Ok(Some(text));
+        }
+    }
+    Ok(None)
+}
+
+// The words that ask for another server than is wanted, or for none.
+fn serve_otherwise(alloc: Global) -> Result<Option<&'static str>, OutOfMemory> {
+    for (text, listen, upstream, workers, datagrams) in SERVES {
+        let wanted = (listen, upstream, workers, datagrams);
+        let found = match command_in(alloc, text)? {
+            Some(
+                Command::Serve {
+                    listen,
+                    upstream,
+                    workers,
+                    datagrams,
+                },
+            ) => Some((listen, upstream, workers, datagrams)),
+            _ => None,
+        };
+        if found != Some(wanted) {
+            return Ok(Some(text));
+        }
+    }
+    Ok(None)
+}
+
+// The words that ask for other connections than are wanted, or for none.
+fn tcp_otherwise(alloc: Global) -> Result<Option<&'static str>, OutOfMemory> {
+    for (text, listen, connections) in TCPS {
+        let wanted = (listen, connections);
+        let found = match command_in(alloc, text)? {
+            Some(
+                Command::Tcp {
+                    listen,
+                    connections,
+                },
+            ) => Some((listen, connections)),
+            _ => None,
+        };
+        if found != Some(wanted) {
+            return Ok(Some(text));
+        }
+    }
+    Ok(None)
 }
 
 #[test]
@@ -184,118 +240,63 @@ fn no_words_are_no_command(rt: HostRuntime) -> Result<(), Fail> {
 
 #[test]
 fn words_ask_for_workers(rt: HostRuntime) -> Result<(), Fail> {
-    for (text, workers) in REPLAYS {
-        let command = command_in(rt.alloc(), text)?;
-        assert_eq!(rt; command, Some(Command::Replay { workers }), "{text}");
-    }
+    let wrong = replay_otherwise(rt.alloc())?;
+    assert!(rt; wrong.is_none(), "{wrong:?}");
     Ok(())
 }
 
 #[test]
 fn words_ask_for_a_made_zone(rt: HostRuntime) -> Result<(), Fail> {
-    for (text, seed, names, queries) in SELFRUNS {
-        let command = command_in(rt.alloc(), text)?;
-        let wanted = Command::Selfrun {
-            seed,
-            names,
-            queries,
-        };
-        assert_eq!(rt; command, Some(wanted), "{text}");
-    }
+    let wrong = selfrun_otherwise(rt.alloc())?;
+    assert!(rt; wrong.is_none(), "{wrong:?}");
     Ok(())
 }
 
 #[test]
 fn words_ask_for_a_server(rt: HostRuntime) -> Result<(), Fail> {
-    for (text, listen, upstream, workers, datagrams) in SERVES {
-        let command = command_in(rt.alloc(), text)?;
-        let wanted = Command::Serve {
-            listen,
-            upstream,
-            workers,
-            datagrams,
-        };
-        assert_eq!(rt; command, Some(wanted), "{text}");
-    }
-    Ok(())
-}
-
-// The words that are another command than is wanted, or none.
-fn bare_otherwise(alloc: Global) -> Result<Option<&'static str>, Fail> {
-    for (text, wanted) in BARE {
-        if command_in(alloc, text)? != Some(wanted) {
-            return Ok(Some(text));
-        }
-    }
-    Ok(None)
-}
-
-// The words that are a command.
-fn taken(alloc: Global, texts: &[&'static str]) -> Result<Option<&'static str>, Fail> {
-    for text in texts {
-        if command_in(alloc, text)?.is_some() {
-            return Ok(Some(*text));
-        }
-    }
-    Ok(None)
-}
-
-#[test]
-fn words_ask_for_walks_and_audits(rt: HostRuntime) -> Result<(), Fail> {
-    let wrong = bare_otherwise(rt.alloc())?;
-    assert!(rt; wrong.is_none(), "{wrong:?}");
-    let wrong = taken(rt.alloc(), &BARE_OPTIONS)?;
+    let wrong = serve_otherwise(rt.alloc())?;
     assert!(rt; wrong.is_none(), "{wrong:?}");
     Ok(())
-}
-
-// The words that are another command than is wanted, or none.
-fn tcp_otherwise(alloc: Global) -> Result<Option<&'static str>, Fail> {
-    for (text, listen, connections) in TCPS {
-        let wanted = Command::Tcp {
-            listen,
-            connections,
-        };
-        if command_in(alloc, text)? != Some(wanted) {
-            return Ok(Some(text));
-        }
-    }
-    Ok(None)
 }
 
 #[test]
 fn words_ask_for_connections(rt: HostRuntime) -> Result<(), Fail> {
     let wrong = tcp_otherwise(rt.alloc())?;
     assert!(rt; wrong.is_none(), "{wrong:?}");
-    let wrong = taken(rt.alloc(), &TCP_OPTIONS)?;
-    assert!(rt; wrong.is_none(), "{wrong:?}");
     Ok(())
+}
+
+#[test]
+fn words_ask_for_walks_and_audits(rt: HostRuntime) -> Result<(), Fail> {
+    assert!(rt; matches!(command_in(rt.alloc(), "chase")?, Some(Command::Chase)));
+    assert!(rt; matches!(command_in(rt.alloc(), "redirect")?, Some(Command::Redirect)));
+    assert!(rt; matches!(command_in(rt.alloc(), "follow")?, Some(Command::Follow)));
+    assert!(rt; matches!(command_in(rt.alloc(), "audit")?, Some(Command::Audit)));
+    Ok(())
+}
+
+// Words of a table that are a command.
+fn taken_among(alloc: Global) -> Result<Option<&'static str>, OutOfMemory> {
+    for texts in [
+        STRANGERS.as_slice(),
+        OPTIONS.as_slice(),
+        VALUES.as_slice(),
+        HYPHENS.as_slice(),
+        SELFRUN_OPTIONS.as_slice(),
+        SERVE_OPTIONS.as_slice(),
+        BARE_OPTIONS.as_slice(),
+        TCP_OPTIONS.as_slice(),
+    ] {
+        if let Some(text) = taken(alloc, texts)? {
+            return Ok(Some(text));
+        }
+    }
+    Ok(None)
 }
 
 #[test]
 fn other_words_are_no_command(rt: HostRuntime) -> Result<(), Fail> {
-    for text in STRANGERS {
-        assert!(rt; is_refused(rt.alloc(), text)?, "{text}");
-    }
-    for text in OPTIONS {
-        assert!(rt; is_refused(rt.alloc(), text)?, "{text}");
-    }
-    for text in HYPHENS {
-        assert!(rt; is_refused(rt.alloc(), text)?, "{text}");
-    }
-    Ok(())
-}
-
-#[test]
-fn other_values_are_no_command(rt: HostRuntime) -> Result<(), Fail> {
-    for text in VALUES {
-        assert!(rt; is_refused(rt.alloc(), text)?, "{text}");
-    }
-    for text in SELFRUN_OPTIONS {
-        assert!(rt; is_refused(rt.alloc(), text)?, "{text}");
-    }
-    for text in SERVE_OPTIONS {
-        assert!(rt; is_refused(rt.alloc(), text)?, "{text}");
-    }
+    let wrong = taken_among(rt.alloc())?;
+    assert!(rt; wrong.is_none(), "{wrong:?}");
     Ok(())
 }
