@@ -1,10 +1,11 @@
 """Makes, measures, attacks and compares what dnsreplay reads and writes; `COMMAND --help` tells more."""
 import argparse, os, signal, sys
 from . import audit_explain, audit_input, bench, differential, fits, frames, hostile, library
-from . import try_kresd, try_library, try_serve, try_tcp, twice
+from . import try_forward, try_kresd, try_library, try_serve, try_tcp, twice
 from .wire import Fault, Unreadable
 
-MODULES = (bench, hostile, library, try_kresd, try_library, try_serve, try_tcp, frames, fits, differential, twice)
+TRIES = (try_forward, try_kresd, try_library, try_serve, try_tcp)
+MODULES = (bench, hostile, library, *TRIES, frames, fits, differential, twice)
 COMMANDS = {each.__name__.rpartition(".")[2]: each for each in MODULES}
 COMMANDS |= {"audit-input": audit_input, "audit-explain": audit_explain}
 

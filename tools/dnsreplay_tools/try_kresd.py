@@ -12,19 +12,16 @@ It needs Debian's packages: apt-get install knot-resolver knot bind9-utils dnspe
 import contextlib, os, random, re, shutil, socket, subprocess, sys, tempfile, time
 from pathlib import Path
 from . import run as runs
+from .asking import is_up, need_dnspython, query, said, told
 from .library import done
-from .wire import Fault, check
+from .signed_zones import ADDRESS, ORIGINS, SIGNED, tree, write_zone
+from .wire import check
 
-ADDRESS, PRIVATE = "127.0.0.1", "127.0.0.2"
+PRIVATE = "127.0.0.2"
 WITH, WITHOUT = 5302, 5303
 NETWORK = "DNSREPLAY_TRY_NETWORK"
-SIGNED = {"plain.": (), "hashed.": ("-3", "-", "-H", "0"), "optout.": ("-3", "-", "-H", "0", "-A")}
-HOSTS = [f"n{i:06d} A 10.0.{i >> 8}.{i & 255}" for i in range(200)]
-CUT = "cut NS ns.cut", "ns.cut A 192.0.2.8"
-BELOW = ['*.w TXT "made by the wildcard"', "alias CNAME n000001", "deep.down A 192.0.2.7", *CUT]
 LETTERS = "abcdefghijklmnopqrstuvwxyz0123456789"
 TYPES = "A", "AAAA", "TXT", "MX"
-SECONDS = 5
 
 KNOT = """\
 server:
@@ -75,21 +72,6 @@ def words(parser):
     parser.add_argument("folder", metavar="FOLDER", type=Path, help="what `library` made")
     runs.takes_numbers(parser, names=2_000, seconds=300, seed=7)
 
-def zone_text(origin, lines):
-    head = f"$ORIGIN {origin}\n$TTL 3600\n@ SOA ns hostmaster 1 3600 600 86400 300\n@ NS ns\nns A {ADDRESS}\n"
-    return head + "\n".join(lines) + "\n"
-
-def write_zone(folder, origin, lines): (folder / f"{origin}zone").write_text(zone_text(origin, lines))
-
-def signed(folder, origin, lines, *how):
-    """Signs a zone in place, and gives its DS."""
-    write_zone(folder, origin, lines)
-    path = folder / f"{origin}zone"
-    key = done("dnssec-keygen", "-q", "-a", "ECDSAP256SHA256", "-f", "KSK", "-K", folder, origin).strip()
-    with open(path, "a") as zone: zone.write((folder / f"{key}.key").read_text())
-    done("dnssec-signzone", "-z", "-P", "-q", "-K", folder, "-o", origin, "-f", path, *how, path, key, cwd=folder)
-    return done("dnssec-dsfromkey", "-2", folder / f"{key}.key").strip()
-
 class Servers:
     """What runs in a folder, and is ended with it."""
     def __init__(self, stack, folder):
@@ -122,43 +104,16 @@ class Servers:
         told = done("knotc", "-s", self.folder / "public" / "knot.sock", "stats")
         return sum(map(int, re.findall(r"request-protocol\[[^]]*\] = (\d+)", told)))
 
-def query(name, rtype, how=""):
-    import dns.edns, dns.flags, dns.message
-    options = [dns.edns.GenericOption(dns.edns.NSID, b"")] if "nsid" in how else None
-    edns = None if "plain" in how else 0
-    made = dns.message.make_query(name, rtype, want_dnssec="do" in how, use_edns=edns, payload=1232, options=options)
-    made.flags |= dns.flags.AD if "ad" in how else 0
-    made.flags |= dns.flags.CD if "cd" in how else 0
-    return made
-
-def said(asked, port):
-    """RCODE, flags, the records of a reply with their sections, and what its OPT record has."""
-    import dns.flags, dns.query, dns.rdatatype
-    reply = dns.query.udp(asked, ADDRESS, timeout=SECONDS, port=port)
-    sections = ("answer", reply.answer), ("authority", reply.authority), ("additional", reply.additional)
-    sets = [(part, each) for part, section in sections for each in section]
-    records = {(part, str(each.name).lower(), each.rdtype, str(data)) for part, each in sets for data in each}
-    edns = reply.edns, reply.payload, reply.ednsflags & dns.flags.DO, tuple(map(str, reply.options))
-    return reply.rcode(), dns.flags.to_text(reply.flags), records, edns
-
-def is_up(port):
-    import dns.exception, dns.flags
-    with contextlib.suppress(OSError, dns.exception.DNSException):
-        return "AD" in said(query(".", "SOA", "do"), port)[1]
-    return False
-
 def compare(name, rtype, how=""):
     one, other = (said(query(name, rtype, how), port) for port in (WITH, WITHOUT))
     check(one == other, f"{name} {rtype} {how}: with the module {told(one)}, without {told(other)}")
     return one
 
-def told(reply): return f"RCODE {reply[0]}, {reply[1]}, {sorted(reply[2])}, EDNS {reply[3]}"
-
 def questions(rng, count):
     """Random names: beside the hosts, below them, below the wildcard, in the unsigned zone and the private one."""
     def label(): return "".join(rng.choice(LETTERS) for _ in range(8))
     for at in range(count):
-        origin = (*SIGNED, "open.")[at % 4]
+        origin = ORIGINS[at % 4]
         host = f"n0000{at % 100:02d}.{origin}"
         forms = f"{label()}.{origin}", f"{label()}.{host}", f"{label()}.w.{origin}", host
         yield rng.choice(forms), rng.choice(TYPES), rng.choice(("do", "do ad", "ad", "", "plain", "do cd", "plain cd"))
@@ -182,10 +137,7 @@ def own_network():
 def run(args):
     packages = "knot-resolver knot bind9-utils dnsperf iproute2 python3-dnspython"
     runs.need(packages, "kresd", "knotd", "knotc", "dnssec-signzone", "dnsperf", "ip", "unshare")
-    try:
-        import dns
-    except ImportError:
-        raise Fault(f"dnspython is missing: apt-get install {packages}") from None
+    need_dnspython(packages)
     own_network()
     done("ip", "link", "set", "lo", "up")
     with contextlib.ExitStack() as stack:
@@ -195,12 +147,9 @@ def run(args):
 
 def try_in(args, servers):
     folder = servers.folder
-    delegations = [signed(folder, origin, HOSTS + BELOW, *how) for origin, how in SIGNED.items()]
-    write_zone(folder, "open.", HOSTS + BELOW)
+    anchor = tree(folder)
     write_zone(folder, "private.", ["h1 A 192.0.2.1"])
-    cuts = [f"{origin} NS ns.{origin}\nns.{origin} A {ADDRESS}" for origin in (*SIGNED, "open.")]
-    anchor = signed(folder, ".", cuts + delegations)
-    servers.knot("public", ADDRESS, [".", *SIGNED, "open."])
+    servers.knot("public", ADDRESS, [".", *ORIGINS])
     servers.knot("private", PRIVATE, ["private."])
     servers.kresd("with", WITH, anchor, MODULE.format(folder=args.folder.absolute()))
     servers.kresd("without", WITHOUT, anchor, "")

@@ -132,8 +132,8 @@ class Said(namedtuple("Said", "status flags edns ttls records")):
         """The least and the greatest TTL."""
         return "-".join(map(str, sorted({min(self.ttls), max(self.ttls)}))) if self.ttls else ""
 
-def dig(port, words, seconds=5):
-    command = ["dig", "-r", "@127.0.0.1", "-p", str(port), "+tries=1", f"+time={seconds}", "+ignore", *words.split()]
+def dig(port, words, seconds=5, address="127.0.0.1", within=()):
+    command = [*within, "dig", "-r", f"@{address}", "-p", str(port), "+tries=1", f"+time={seconds}", "+ignore", *words.split()]
     return Said.by(subprocess.run(command, capture_output=True, text=True, check=False).stdout)
 
 class Lab:

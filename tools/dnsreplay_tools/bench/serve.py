@@ -1,49 +1,74 @@
-"""Measures what a query costs that `serve` answers from its cache, over datagrams on loopback.
+"""Measures what a query costs by `serve` and by `forward`, from the cache or asked upstream, by datagrams on loopback.
 
 It needs Debian's package dnsperf. Zone and questions are those of `bench calls`. This script is the upstream resolver:
-it asks what no cache may answer, and its answers to that bring the zone's records, as many as fit into 4,096 octets. A
-worker ends after 5,000 datagrams, so 32 workers share the cache: one to three are filled through, and of the others
-each is measured once, alone or with three more. Processor time is the whole program's, user and system, by the kernel's
-clock of the process. A figure is the least of several runs, in one round or more, each with a program of its own.
+it is asked what no cache may answer, and its answers to that bring the zone's records, as many as fit into 4,096
+octets. A worker of `serve` ends after 5,000 datagrams, so 32 workers share the cache: one to three are filled through,
+and of the others each is measured once, alone or with three more. `forward` has one worker, which takes turns with each
+that is alone: both are asked the same 490 questions, and then the next ones, so that a busy machine hits both alike.
+Processor time is the whole program's, user and system, by the kernel's clock of the process. A figure is the least of
+several, from so many runs in one round or more, each with programs of its own. The last two set `forward` beside one
+worker of `serve`, and are the medians of all turns, the first with its quartiles. From the cache 1.2 times as much and
+0.5 µs more are the bounds. A question that `forward` asks upstream may cost 40 µs.
 """
-import contextlib, re, socket, struct, subprocess, tempfile, time
+import contextlib, re, statistics, struct, subprocess, tempfile, time
 from pathlib import Path
 from .. import run as runs, wire
 from ..run import LOOPBACK
-from ..wire import ANY, check
-from .zones import APEX, CHAINS, KINDS, Zone, look_at, takes_several
+from ..try_forward.upstreams import Upstream, bound, question_in
+from ..wire import A, check
+from .zones import APEX, CHAINS, ELSEWHERE, FULL, KINDS, Call, Kind, Zone, look_at, query, replied, takes_several
 
 WORKERS, DATAGRAMS, OCTETS = 32, 5_000, 4_096  # the most that serve takes, and the most octets of a datagram
 TOGETHER = 4  # workers that are measured at once
 WINDOW = 16  # messages of the filling on the way at once, so that they fit into a socket's buffer
 OUTSTANDING = 50  # queries of a dnsperf, for the same reason
 LOOKS, QUERIES = 20, 4_900  # of a measured worker: those by which it is looked at before, and those that are measured
-ASKED = ("name-error", "no-data", "set", "wildcard", "non-terminal")
+TURN = 490  # of these
 TYPES = {1: "A", 15: "MX", 16: "TXT", 28: "AAAA", 29: "LOC", 33: "SRV", 52: "TLSA", 65: "HTTPS", 257: "CAA"}
 RCODES = {0: "NOERROR", 3: "NXDOMAIN"}
+FIRST_TYPE = 200  # of a window's questions, which differ, since equal ones join; no cache answers these types
+UNSTORED = {ELSEWHERE: 0x8180, FULL: 0x81A0}  # flags of answers that aren't stored: no AD; AD, but no signatures
+ADDRESS = wire.record(wire.TO_QUESTION, A, bytes([192, 0, 2, 1]))
+
+def elsewhere(apex):
+    """Calls that are asked upstream, each for another name, and answered with an address."""
+    def call(zone, number):
+        return Call(query(zone.turned_label(number, zone.places, number) + apex, A), replied(0, 1, 0))
+    return call
+
+UPSTREAM_KINDS = {
+    "unvalidated": Kind(elsewhere(ELSEWHERE), "asked upstream, answer without AD", most=QUERIES // 2),  # two datagrams
+    "unsigned": Kind(elsewhere(FULL), "asked upstream, answer unsigned", most=QUERIES // 2),
+}
+ASKED = {each: KINDS[each] for each in ("name-error", "no-data", "set", "wildcard", "non-terminal")} | UPSTREAM_KINDS
 
 def text_of(call):
     """A call's question in the words of dnsperf."""
     labels, at = wire.read_name(call.message, 12)
     return b".".join(labels).decode() + ". " + TYPES[struct.unpack_from(">H", call.message, at)[0]]
 
+def unstored(question):
+    """The answer to a question elsewhere, whose name is a label of eight letters and an apex."""
+    flags = UNSTORED.get(question[9:-4])
+    return flags and wire.message(flags, question, [ADDRESS])[2:]
+
 class Server:
-    """The program with its workers, and this script as their upstream resolver and as a client."""
-    def __init__(self, program):
-        self.upstream = socket.socket(socket.AF_INET, socket.SOCK_DGRAM)
-        self.client = socket.socket(socket.AF_INET, socket.SOCK_DGRAM)
-        for one in (self.upstream, self.client):
-            one.bind((LOOPBACK, 0))
-            one.settimeout(10)
-        port = self.upstream.getsockname()[1]
-        self.listen = runs.free_ports(WORKERS)
-        words = ["--listen", self.listen, "--upstream", port, "--workers", WORKERS, "--datagrams", DATAGRAMS]
-        how = {"stdin": subprocess.DEVNULL, "stderr": subprocess.PIPE}
-        self.process = subprocess.Popen([program, "serve", *map(str, words)], **how)
+    """`serve` with its workers, and this script as their upstream resolver and as a client, until a stack is left."""
+    command, workers, host, more = "serve", WORKERS, "", ("--datagrams", DATAGRAMS)
+
+    def __init__(self, stack, program, listen):
+        self.listen, self.answers = listen, {}  # the latter by the question, all behind the ID
+        self.client, upstream = stack.enter_context(bound()), stack.enter_context(Upstream(self.say))
+        self.client.settimeout(10)
+        ports = "--listen", f"{self.host}{listen}", "--upstream", f"{self.host}{upstream.port}"
+        words = [program, self.command, *ports, "--workers", self.workers, *self.more]
+        self.process = subprocess.Popen([*map(str, words)], stdin=subprocess.DEVNULL, stderr=subprocess.PIPE)
+        stack.callback(self.down)
+        self.up()
 
     def up(self):
         """Waits until the last worker's port is bound. Nothing is sent, since each datagram counts."""
-        wanted = "0100007F:%04X" % (self.listen + WORKERS - 1)
+        wanted = "0100007F:%04X" % (self.listen + self.workers - 1)
         runs.wait(self.process, lambda: f" {wanted} " in Path("/proc/net/udp").read_text(), self.down)
         time.sleep(0.2)
         check(self.process.poll() is None, "the program has ended, so another has its ports")
@@ -53,30 +78,34 @@ class Server:
         self.process.terminate()
         errors = self.process.stderr.read().decode(errors="replace").strip()
         self.process.wait()
-        for one in (self.upstream, self.client): one.close()
         return errors
+
+    def say(self, octets):
+        """The answer to what is asked upstream, where there is one. A question that is asked again gets it again."""
+        question = question_in(octets)
+        answer = self.answers.get(question) or unstored(question)
+        return [(False, octets[:2] + answer)] if answer else []
 
     def fill(self, calls):
         """Brings the messages of the filling through the last workers, and gives how many these are."""
         messages = [call.message for call in calls]
-        fillers = -(-2 * len(messages) // (DATAGRAMS - 4 * WINDOW))
+        fillers = min(self.workers, -(-2 * len(messages) // (DATAGRAMS - 4 * WINDOW)))
         for turn, at in enumerate(range(0, len(messages), WINDOW)):
-            self.bring(WORKERS - 1 - turn % fillers, messages[at : at + WINDOW])
+            self.bring(self.workers - 1 - turn % fillers, messages[at : at + WINDOW])
         return fillers
 
     def bring(self, worker, messages):
         """Asks as many questions that are forwarded, and answers each with the records of a message."""
-        question = wire.question(APEX, ANY)
-        for message in messages:
+        questions = [wire.question(APEX, FIRST_TYPE + each) for each in range(len(messages))]
+        for question, message in zip(questions, messages):
             check(len(message) <= OCTETS, f"a message of {len(message)} octets is too long")
+            self.answers[question] = message[2:12] + question + message[12 + len(question) :]
+        for question in questions:
             self.client.sendto(wire.message(0x0100, question, identity=0x1234), self.worker(worker))
-        for message in messages:
-            asked, peer = self.upstream.recvfrom(OCTETS)
-            self.upstream.sendto(asked[:2] + message[2:12] + question + message[12 + len(question) :], peer)
-        for _ in messages: self.client.recv(OCTETS)
+        for _ in questions: self.client.recv(OCTETS)
 
     def look(self, worker, calls):
-        """Each of the calls must have an outcome that its kind is for, from the cache."""
+        """Each of the calls must have an outcome that its kind is for."""
         for number, call in enumerate(calls, 1):
             self.client.sendto(call.message, self.worker(worker))
             look_at(number, call, wire.REPLY, self.client.recv(OCTETS))
@@ -105,6 +134,10 @@ class Server:
         words = ["-s", LOOPBACK, "-p", str(self.listen + worker), "-d", path, "-n", "1", "-D", "-q", str(OUTSTANDING)]
         return subprocess.Popen(["dnsperf", *words], stdout=subprocess.PIPE, stderr=subprocess.STDOUT, text=True)
 
+class Forwarder(Server):
+    """`forward` with one worker."""
+    command, workers, host, more = "forward", 1, f"{LOOPBACK}:", ()
+
 def checked(text, calls):
     """Queries a second by what dnsperf says, which must be that each was answered as wanted."""
     wanted = {RCODES[rcode] for call in calls for _, rcode, *_ in call.wanted}
@@ -113,49 +146,64 @@ def checked(text, calls):
     check(is_each, f"dnsperf had other answers than {' and '.join(wanted)}: {text[-1500:]}")
     return float(re.search(r"Queries per second: +([\d.]+)", text)[1])
 
-def figures_of(args, zone, kind):
-    """The least cost and the greatest rate of one worker, and of some together."""
+def cells_of(args, zone, kind):
+    """The figures of one worker of `serve`, of some together and of `forward`, and what the last costs by the first."""
     filling = list(zone.filling(18 if zone.chain.hashed else 24))  # what fits into a datagram
-    rounds = [one_round(args, zone, kind, filling) for _ in range(args.rounds)]
-    every = [zip(*(figures for one in rounds for figures in one[count])) for count in rounds[0]]
-    return [(min(costs), max(rates)) for costs, rates in every]
+    every = [run for _ in range(args.rounds) for run in one_round(args, zone, kind, filling)]
+    turns = [turn for some, _ in every for turn in some]
+    by_one, by_forward = zip(*turns)
+    return [*map(best, (by_one, [together for _, together in every], by_forward)), *beside(turns)]
+
+def best(figures):
+    """The least cost, and the greatest rate."""
+    costs, rates = zip(*figures)
+    return f"{min(costs):.2f} | {max(rates):,.0f}"
+
+def beside(turns):
+    """How many times as much `forward` costs as `serve`, and how much more."""
+    low, middle, high = statistics.quantiles((forward / serve for (serve, _), (forward, _) in turns), n=4)
+    more = statistics.median(forward - serve for (serve, _), (forward, _) in turns)
+    return f"{middle:.2f} ({low:.2f} to {high:.2f})", f"{more:+.2f}"
 
 def one_round(args, zone, kind, filling):
-    """The figures of the runs over one program, by how many workers are measured together."""
-    server = Server(args.program)
-    try:
-        server.up()
+    """The figures of the runs over one program of each command."""
+    with contextlib.ExitStack() as stack:
+        port = runs.free_ports(1 + WORKERS)
+        forwarder, server = Forwarder(stack, args.program, port), Server(stack, args.program, port + 1)
+        forwarder.fill(filling)
         free = WORKERS - server.fill(filling)
         is_enough = args.runs * (1 + TOGETHER) <= free
         check(is_enough, f"{free} workers are free after the filling, too few for {args.runs} runs")
-        figures, start = {1: [], TOGETHER: []}, 0
-        for count in (1, TOGETHER) * args.runs:
-            workers = range(start, start + count)
-            some = [[kind.call(zone, at * DATAGRAMS + each) for each in range(LOOKS + QUERIES)] for at in workers]
-            for worker, calls in zip(workers, some): server.look(worker, calls[:LOOKS])
-            figures[count].append(server.measure(workers, [calls[LOOKS:] for calls in some]))
-            start += count
-    finally:
-        server.down()
-    return figures
+        return [one_run(server, forwarder, zone, kind, (1 + TOGETHER) * each) for each in range(args.runs)]
+
+def one_run(server, forwarder, zone, kind, first):
+    """The figures of the turns of a worker and of `forward`, and those of the following workers together."""
+    workers, count = range(first, first + 1 + TOGETHER), LOOKS + min(QUERIES, kind.most)
+    some = [[kind.call(zone, at * DATAGRAMS + each) for each in range(count)] for at in workers]
+    for worker, calls in zip(workers, some): server.look(worker, calls[:LOOKS])
+    forwarder.look(0, some[0][:LOOKS])
+    alone, *others = [calls[LOOKS:] for calls in some]
+    parts = [alone[at : at + TURN] for at in range(0, len(alone), TURN)]
+    turns = [(server.measure([first], [part]), forwarder.measure([0], [part])) for part in parts]
+    return turns, server.measure(workers[1:], others)
 
 def line(*cells):
     print("| " + " | ".join(cells) + " |", flush=True)
 
 def words(parser):
     runs.takes_program(parser)
-    chains, kinds = (CHAINS, ["nsec", "nsec3-0-0"]), (ASKED, ["name-error", "no-data", "set"])
-    takes_several(parser, sizes=[1_000, 100_000], chains=chains, kinds=kinds)
+    kinds = ["name-error", "no-data", "set", *UPSTREAM_KINDS]
+    takes_several(parser, sizes=[1_000, 100_000], chains=(CHAINS, ["nsec", "nsec3-0-0"]), kinds=(ASKED, kinds))
     runs.takes_numbers(parser, 1, runs=5, rounds=1)
 
 def run(args):
     runs.need("dnsperf", "dnsperf")
-    rate = "queries a second"
-    line("held", "query", "µs a query, 1 worker", rate, f"µs a query, {TOGETHER} workers", rate)
-    line("---:", "---", "---:", "---:", "---:", "---:")
+    ways = "`serve`, 1 worker", f"`serve`, {TOGETHER} workers", "`forward`"
+    heads = [head for way in ways for head in (f"{way}: µs a query", "queries a second")]
+    line("held", "query", *heads, "times as much", "µs more")
+    line("---:", "---", *["---:"] * 8)
     for chain in map(CHAINS.get, args.chains):
         for size in args.sizes:
             zone = Zone(chain, size)
-            for kind in map(KINDS.get, args.kinds):
-                figures = [f"{cost:.2f} | {rate:,.0f}" for cost, rate in figures_of(args, zone, kind)]
-                line(f"{size:,}", f"{chain.title}: {kind.title_for(chain)}", *figures)
+            for kind in map(ASKED.get, args.kinds):
+                line(f"{size:,}", f"{chain.title}: {kind.title_for(chain)}", *cells_of(args, zone, kind))
