@@ -11,18 +11,16 @@ use forwarding::{Event, Holding, Outlet, PassedNames};
 use resolver::{CacheSeat, SharedCache};
 use std::sync::Wait;
 
-/// There is none.
+/// Nothing comes over it, and nothing that is given to it goes anywhere. None is handed out.
 #[derive(Debug, Drop)]
-pub enum NoOutlet {}
+pub struct NoOutlet;
 
 impl Outlet for NoOutlet {
     ghost use Rattle.std.specs.Prelude.{None};
 
     ghost told = { λ _. None };
 
-    fn receive<R: Wait>(&mut self, _rt: &R, _into: &mut Event) {
-        match *self {}
-    }
+    fn receive<R: Wait>(&mut self, _rt: &R, _into: &mut Event) {}
 
     fn reply(
         &mut self,
@@ -31,9 +29,7 @@ impl Outlet for NoOutlet {
         _passed: &PassedNames,
         _client: u64,
         _octets: &[u8],
-    ) {
-        match *self {}
-    }
+    ) {}
 
     fn ask(
         &mut self,
@@ -42,9 +38,7 @@ impl Outlet for NoOutlet {
         _passed: &PassedNames,
         _slot: usize,
         _octets: &[u8],
-    ) {
-        match *self {}
-    }
+    ) {}
 
     fn show(
         &mut self,
@@ -53,7 +47,5 @@ impl Outlet for NoOutlet {
         _passed: &PassedNames,
         _counts: &Counts,
         _holding: Holding,
-    ) {
-        match *self {}
-    }
+    ) {}
 }
