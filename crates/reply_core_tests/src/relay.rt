@@ -193,55 +193,56 @@ fn first_wrong_flags(alloc: Global, cases: &[Flags]) -> Result<Option<usize>, Fa
     Ok(None)
 }
 
+// The message's flags and RCODE; the client's RD, AD, CD, and DO where it has OPT; the reply's flags and OPT.
+const FLAGS: [Flags; 12] = [
+    (0x8020, 0, false, false, false, None, b"\x80\x80", b""),
+    (0x8020, 0, true, true, false, None, b"\x81\xa0", b""),
+    (
+        0x8020,
+        3,
+        true,
+        false,
+        true,
+        Some(true),
+        b"\x81\xb3",
+        OPT_WITH_DO,
+    ),
+    (0x8020, 0, true, false, false, Some(false), b"\x81\x80", OPT),
+    // without the message's AD
+    (0x8000, 2, true, true, false, None, b"\x81\x82", b""),
+    // AA, RD, Z and CD of the message go nowhere, nor does its opcode
+    (0xfd50, 0, false, true, false, None, b"\x80\x80", b""),
+    (0xfd70, 0, false, true, false, None, b"\x80\xa0", b""),
+    (0x8000, 15, false, false, false, None, b"\x80\x8f", b""),
+    // an RCODE of more than four bits
+    (0x8000, 16, false, false, false, None, b"\x80\x82", b""),
+    (
+        0x8000,
+        23,
+        false,
+        false,
+        false,
+        Some(false),
+        b"\x80\x87",
+        b"\0\0\x29\x04\xd0\x01\0\0\0\0\0",
+    ),
+    (
+        0x8000,
+        4095,
+        false,
+        false,
+        false,
+        Some(true),
+        b"\x80\x8f",
+        b"\0\0\x29\x04\xd0\xff\0\x80\0\0\0",
+    ),
+    // a message that came truncated
+    (0x8220, 3, true, true, false, None, b"\x83\xa3", b""),
+];
+
 #[test]
 fn the_flags_and_the_rcode(rt: HostRuntime) -> Result<(), Fail> {
-    // the message's flags and RCODE; the client's RD, AD, CD, and DO where it has OPT; the reply's flags and OPT
-    let cases: [Flags; 12] = [
-        (0x8020, 0, false, false, false, None, b"\x80\x80", b""),
-        (0x8020, 0, true, true, false, None, b"\x81\xa0", b""),
-        (
-            0x8020,
-            3,
-            true,
-            false,
-            true,
-            Some(true),
-            b"\x81\xb3",
-            OPT_WITH_DO,
-        ),
-        (0x8020, 0, true, false, false, Some(false), b"\x81\x80", OPT),
-        // without the message's AD
-        (0x8000, 2, true, true, false, None, b"\x81\x82", b""),
-        // AA, RD, Z and CD of the message go nowhere, nor does its opcode
-        (0xfd50, 0, false, true, false, None, b"\x80\x80", b""),
-        (0xfd70, 0, false, true, false, None, b"\x80\xa0", b""),
-        (0x8000, 15, false, false, false, None, b"\x80\x8f", b""),
-        // an RCODE of more than four bits
-        (0x8000, 16, false, false, false, None, b"\x80\x82", b""),
-        (
-            0x8000,
-            23,
-            false,
-            false,
-            false,
-            Some(false),
-            b"\x80\x87",
-            b"\0\0\x29\x04\xd0\x01\0\0\0\0\0",
-        ),
-        (
-            0x8000,
-            4095,
-            false,
-            false,
-            false,
-            Some(true),
-            b"\x80\x8f",
-            b"\0\0\x29\x04\xd0\xff\0\x80\0\0\0",
-        ),
-        // a message that came truncated
-        (0x8220, 3, true, true, false, None, b"\x83\xa3", b""),
-    ];
-    let wrong = first_wrong_flags(rt.alloc(), &cases)?;
+    let wrong = first_wrong_flags(rt.alloc(), &FLAGS)?;
     assert!(rt; wrong.is_none(), "{wrong:?}");
     Ok(())
 }

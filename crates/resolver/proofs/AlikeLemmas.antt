@@ -60,7 +60,7 @@ module _ (held other : Held) (same : SameLookups held other) (now qtype : ℕ) w
   walk_alike rule name = λ i. option_or (proved_alike name i) (beyond_alike (links_of rule) rule name i)
 
 -- what is kept in the order of keys gives the walk that what is held gives
-walk_as_held : (rule : Rule) (journal : List Batch) (held : Held) (question : Question) (now : ℕ) → held ≡ kept_of journal → walk_in rule held question now ≡ walk_in rule (held_of journal) question now
+pub walk_as_held : (rule : Rule) (journal : List Batch) (held : Held) (question : Question) (now : ℕ) → held ≡ kept_of journal → walk_in rule held question now ≡ walk_in rule (held_of journal) question now
 walk_as_held rule journal held question now kept =
     let alike = all_alike journal in
     ap (λ (h : Held). walk_in rule h question now) kept
