@@ -23,6 +23,7 @@ is_within counters.Redirection = omega arith
 is_within counters.Joined = omega arith
 is_within counters.Asked = omega arith
 is_within counters.AskedAgain = omega arith
+is_within counters.AskedByStream = omega arith
 is_within counters.Late = omega arith
 is_within counters.Full = omega arith
 is_within counters.Unreadable = omega arith

@@ -28,8 +28,10 @@ pub enum Counter {
     Joined,
     /// A query whose question was asked of the upstream.
     Asked,
-    /// A waiting question that was asked again.
+    /// A waiting question that was asked again by a datagram.
     AskedAgain,
+    /// One that was asked again by a stream.
+    AskedByStream,
     /// A client that was told of a failed server, since no answer came in time.
     Late,
     /// Since its question was given up for a new one.
@@ -71,7 +73,7 @@ pub enum Counter {
 }
 
 /// How many counters there are.
-pub const COUNTERS: usize = 32;
+pub const COUNTERS: usize = 33;
 
 impl Counter {
     /// All, in order.
@@ -89,6 +91,7 @@ impl Counter {
         Counter::Joined,
         Counter::Asked,
         Counter::AskedAgain,
+        Counter::AskedByStream,
         Counter::Late,
         Counter::Full,
         Counter::Unreadable,
@@ -129,25 +132,26 @@ impl Counter {
             Counter::Joined => 10,
             Counter::Asked => 11,
             Counter::AskedAgain => 12,
-            Counter::Late => 13,
-            Counter::Full => 14,
-            Counter::Unreadable => 15,
-            Counter::RelayedNoError => 16,
-            Counter::RelayedServerFailure => 17,
-            Counter::RelayedNameError => 18,
-            Counter::RelayedRefused => 19,
-            Counter::RelayedOther => 20,
-            Counter::Ignored => 21,
-            Counter::Unread => 22,
-            Counter::Stored => 23,
-            Counter::Passed => 24,
-            Counter::Unstored => 25,
-            Counter::Malformed => 26,
-            Counter::NotResponse => 27,
-            Counter::Truncated => 28,
-            Counter::OtherRcode => 29,
-            Counter::NotAuthentic => 30,
-            Counter::NothingToStore => 31,
+            Counter::AskedByStream => 13,
+            Counter::Late => 14,
+            Counter::Full => 15,
+            Counter::Unreadable => 16,
+            Counter::RelayedNoError => 17,
+            Counter::RelayedServerFailure => 18,
+            Counter::RelayedNameError => 19,
+            Counter::RelayedRefused => 20,
+            Counter::RelayedOther => 21,
+            Counter::Ignored => 22,
+            Counter::Unread => 23,
+            Counter::Stored => 24,
+            Counter::Passed => 25,
+            Counter::Unstored => 26,
+            Counter::Malformed => 27,
+            Counter::NotResponse => 28,
+            Counter::Truncated => 29,
+            Counter::OtherRcode => 30,
+            Counter::NotAuthentic => 31,
+            Counter::NothingToStore => 32,
         }
     }
 }

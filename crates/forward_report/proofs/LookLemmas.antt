@@ -27,7 +27,7 @@ place_from i zero (first ∷ rest) d are within = are.0 ∙ omega arith
 place_from i (suc j) (first ∷ rest) d are within = place_from (suc i) j rest d are.1 (omega arith) ∙ omega arith
 
 pub place_at : (i : ℕ) (d : Call) → i < CALLS → place_of (get_or call.ALL i d) ≡ i
-place_at i d within = place_from 0 i call.ALL d (refl, (refl, (refl, (refl, (refl, (refl, (refl, (refl, (refl, tt))))))))) within ∙ omega arith
+place_at i d within = place_from 0 i call.ALL d (refl, (refl, (refl, (refl, (refl, (refl, (refl, (refl, (refl, (refl, (refl, (refl, (refl, tt))))))))))))) within ∙ omega arith
 
 -- ---- a list whose front is made anew
 

@@ -29,6 +29,10 @@ noticed_on now workers memory calls.Bind = refl
 noticed_on now workers memory calls.Connect = refl
 noticed_on now workers memory calls.Watch = refl
 noticed_on now workers memory calls.Send = refl
+noticed_on now workers memory calls.Accept = refl
+noticed_on now workers memory calls.ConnectStream = refl
+noticed_on now workers memory calls.ReadStream = refl
+noticed_on now workers memory calls.WriteStream = refl
 
 told_then_of : (now : ℕ) (workers : List WorkerReport) (memory : Memory) (call : Call) → told_of (looked now workers memory) call ≡ told_then now workers memory call
 unfolding looked
@@ -41,6 +45,10 @@ told_then_of now workers memory calls.Bind = refl
 told_then_of now workers memory calls.Connect = refl
 told_then_of now workers memory calls.Watch = refl
 told_then_of now workers memory calls.Send = refl
+told_then_of now workers memory calls.Accept = refl
+told_then_of now workers memory calls.ConnectStream = refl
+told_then_of now workers memory calls.ReadStream = refl
+told_then_of now workers memory calls.WriteStream = refl
 
 nothing_told_of : (start : ℕ) (call : Call) → told_of (nothing_told start) call ≡ never_told
 unfolding nothing_told
@@ -53,6 +61,10 @@ nothing_told_of start calls.Bind = refl
 nothing_told_of start calls.Connect = refl
 nothing_told_of start calls.Watch = refl
 nothing_told_of start calls.Send = refl
+nothing_told_of start calls.Accept = refl
+nothing_told_of start calls.ConnectStream = refl
+nothing_told_of start calls.ReadStream = refl
+nothing_told_of start calls.WriteStream = refl
 
 -- ---- lines on one call
 

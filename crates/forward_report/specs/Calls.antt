@@ -15,6 +15,10 @@ place_of calls.Bind = 5
 place_of calls.Connect = 6
 place_of calls.Watch = 7
 place_of calls.Send = 8
+place_of calls.Accept = 9
+place_of calls.ConnectStream = 10
+place_of calls.ReadStream = 11
+place_of calls.WriteStream = 12
 
 -- ---- all numbers of failures, each at its call's place
 

@@ -6,7 +6,7 @@ use Rattle.forward_report.specs.declared.notice.What.{What}
 use Rattle.forward_report.specs.declared.notice.What.TheVariants.{Failed, Silent, Back}
 
 abbrev pub failed_of : Call → List ℕ
-failed_of calls.Wait = codes "waits for datagrams that failed"
+failed_of calls.Wait = codes "waits for sockets that failed"
 failed_of calls.ReceiveQuery = codes "queries that could not be received"
 failed_of calls.ReceiveAnswer = codes "answers that could not be received"
 failed_of calls.Reply = codes "replies that could not be sent"
@@ -15,6 +15,10 @@ failed_of calls.Bind = codes "sockets that could not be bound"
 failed_of calls.Connect = codes "sockets that could not be connected"
 failed_of calls.Watch = codes "sockets that could not be watched"
 failed_of calls.Send = codes "questions that could not be sent"
+failed_of calls.Accept = codes "connections of clients that could not be accepted"
+failed_of calls.ConnectStream = codes "streams that could not be connected"
+failed_of calls.ReadStream = codes "streams that could not be read"
+failed_of calls.WriteStream = codes "streams that could not be written"
 
 -- what failed, how often, and the cause
 abbrev pub failed_line : List ℕ → ℕ → List ℕ → List ℕ

@@ -52,6 +52,7 @@ name_of families.Dropped = codes "dnsreplay_dropped_total"
 name_of families.Forwarded = codes "dnsreplay_forwarded_total"
 name_of families.Joined = codes "dnsreplay_joined_total"
 name_of families.AskedAgain = codes "dnsreplay_asked_again_total"
+name_of families.AskedByStream = codes "dnsreplay_asked_by_stream_total"
 name_of families.Failed = codes "dnsreplay_failed_total"
 name_of families.Relayed = codes "dnsreplay_relayed_total"
 name_of families.IgnoredAnswers = codes "dnsreplay_ignored_answers_total"
@@ -62,14 +63,15 @@ name_of families.NotStored = codes "dnsreplay_not_stored_total"
 abbrev pub help_of : Family → List ℕ
 help_of families.Answered = codes "Queries answered by the cache."
 help_of families.Told = codes "Queries answered by an error."
-help_of families.Dropped = codes "Datagrams of clients that got no reply."
+help_of families.Dropped = codes "Messages of clients that got no reply."
 help_of families.Forwarded = codes "Queries whose question was asked of the upstream."
 help_of families.Joined = codes "Queries that waited for the answer to an equal one."
 help_of families.AskedAgain = codes "Waiting questions that were asked again."
+help_of families.AskedByStream = codes "Waiting questions that were asked again by a stream."
 help_of families.Failed = codes "Clients that got SERVFAIL of the forwarder."
 help_of families.Relayed = codes "Clients that got the answer of the upstream."
-help_of families.IgnoredAnswers = codes "Datagrams of the upstream that no question waited for."
-help_of families.UnreadAnswers = codes "Datagrams of the upstream passed over for want of memory."
+help_of families.IgnoredAnswers = codes "Messages of the upstream that no question waited for."
+help_of families.UnreadAnswers = codes "Messages of the upstream passed over for want of memory."
 help_of families.Stored = codes "Answers of which records were stored."
 help_of families.NotStored = codes "Answers of which nothing was stored."
 
@@ -88,6 +90,7 @@ family_of counters.Redirection = families.Answered
 family_of counters.Joined = families.Joined
 family_of counters.Asked = families.Forwarded
 family_of counters.AskedAgain = families.AskedAgain
+family_of counters.AskedByStream = families.AskedByStream
 family_of counters.Late = families.Failed
 family_of counters.Full = families.Failed
 family_of counters.Unreadable = families.Failed
@@ -123,6 +126,7 @@ case_of counters.Redirection = codes "by=\"redirection\","
 case_of counters.Joined = []
 case_of counters.Asked = []
 case_of counters.AskedAgain = []
+case_of counters.AskedByStream = []
 case_of counters.Late = codes "why=\"late\","
 case_of counters.Full = codes "why=\"full\","
 case_of counters.Unreadable = codes "why=\"unreadable\","
@@ -150,12 +154,13 @@ place_of_family families.Dropped = 2
 place_of_family families.Forwarded = 3
 place_of_family families.Joined = 4
 place_of_family families.AskedAgain = 5
-place_of_family families.Failed = 6
-place_of_family families.Relayed = 7
-place_of_family families.IgnoredAnswers = 8
-place_of_family families.UnreadAnswers = 9
-place_of_family families.Stored = 10
-place_of_family families.NotStored = 11
+place_of_family families.AskedByStream = 6
+place_of_family families.Failed = 7
+place_of_family families.Relayed = 8
+place_of_family families.IgnoredAnswers = 9
+place_of_family families.UnreadAnswers = 10
+place_of_family families.Stored = 11
+place_of_family families.NotStored = 12
 
 abbrev pub is_of : Family → Counter → Bool
 is_of family counter = place_of_family (family_of counter) == place_of_family family
@@ -186,6 +191,10 @@ call_case calls.Bind = codes "call=\"bind\","
 call_case calls.Connect = codes "call=\"connect\","
 call_case calls.Watch = codes "call=\"watch\","
 call_case calls.Send = codes "call=\"send\","
+call_case calls.Accept = codes "call=\"accept\","
+call_case calls.ConnectStream = codes "call=\"connect_stream\","
+call_case calls.ReadStream = codes "call=\"read_stream\","
+call_case calls.WriteStream = codes "call=\"write_stream\","
 
 abbrev pub failure_text : ℕ → List ℕ → Call → List ℕ
 failure_text worker faults call =

@@ -10,7 +10,7 @@ pub enum Call {
     ReceiveQuery,
     /// To receive from the upstream. It fails too where nobody listens at the upstream's address.
     ReceiveAnswer,
-    /// To send to a client.
+    /// To send to a client. It fails too where no client waits for the reply.
     Reply,
     /// To make a socket for a question.
     Socket,
@@ -22,10 +22,19 @@ pub enum Call {
     Watch,
     /// To send the question.
     Send,
+    /// To accept a client's connection. It fails too where as many are open as may be.
+    Accept,
+    /// To connect a stream to the upstream.
+    ConnectStream,
+    /// To read a stream, a client's or one to the upstream. It fails too where the upstream ends one without an answer, and
+    /// where a client asks too much at once.
+    ReadStream,
+    /// To write a stream, a client's or one to the upstream.
+    WriteStream,
 }
 
 /// How many calls there are.
-pub const CALLS: usize = 9;
+pub const CALLS: usize = 13;
 
 impl Call {
     /// All, in order.
@@ -39,6 +48,10 @@ impl Call {
         Call::Connect,
         Call::Watch,
         Call::Send,
+        Call::Accept,
+        Call::ConnectStream,
+        Call::ReadStream,
+        Call::WriteStream,
     ];
 
     /// The place among all.
@@ -56,6 +69,10 @@ impl Call {
             Call::Connect => 6,
             Call::Watch => 7,
             Call::Send => 8,
+            Call::Accept => 9,
+            Call::ConnectStream => 10,
+            Call::ReadStream => 11,
+            Call::WriteStream => 12,
         }
     }
 }

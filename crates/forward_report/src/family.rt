@@ -12,6 +12,7 @@ pub enum Family {
     Forwarded,
     Joined,
     AskedAgain,
+    AskedByStream,
     Failed,
     Relayed,
     IgnoredAnswers,
@@ -22,13 +23,14 @@ pub enum Family {
 
 impl Family {
     /// All, in the order in which they are shown.
-    pub const ALL: [Family; 12] = [
+    pub const ALL: [Family; 13] = [
         Family::Answered,
         Family::Told,
         Family::Dropped,
         Family::Forwarded,
         Family::Joined,
         Family::AskedAgain,
+        Family::AskedByStream,
         Family::Failed,
         Family::Relayed,
         Family::IgnoredAnswers,
@@ -55,6 +57,7 @@ impl Family {
             Counter::Joined => Family::Joined,
             Counter::Asked => Family::Forwarded,
             Counter::AskedAgain => Family::AskedAgain,
+            Counter::AskedByStream => Family::AskedByStream,
             Counter::Late => Family::Failed,
             Counter::Full => Family::Failed,
             Counter::Unreadable => Family::Failed,
@@ -87,6 +90,7 @@ impl Family {
             Family::Forwarded => "dnsreplay_forwarded_total",
             Family::Joined => "dnsreplay_joined_total",
             Family::AskedAgain => "dnsreplay_asked_again_total",
+            Family::AskedByStream => "dnsreplay_asked_by_stream_total",
             Family::Failed => "dnsreplay_failed_total",
             Family::Relayed => "dnsreplay_relayed_total",
             Family::IgnoredAnswers => "dnsreplay_ignored_answers_total",
@@ -102,14 +106,15 @@ impl Family {
         match self {
             Family::Answered => "Queries answered by the cache.",
             Family::Told => "Queries answered by an error.",
-            Family::Dropped => "Datagrams of clients that got no reply.",
+            Family::Dropped => "Messages of clients that got no reply.",
             Family::Forwarded => "Queries whose question was asked of the upstream.",
             Family::Joined => "Queries that waited for the answer to an equal one.",
             Family::AskedAgain => "Waiting questions that were asked again.",
+            Family::AskedByStream => "Waiting questions that were asked again by a stream.",
             Family::Failed => "Clients that got SERVFAIL of the forwarder.",
             Family::Relayed => "Clients that got the answer of the upstream.",
-            Family::IgnoredAnswers => "Datagrams of the upstream that no question waited for.",
-            Family::UnreadAnswers => "Datagrams of the upstream passed over for want of memory.",
+            Family::IgnoredAnswers => "Messages of the upstream that no question waited for.",
+            Family::UnreadAnswers => "Messages of the upstream passed over for want of memory.",
             Family::Stored => "Answers of which records were stored.",
             Family::NotStored => "Answers of which nothing was stored.",
         }
@@ -134,6 +139,7 @@ pub fn case_of(counter: Counter) -> &'static str
         Counter::Joined => "",
         Counter::Asked => "",
         Counter::AskedAgain => "",
+        Counter::AskedByStream => "",
         Counter::Late => "why=\"late\",",
         Counter::Full => "why=\"full\",",
         Counter::Unreadable => "why=\"unreadable\",",

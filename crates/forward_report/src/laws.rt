@@ -1,5 +1,9 @@
 //! What an operator can rely on.
+ghost use Rattle.std.specs.Prelude.{◌≡◌};
 ghost use Rattle.forward_report.specs.Laws.{EachCounterIsShownOnce, LinesAreMinutesApart, LinesCountWhatIsNew, NoTwoCountersAreAlike, SilenceAndReturnTakeTurns};
+
+use crate::heard::SILENCE;
+use crate::told::MINUTE;
 
 /// Each counter of a worker stands in the status once.
 pub fn each_counter_is_shown_once()
@@ -24,4 +28,10 @@ pub fn lines_count_what_is_new()
 /// The upstream is said to be silent, then to be back, and so on.
 pub fn silence_and_return_take_turns()
     ensures { SilenceAndReturnTakeTurns }
+{}
+
+/// There are 60 seconds between two lines on one call at least, and the upstream is silent once 5 seconds have passed.
+pub fn lines_come_by_these_times()
+    ensures minute { MINUTE ≡ 60000 }
+    ensures silence { SILENCE ≡ 5000 }
 {}

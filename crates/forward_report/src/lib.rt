@@ -21,8 +21,8 @@ pub use cache_report::CacheReport;
 pub use call::{CALLS, Call};
 pub use call_faults::CallFaults;
 pub use laws::{
-    each_counter_is_shown_once, lines_are_minutes_apart, lines_count_what_is_new,
-    no_two_counters_are_alike, silence_and_return_take_turns,
+    each_counter_is_shown_once, lines_are_minutes_apart, lines_come_by_these_times,
+    lines_count_what_is_new, no_two_counters_are_alike, silence_and_return_take_turns,
 };
 pub use notice::{Notice, What, notice_text};
 pub use notices::{NOTICES, Notices};

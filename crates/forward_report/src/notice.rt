@@ -59,7 +59,7 @@ fn failed_of(call: Call) -> &'static str
     ensures { result.now ≡ failed_of call }
 {
     match call {
-        Call::Wait => "waits for datagrams that failed",
+        Call::Wait => "waits for sockets that failed",
         Call::ReceiveQuery => "queries that could not be received",
         Call::ReceiveAnswer => "answers that could not be received",
         Call::Reply => "replies that could not be sent",
@@ -68,5 +68,9 @@ fn failed_of(call: Call) -> &'static str
         Call::Connect => "sockets that could not be connected",
         Call::Watch => "sockets that could not be watched",
         Call::Send => "questions that could not be sent",
+        Call::Accept => "connections of clients that could not be accepted",
+        Call::ConnectStream => "streams that could not be connected",
+        Call::ReadStream => "streams that could not be read",
+        Call::WriteStream => "streams that could not be written",
     }
 }

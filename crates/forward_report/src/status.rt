@@ -148,6 +148,10 @@ fn call_case(call: Call) -> &'static str
         Call::Connect => "call=\"connect\",",
         Call::Watch => "call=\"watch\",",
         Call::Send => "call=\"send\",",
+        Call::Accept => "call=\"accept\",",
+        Call::ConnectStream => "call=\"connect_stream\",",
+        Call::ReadStream => "call=\"read_stream\",",
+        Call::WriteStream => "call=\"write_stream\",",
     }
 }
 

@@ -4,11 +4,11 @@ use std::alloc::{AllocError, Global};
 use std::net::{Ipv4Addr, Ipv6Addr, SocketAddr, SocketAddrV4, SocketAddrV6};
 use std::test::Fail;
 
-const LINES: [(What, u64, &str); 11] = [
+const LINES: [(What, u64, &str); 15] = [
     (
         What::Failed(Call::Wait),
         1,
-        "dnsreplay: waits for datagrams that failed in the last minute: 1, the last for: CAUSE\n",
+        "dnsreplay: waits for sockets that failed in the last minute: 1, the last for: CAUSE\n",
     ),
     (
         What::Failed(Call::ReceiveQuery),
@@ -49,6 +49,26 @@ const LINES: [(What, u64, &str); 11] = [
         What::Failed(Call::Send),
         18_446_744_073_709_551_615,
         "dnsreplay: questions that could not be sent in the last minute: 18446744073709551615, the last for: CAUSE\n",
+    ),
+    (
+        What::Failed(Call::Accept),
+        20,
+        "dnsreplay: connections of clients that could not be accepted in the last minute: 20, the last for: CAUSE\n",
+    ),
+    (
+        What::Failed(Call::ConnectStream),
+        21,
+        "dnsreplay: streams that could not be connected in the last minute: 21, the last for: CAUSE\n",
+    ),
+    (
+        What::Failed(Call::ReadStream),
+        22,
+        "dnsreplay: streams that could not be read in the last minute: 22, the last for: CAUSE\n",
+    ),
+    (
+        What::Failed(Call::WriteStream),
+        23,
+        "dnsreplay: streams that could not be written in the last minute: 23, the last for: CAUSE\n",
     ),
     (
         What::Silent,
