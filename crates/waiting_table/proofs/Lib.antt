@@ -1,3 +1,5 @@
 pub mod OnceLemmas
 pub mod SlotLemmas
+pub mod StreamLemmas
 pub mod IndexLemmas
+pub mod SinceLemmas

@@ -6,11 +6,12 @@ use Rattle.std.proofs.lemmas.Bool.{and_parts, both_ways, cases_lt, leb-false}
 use Rattle.std.proofs.lemmas.List.{get_or_past, length-set, set_past}
 use Rattle.std.proofs.lemmas.List.Elements.{All-cons, All-nil}
 use Rattle.std.proofs.lemmas.List.Sums.{sum_by-append, sum_by-cons, sum_by-set, sum_by_push}
+use Rattle.arrivals.specs.declared.carrier.Carrier.TheVariants.{Datagram, Stream}
 use Rattle.waiting_table.specs.declared.client.Client.{Client}
-use Rattle.waiting_table.specs.Waiting.{Slot, again, clients_in, clients_of, empty_table, first_asked, is_due, is_late, same_asked, slot_at, takes, with_client}
-use Rattle.waiting_table.specs.Steps.{Step, Asked, Answered, Ticked, after_one, freed, given_up, late_clients, late_in, oldest, place_of, placed, replies_of, ticked, ticked_slot}
+use Rattle.waiting_table.specs.Waiting.{Slot, again, asked_by_stream, clients_in, clients_of, empty_table, first_asked, is_due, is_late, same_asked, same_carrier, slot_at, takes, with_client}
+use Rattle.waiting_table.specs.Steps.{Step, Asked, Answered, AskedByStream, Ticked, after_one, freed, given_up, late_clients, late_in, oldest, place_of, placed, replies_of, ticked, ticked_slot}
 use Rattle.waiting_table.specs.Laws.{AreAskedOnce, IsInTime, after, asked_by, of_number, queries_of, replies_in, waiting_for}
-use Rattle.waiting_table.proofs.SlotLemmas.{found, free_at, none_found, oldest_within, set_slot, takes_both, takes_less, takes_ticked, ticked_at}
+use Rattle.waiting_table.proofs.SlotLemmas.{found, free_at, none_found, oldest_within, set_slot, takes_both, takes_less, takes_streamed, takes_ticked, ticked_at}
 
 -- ---- asked once
 
@@ -41,6 +42,8 @@ once_placed now id client table None None once is = once_asked now id client tab
 pub once_after : (step : Step) (table : List Slot) → AreAskedOnce table → AreAskedOnce (after_one step table)
 once_after (Asked now id client) table once = once_placed now id client table (position (takes client.question) table) (position (λ slot. is_none slot) table) once refl
 once_after (Answered slot) table once = once_set table slot None once (λ question i takes_it other. absurd (cc takes_it))
+once_after (AskedByStream slot id) table once =
+    once_set table slot (asked_by_stream id (slot_at table slot)) once (λ question i asked takes_it. once question i slot takes_it (takes_streamed question id (slot_at table slot) asked))
 once_after (Ticked now ids) table once = λ question i j ti tj.
     let at = ticked_at now ids table i in
     let other = ticked_at now ids table j in
@@ -98,6 +101,23 @@ module _ (weight : Client → ℕ) where
       (λ (h : length table ≤ slot). rw (set_past table slot None h, get_or_past table slot None h) (omega arith))
       (cases_lt slot (length table))
 
+  streamed_weighs : (id : ℕ) (slot : Slot) → sum_by weight (clients_in (asked_by_stream id slot)) ≡ sum_by weight (clients_in slot)
+  streamed_weighs id None = refl
+  streamed_weighs id (Some w) = by (same_carrier w.by Datagram)
+    where
+      by : (may : Bool) → sum_by weight (clients_in (cond may (Some (record w { by = Stream; id = id })) (Some w))) ≡ sum_by weight (clients_of w)
+      by true = refl
+      by false = refl
+
+  kept_weighs : (table : List Slot) (slot id : ℕ) → weight_in (set table slot (asked_by_stream id (slot_at table slot))) ≡ weight_in table
+  kept_weighs table slot id = ⊎_elim
+      (λ (h : slot < length table).
+      let waits = set_weighs table slot (asked_by_stream id (slot_at table slot)) h in
+      let same = streamed_weighs id (slot_at table slot) in
+      omega arith)
+      (λ (h : length table ≤ slot). rw (set_past table slot (asked_by_stream id (slot_at table slot)) h) refl)
+      (cases_lt slot (length table))
+
   slot_weighs : (now id : ℕ) (slot : Slot) → sum_by weight (late_in now slot) + sum_by weight (clients_in (ticked_slot now id slot)) ≡ sum_by weight (clients_in slot)
   slot_weighs now id None = refl
   slot_weighs now id (Some w) = by (is_late now w) (is_due now w)
@@ -121,6 +141,7 @@ module _ (weight : Client → ℕ) where
   step_weighs (Asked now id client) table some =
       let weighs = placed_weighs now id client table (position (takes client.question) table) (position (λ slot. is_none slot) table) some refl refl in omega arith
   step_weighs (Answered slot) table some = let weighs = freed_weighs slot table in omega arith
+  step_weighs (AskedByStream slot id) table some = let weighs = kept_weighs table slot id in omega arith
   step_weighs (Ticked now ids) table some = let weighs = ticked_weighs now ids table in omega arith
 
 -- of a client's queries, and those that waited before it, each is replied to in a step, or waits after it
@@ -141,6 +162,7 @@ length_placed now id client table None None = length-set table (oldest table) (S
 pub length_after : (step : Step) (table : List Slot) → length (after_one step table) ≡ length table
 length_after (Asked now id client) table = length_placed now id client table (position (takes client.question) table) (position (λ slot. is_none slot) table)
 length_after (Answered slot) table = length-set table slot None
+length_after (AskedByStream slot id) table = length-set table slot (asked_by_stream id (slot_at table slot))
 length_after (Ticked now ids) table = length_ticked now ids table
 
 all_counts : (number : ℕ) (steps : List Step) (table : List Slot) → 0 < length table → of_number number (replies_in steps table) + waiting_for number (after steps table) ≡ waiting_for number table + queries_of number steps
@@ -170,7 +192,7 @@ each_once number steps = let counts = all_counts number steps empty_table (omega
 
 -- ---- never for long
 
-in_time : (now id : ℕ) (slot : Slot) → IsInTime now (ticked_slot now id slot)
+pub in_time : (now id : ℕ) (slot : Slot) → IsInTime now (ticked_slot now id slot)
 in_time now id None = tt
 in_time now id (Some w) = by (is_late now w) (is_due now w) refl
   where

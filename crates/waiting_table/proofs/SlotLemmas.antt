@@ -13,7 +13,8 @@ use Rattle.dname.proofs.SameLemmas.{name_equal}
 use mathlib.Core.Bool.{beq}
 use Rattle.dnswire.specs.declared.question.Question.{Question}
 use Rattle.waiting_table.specs.declared.client.Client.{Client}
-use Rattle.waiting_table.specs.Waiting.{Slot, again, is_due, is_late, same_asked, slot_at, takes, with_client}
+use Rattle.arrivals.specs.declared.carrier.Carrier.TheVariants.{Datagram, Stream}
+use Rattle.waiting_table.specs.Waiting.{Slot, again, asked_by_stream, is_due, is_late, same_asked, same_carrier, slot_at, takes, with_client}
 use Rattle.waiting_table.specs.declared.place.Place.{Place}
 use Rattle.waiting_table.specs.declared.place.Place.TheVariants.{Joins, Fills, Replaces}
 use Rattle.waiting_table.specs.Steps.{is_oldest, oldest, place_for, place_of, since_of, ticked, ticked_slot}
@@ -32,6 +33,12 @@ pub free_at : (n i : ℕ) → slot_at (replicate n None) i ≡ None
 free_at zero i = refl
 free_at (suc n) zero = refl
 free_at (suc n) (suc i) = free_at n i
+
+-- what stands at a place after its slot was changed
+pub changed_at : (change : Slot → Slot) (table : List Slot) (k : ℕ) → change None ≡ None → slot_at (set table k (change (slot_at table k))) k ≡ change (slot_at table k)
+changed_at change [] k free = sym free
+changed_at change (s ∷ ss) zero free = refl
+changed_at change (s ∷ ss) (suc k) free = changed_at change ss k free
 
 -- what stands at a place after a tick
 pub ticked_at : (now : ℕ) (ids : List ℕ) (table : List Slot) (i : ℕ) → (id : ℕ) × (slot_at (ticked now ids table) i ≡ ticked_slot now id (slot_at table i))
@@ -92,6 +99,15 @@ takes_ticked question now id (Some w) h = by (is_late now w) (is_due now w) h
     by true due h = absurd (cc h)
     by false true h = h
     by false false h = h
+
+-- a slot that takes a question once it is asked by a stream took it before
+pub takes_streamed : (question : Question) (id : ℕ) (slot : Slot) → takes question (asked_by_stream id slot) ≡ true → takes question slot ≡ true
+takes_streamed question id None h = h
+takes_streamed question id (Some w) h = by (same_carrier w.by Datagram) h
+  where
+    by : (may : Bool) → takes question (cond may (Some (record w { by = Stream; id = id })) (Some w)) ≡ true → takes question (Some w) ≡ true
+    by true h = h
+    by false h = h
 
 -- ---- the first slot that passes a test
 

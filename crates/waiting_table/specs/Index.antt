@@ -3,10 +3,11 @@ use Rattle.std.specs.Prelude.{◌≡◌, ℕ, ◌+◌, ◌*◌, ◌%◌, ◌^◌
 use Rattle.dname.specs.Name.{Label, wire_of}
 use Rattle.dnswire.specs.declared.question.Question.{Question}
 use Rattle.waiting_table.specs.declared.guest.Guest.{Guest}
+use Rattle.arrivals.specs.declared.carrier.Carrier.{Carrier}
 use Rattle.waiting_table.specs.declared.client.Client.{Client}
 use Rattle.waiting_table.specs.declared.index.Index.{Index}
-use Rattle.waiting_table.specs.declared.waiting_table.TheConstants.{SLOTS, CLIENTS, ASKINGS, PATIENCE, STEP}
-use Rattle.waiting_table.specs.Waiting.{Slot, Waiting, slot_at}
+use Rattle.waiting_table.specs.declared.waiting_table.TheConstants.{SLOTS, CLIENTS, PATIENCE, STEP}
+use Rattle.waiting_table.specs.Waiting.{Slot, Waiting, may_ask_again, slot_at}
 
 -- ---- a client that joined
 
@@ -14,6 +15,7 @@ use Rattle.waiting_table.specs.Waiting.{Slot, Waiting, slot_at}
 abbrev pub client_by : Question → Guest → Client
 client_by asked guest = record {
   number = guest.number;
+  carrier = guest.carrier;
   question = record asked {
     id = guest.id;
     rd = guest.rd;
@@ -43,7 +45,7 @@ index_of taken marks since until =
 abbrev pub Rests : ℕ → Waiting → Type 0
 Rests until waiting =
     (until ≤ waiting.since + PATIENCE)
-    × (waiting.times < ASKINGS → until ≤ waiting.last + STEP * waiting.times)
+    × (may_ask_again waiting ≡ true → until ≤ waiting.last + STEP * waiting.times)
 
 abbrev pub ShowsWaiting : ℕ → ℕ → ℕ → Slot → Type 0
 ShowsWaiting mark since until None = Unit {0}
@@ -84,14 +86,15 @@ pub record IsLeast (since : List ℕ) (slot : ℕ) : Type 0 where
 
 -- ---- a slot's fields
 
-abbrev pub slot_of : Bool → Client → List Guest → ℕ → ℕ → ℕ → ℕ → Slot
-slot_of false asker joined since last times id = None
-slot_of true asker joined since last times id = Some (record {
+abbrev pub slot_of : Bool → Client → List Guest → ℕ → ℕ → ℕ → Carrier → ℕ → Slot
+slot_of false asker joined since last times by id = None
+slot_of true asker joined since last times by id = Some (record {
   asker = asker;
   joined = map (client_by asker.question) joined;
   since = since;
   last = last;
   times = times;
+  by = by;
   id = id;
 })
 

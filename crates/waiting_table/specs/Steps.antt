@@ -5,7 +5,7 @@ use Rattle.dnswire.specs.declared.question.Question.{Question}
 use Rattle.waiting_table.specs.declared.client.Client.{Client}
 use Rattle.waiting_table.specs.declared.place.Place.{Place}
 use Rattle.waiting_table.specs.declared.place.Place.TheVariants.{Joins, Fills, Replaces}
-use Rattle.waiting_table.specs.Waiting.{Slot, again, clients_in, clients_of, first_asked, is_due, is_late, slot_at, takes, with_client}
+use Rattle.waiting_table.specs.Waiting.{Slot, again, asked_by_stream, clients_in, clients_of, first_asked, is_due, is_late, slot_at, takes, with_client}
 
 -- ---- a query that the cache doesn't answer
 
@@ -93,21 +93,25 @@ late_clients now (slot ∷ more) = late_in now slot ++ late_clients now more
 
 -- ---- any event
 
--- a query that the cache doesn't answer, with the ID that is drawn for it; an answer to the question of a slot; a tick, with the IDs
--- that are drawn for its slots
+-- a query that the cache doesn't answer, with the ID that is drawn for it; an answer to the question of a slot; word that its answer is
+-- to be had by a stream, with the ID that is drawn for that; a tick, with the IDs that are drawn for its slots
 pub data Step : Type 0 where
   Asked : (now : ℕ) (id : ℕ) (client : Client) → Step
   Answered : (slot : ℕ) → Step
+  AskedByStream : (slot : ℕ) (id : ℕ) → Step
   Ticked : (now : ℕ) (ids : List ℕ) → Step
 
 abbrev pub after_one : Step → List Slot → List Slot
 after_one (Asked now id client) table =
     placed now id client table (place_for client.question table)
 after_one (Answered slot) table = freed slot table
+after_one (AskedByStream slot id) table =
+    set table slot (asked_by_stream id (slot_at table slot))
 after_one (Ticked now ids) table = ticked now ids table
 
 -- who gets a reply: an answer, or word of a failed server
 abbrev pub replies_of : Step → List Slot → List Client
 replies_of (Asked now id client) table = given_up table (place_for client.question table)
 replies_of (Answered slot) table = clients_in (slot_at table slot)
+replies_of (AskedByStream slot id) table = []
 replies_of (Ticked now ids) table = late_clients now table

@@ -1,8 +1,10 @@
+use arrivals::Carrier;
 use dnswire::Question;
 
-/// A client, by its number, and what it asked.
+/// A client, by its number, by what its query came, and what it asked.
 #[derive(Debug, Drop)]
 pub struct Client {
     pub number: u64,
+    pub carrier: Carrier,
     pub question: Question,
 }

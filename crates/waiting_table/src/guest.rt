@@ -5,12 +5,14 @@ ghost use Rattle.waiting_table.specs.Waiting.{client_of, same_asked};
 use crate::Client;
 use crate::copying::copy_of;
 use arrayvec::ArrayVec;
+use arrivals::Carrier;
 use dnswire::{Edns, MAX_ASKED, Question};
 
 /// A client that joined for a question: what of its own question isn't that of the first client's.
 #[derive(Drop)]
 pub(crate) struct Guest {
     number: u64,
+    carrier: Carrier,
     id: u16,
     rd: bool,
     ad: bool,
@@ -20,12 +22,13 @@ pub(crate) struct Guest {
 
 impl Guest {
     // The client joins for the question that is the same as its own.
-    pub(crate) fn of(number: u64, question: &Question, asked: &Question) -> Guest
+    pub(crate) fn of(number: u64, carrier: Carrier, question: &Question, asked: &Question) -> Guest
         requires { same_asked asked.now question.now ≡ true }
-        ensures { client_by asked.now result ≡ client_of number question.now }
+        ensures { client_by asked.now result ≡ client_of number carrier question.now }
     {
         Guest {
             number,
+            carrier,
             id: question.id,
             rd: question.rd,
             ad: question.ad,
@@ -50,6 +53,7 @@ impl Guest {
         };
         Client {
             number: self.number,
+            carrier: self.carrier,
             question,
         }
     }

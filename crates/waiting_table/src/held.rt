@@ -2,13 +2,14 @@
 ghost use Rattle.std.specs.Prelude.{◌≡◌, ◌<◌, ◌+◌, Some, None, length, nat_le, true, slice_index_or, IfOk, IfSome};
 ghost use Rattle.waiting_table.specs.Index.{Rests};
 ghost use Rattle.waiting_table.specs.Steps.{again_in, is_due_in, is_late_in};
-ghost use Rattle.waiting_table.specs.Waiting.{client_of, clients_in, fits, first_asked, has_id, same_asked, takes, with_client};
+ghost use Rattle.waiting_table.specs.Waiting.{asked_by_stream, client_of, clients_in, fits, first_asked, has_id, may_ask_again, may_ask_by_stream, same_asked, takes, with_client};
 
 use crate::Client;
 use crate::copying::same_question;
 use crate::guest::Guest;
 use crate::waiting_table::{ASKINGS, CLIENTS, PATIENCE, STEP};
 use arrayvec::ArrayVec;
+use arrivals::Carrier;
 use dname::{Name, OutOfMemory};
 use dnswire::Question;
 use std::alloc::Global;
@@ -24,6 +25,7 @@ pub(crate) struct Held {
     since: u64,
     last: u64,
     times: u8,
+    by: Carrier,
     id: u16,
 }
 
@@ -34,7 +36,7 @@ impl Model for Held {
 
     ghost Value = { Slot };
 
-    ghost view = { λ h. slot_of h.taken h.asker h.joined.items h.since h.last h.times h.id };
+    ghost view = { λ h. slot_of h.taken h.asker h.joined.items h.since h.last h.times h.by h.id };
 
     ghost invariant = { λ h. HasRoom h.joined.items (vec_capacity h.joined) };
 }
@@ -52,40 +54,59 @@ impl Held {
             since: 0,
             last: 0,
             times: 0,
+            by: Carrier::Datagram,
             id: 0,
         })
     }
 
     /// The client's question is asked for the first time, with the ID, in place of what the slot held.
-    pub(crate) fn fill(&mut self, client: u64, question: &Question, id: u16, now: u64)
-        ensures { self.new ≡ Some (first_asked now id (client_of client question.now)) }
+    pub(crate) fn fill(
+        &mut self,
+        client: u64,
+        carrier: Carrier,
+        question: &Question,
+        id: u16,
+        now: u64,
+    )
+        ensures { self.new ≡ Some (first_asked now id (client_of client carrier question.now)) }
     {
         self.joined.clear();
         self.asker.number = client;
+        self.asker.carrier = carrier;
         self.asker.question = same_question(question);
         self.since = now;
         self.last = now;
         self.times = 1;
+        self.by = Carrier::Datagram;
         self.id = id;
         self.taken = true;
     }
 
     /// The client joins.
-    pub(crate) fn join(&mut self, client: u64, question: &Question)
+    pub(crate) fn join(&mut self, client: u64, carrier: Carrier, question: &Question)
         requires { takes question.now self.old ≡ true }
-        ensures { self.new ≡ with_client (client_of client question.now) self.old }
+        ensures { self.new ≡ with_client (client_of client carrier question.now) self.old }
     {
-        let guest = Guest::of(client, question, &self.asker.question);
+        let guest = Guest::of(client, carrier, question, &self.asker.question);
         self.joined.push_reserved(guest);
     }
 
-    /// The question was asked again, with another ID.
+    /// The question was asked again, by a datagram with another ID.
     pub(crate) fn ask_again(&mut self, id: u16, now: u64)
         requires { is_due_in now self.old ≡ true }
         ensures { self.new ≡ again_in now id self.old }
     {
         self.last = now;
         self.times += 1;
+        self.id = id;
+    }
+
+    /// The question was asked again, by a stream with another ID.
+    pub(crate) fn ask_by_stream(&mut self, id: u16)
+        requires { may_ask_by_stream self.old ≡ true }
+        ensures { self.new ≡ asked_by_stream id self.old }
+    {
+        self.by = Carrier::Stream;
         self.id = id;
     }
 
@@ -103,23 +124,36 @@ impl Held {
         self.taken && same_asked(&self.asker.question, question) && self.joined.len() + 1 < CLIENTS
     }
 
-    /// Whether an answer with this ID and question is one to the slot's.
-    pub(crate) fn fits(&self, id: u16, name: &Name, qtype: u16, qclass: u16) -> bool
-        ensures { result ≡ fits id name.now qtype qclass self.now }
+    /// Whether an answer by this carrier, with this ID and question, is one to the slot's.
+    pub(crate) fn fits(
+        &self,
+        carrier: Carrier,
+        id: u16,
+        name: &Name,
+        qtype: u16,
+        qclass: u16,
+    ) -> bool
+        ensures { result ≡ fits carrier id name.now qtype qclass self.now }
     {
         let question = &self.asker.question;
-        self.taken
-            && self.id == id
+        self.has_id(carrier, id)
             && question.name == *name
             && question.qtype == qtype
             && question.qclass == qclass
     }
 
-    /// Whether the question was asked with this ID last.
-    pub(crate) fn has_id(&self, id: u16) -> bool
-        ensures { result ≡ has_id id self.now }
+    /// Whether the question was asked by this carrier and with this ID last.
+    pub(crate) fn has_id(&self, carrier: Carrier, id: u16) -> bool
+        ensures { result ≡ has_id carrier id self.now }
     {
-        self.taken && self.id == id
+        self.taken && self.by == carrier && self.id == id
+    }
+
+    /// Whether a question waits that wasn't asked by a stream.
+    pub(crate) fn may_ask_by_stream(&self) -> bool
+        ensures { result ≡ may_ask_by_stream self.now }
+    {
+        self.taken && self.by == Carrier::Datagram
     }
 
     /// Whether a question has waited for 4.5 seconds.
@@ -134,8 +168,15 @@ impl Held {
         ensures { result ≡ is_due_in now self.now }
     {
         self.taken
-            && self.times < ASKINGS
+            && self.may_ask_again()
             && has_passed(self.last, STEP * u64::from(self.times), now)
+    }
+
+    // Whether the question was asked by datagrams alone, and fewer than three times.
+    fn may_ask_again(&self) -> bool
+        ensures { IfSome self.now (λ waiting. result ≡ may_ask_again waiting) }
+    {
+        self.by == Carrier::Datagram && self.times < ASKINGS
     }
 
     /// Before that moment a tick does nothing to the question.
@@ -143,7 +184,7 @@ impl Held {
         ensures { IfSome self.now (Rests result) }
     {
         let late = self.since.saturating_add(PATIENCE);
-        if self.times < ASKINGS {
+        if self.may_ask_again() {
             late.min(self.last.saturating_add(STEP * u64::from(self.times)))
         } else {
             late
@@ -165,6 +206,7 @@ impl Held {
         if i == 0 {
             Client {
                 number: self.asker.number,
+                carrier: self.asker.carrier,
                 question: same_question(&self.asker.question),
             }
         } else {
@@ -195,6 +237,7 @@ fn nobody() -> Client {
     };
     Client {
         number: 0,
+        carrier: Carrier::Datagram,
         question,
     }
 }

@@ -18,6 +18,9 @@ mod place;
 mod waiting_table;
 
 pub use client::Client;
-pub use laws::{asked_once, never_for_long, once};
+pub use laws::{
+    a_question_waits_by_these_times, asked_by_stream_once, asked_once, never_for_long, once,
+    waits_from_its_coming,
+};
 pub use place::Place;
 pub use waiting_table::{ASKINGS, CLIENTS, PATIENCE, SLOTS, STEP, WaitingTable};

@@ -2,13 +2,14 @@
 ghost use Rattle.std.specs.Prelude.{◌≡◌, ◌<◌, ◌≤◌, ℕ, None, Some, length, set, true, slice_index_or, IfOk, IfSome, is_none};
 ghost use Rattle.std.specs.List.{position};
 ghost use Rattle.waiting_table.specs.Index.{mark_of};
-ghost use Rattle.waiting_table.specs.Waiting.{client_of, clients_in, empty_table, first_asked, fits, has_id, slot_at, takes, with_client};
+ghost use Rattle.waiting_table.specs.Waiting.{asked_by_stream, client_of, clients_in, empty_table, first_asked, fits, has_id, may_ask_by_stream, slot_at, takes, with_client};
 ghost use Rattle.waiting_table.specs.Steps.{again_in, freed, is_due_in, is_late_in, is_quiet, oldest, place_for, place_slot, placed};
 
 use crate::held::Held;
 use crate::index::Index;
 use crate::mark::mark_of;
 use crate::{Client, Place};
+use arrivals::Carrier;
 use dname::{Name, OutOfMemory};
 use dnswire::Question;
 use std::alloc::Global;
@@ -20,7 +21,7 @@ pub const SLOTS: usize = 256;
 /// How many clients can wait for one answer.
 pub const CLIENTS: usize = 16;
 
-/// How often a question is asked at most.
+/// How often a question is asked by a datagram at most.
 pub const ASKINGS: u8 = 3;
 
 /// How long a question waits, in milliseconds.
@@ -124,37 +125,53 @@ impl WaitingTable {
         self.index.oldest()
     }
 
-    /// The client waits there from now on, in milliseconds. Where its question is asked anew, it is with this ID.
-    pub fn enter(&mut self, place: Place, client: u64, question: &Question, id: u16, now: u64)
+    /// The client waits there from now on, in milliseconds. Where its question is asked anew, it is by a datagram with this ID.
+    pub fn enter(
+        &mut self,
+        place: Place,
+        client: u64,
+        carrier: Carrier,
+        question: &Question,
+        id: u16,
+        now: u64,
+    )
         requires place { place ≡ place_for question.now self.old }
         requires within { place_slot place < SLOTS }
         ensures { self.new
-            ≡ placed now id (client_of client question.now) self.old place }
+            ≡ placed now id (client_of client carrier question.now) self.old place }
     {
         match place {
-            Place::Joins { slot } => self.join(slot, client, question),
+            Place::Joins { slot } => self.join(slot, client, carrier, question),
             Place::Fills { slot } | Place::Replaces { slot } => {
-                self.fill(slot, client, question, id, now);
+                self.fill(slot, client, carrier, question, id, now);
             }
         }
     }
 
-    fn join(&mut self, slot: usize, client: u64, question: &Question)
+    fn join(&mut self, slot: usize, client: u64, carrier: Carrier, question: &Question)
         requires within { slot < SLOTS }
         requires takes { takes question.now (slot_at self.old slot) ≡ true }
         ensures { self.new ≡ set self.old slot
-            (with_client (client_of client question.now) (slot_at self.old slot)) }
+            (with_client (client_of client carrier question.now) (slot_at self.old slot)) }
     {
-        self.held[slot].join(client, question);
+        self.held[slot].join(client, carrier, question);
     }
 
-    fn fill(&mut self, slot: usize, client: u64, question: &Question, id: u16, now: u64)
+    fn fill(
+        &mut self,
+        slot: usize,
+        client: u64,
+        carrier: Carrier,
+        question: &Question,
+        id: u16,
+        now: u64,
+    )
         requires { slot < SLOTS }
-        ensures { self.new
-            ≡ set self.old slot (Some (first_asked now id (client_of client question.now))) }
+        ensures { self.new ≡ set self.old slot
+            (Some (first_asked now id (client_of client carrier question.now))) }
     {
         let held = &mut self.held[slot];
-        held.fill(client, question, id, now);
+        held.fill(client, carrier, question, id, now);
         let until = held.until();
         self.index.fill(slot, mark_of(question), now, until);
     }
@@ -168,7 +185,7 @@ impl WaitingTable {
         self.index.taken[slot] = false;
     }
 
-    /// The slot's question was asked again, with another ID.
+    /// The slot's question was asked again, by a datagram with another ID.
     pub fn ask_again(&mut self, slot: usize, id: u16, now: u64)
         requires within { slot < SLOTS }
         requires due { is_due_in now (slot_at self.old slot) ≡ true }
@@ -176,6 +193,17 @@ impl WaitingTable {
     {
         let held = &mut self.held[slot];
         held.ask_again(id, now);
+        self.index.until[slot] = held.until();
+    }
+
+    /// The slot's question was asked again, by a stream with another ID.
+    pub fn ask_by_stream(&mut self, slot: usize, id: u16)
+        requires within { slot < SLOTS }
+        requires open { may_ask_by_stream (slot_at self.old slot) ≡ true }
+        ensures { self.new ≡ set self.old slot (asked_by_stream id (slot_at self.old slot)) }
+    {
+        let held = &mut self.held[slot];
+        held.ask_by_stream(id);
         self.index.until[slot] = held.until();
     }
 
@@ -211,20 +239,36 @@ impl WaitingTable {
         self.held[slot].is_due(now)
     }
 
-    /// Whether an answer with this ID and question is one to the slot's question.
-    pub fn fits(&self, slot: usize, id: u16, name: &Name, qtype: u16, qclass: u16) -> bool
+    /// Whether the slot's question may be asked by a stream: one waits, and it was asked by datagrams alone.
+    pub fn may_ask_by_stream(&self, slot: usize) -> bool
         requires { slot < SLOTS }
-        ensures { result ≡ fits id name.now qtype qclass (slot_at self.now slot) }
+        ensures { result ≡ may_ask_by_stream (slot_at self.now slot) }
     {
-        self.held[slot].fits(id, name, qtype, qclass)
+        self.held[slot].may_ask_by_stream()
     }
 
-    /// Whether the slot's question was asked with this ID last.
-    pub fn has_id(&self, slot: usize, id: u16) -> bool
+    /// Whether an answer that came by this carrier, with this ID and question, is one to the slot's question.
+    pub fn fits(
+        &self,
+        slot: usize,
+        carrier: Carrier,
+        id: u16,
+        name: &Name,
+        qtype: u16,
+        qclass: u16,
+    ) -> bool
         requires { slot < SLOTS }
-        ensures { result ≡ has_id id (slot_at self.now slot) }
+        ensures { result ≡ fits carrier id name.now qtype qclass (slot_at self.now slot) }
     {
-        self.held[slot].has_id(id)
+        self.held[slot].fits(carrier, id, name, qtype, qclass)
+    }
+
+    /// Whether the slot's question was asked by this carrier and with this ID last.
+    pub fn has_id(&self, slot: usize, carrier: Carrier, id: u16) -> bool
+        requires { slot < SLOTS }
+        ensures { result ≡ has_id carrier id (slot_at self.now slot) }
+    {
+        self.held[slot].has_id(carrier, id)
     }
 
     /// How many clients want the answer to the slot's question.

@@ -1,8 +1,9 @@
 //! Where questions wait, and what answers them.
 use crate::questions::{
-    OTHER_CHECKING, OTHER_CLASS, OTHER_LETTERS, OTHER_NAME, OTHER_TYPE, QUERY, ask, numbered,
-    question,
+    OTHER_CHECKING, OTHER_CLASS, OTHER_LETTERS, OTHER_NAME, OTHER_TYPE, QUERY, ask, ask_by,
+    numbered, question,
 };
+use arrivals::Carrier;
 use dname::Name;
 use dnswire::Question;
 use std::alloc::Global;
@@ -70,33 +71,52 @@ fn seventeen_equal_questions_are_asked_twice(rt: HostRuntime) -> Result<(), Fail
     Ok(())
 }
 
-// Each client's own number, ID and letters come back, the first one's and those of who joined.
+// The queries of three clients, which are one question, and by what each comes.
+const ASKERS: [(u64, Carrier, &[u8]); 3] = [
+    (8, Carrier::Stream, QUERY),
+    (9, Carrier::Datagram, OTHER_LETTERS),
+    (10, Carrier::Stream, OTHER_LETTERS),
+];
+
+fn all_ask(table: &mut WaitingTable) -> Result<(), Fail> {
+    for (number, carrier, query) in ASKERS {
+        ask_by(table, carrier, number, &question(query)?, 7, 1000);
+    }
+    Ok(())
+}
+
+// Each client's own number, carrier, ID and letters come back, the first one's and those of who joined.
 #[test]
 fn each_client_keeps_its_own_question(rt: HostRuntime) -> Result<(), Fail> {
     let mut table = WaitingTable::new(rt.alloc())?;
-    ask(&mut table, 8, &question(QUERY)?, 7, 1000);
-    ask(&mut table, 9, &question(OTHER_LETTERS)?, 7, 1000);
+    all_ask(&mut table)?;
     let wrong = first_changed(&table)?;
     assert!(rt; wrong.is_none(), "{wrong:?}");
     Ok(())
 }
 
 fn first_changed(table: &WaitingTable) -> Result<Option<usize>, Fail> {
-    let wanted = [(8, question(QUERY)?), (9, question(OTHER_LETTERS)?)];
-    for (i, (number, question)) in wanted.iter().enumerate() {
-        if i >= table.clients(0) || !is_client(table, i, *number, question) {
+    for (i, (number, carrier, query)) in ASKERS.iter().enumerate() {
+        if !is_client(table, i, *number, *carrier, &question(query)?) {
             return Ok(Some(i));
         }
     }
     Ok(None)
 }
 
-fn is_client(table: &WaitingTable, i: usize, number: u64, question: &Question) -> bool {
+fn is_client(
+    table: &WaitingTable,
+    i: usize,
+    number: u64,
+    carrier: Carrier,
+    question: &Question,
+) -> bool {
     if i >= table.clients(0) {
         return false;
     }
     let client = table.client(0, i);
     client.number == number
+        && client.carrier == carrier
         && client.question.id == question.id
         && client.question.rd == question.rd
         && client.question.asked.as_slice() == question.asked.as_slice()
@@ -139,6 +159,7 @@ fn a_full_table_gives_up_the_oldest(rt: HostRuntime) -> Result<(), Fail> {
 #[derive(Clone, Copy, Debug, Drop)]
 struct Answer {
     slot: usize,
+    carrier: Carrier,
     id: u16,
     name: &'static [u8],
     qtype: u16,
@@ -150,6 +171,7 @@ const NAME: &[u8] = b"\x01A\x07EXAMPLE\x00";
 
 const FITTING: Answer = Answer {
     slot: 3,
+    carrier: Carrier::Datagram,
     id: 7,
     name: NAME,
     qtype: 16,
@@ -158,13 +180,18 @@ const FITTING: Answer = Answer {
 };
 
 // The answer that fits, and others that don't.
-fn answers() -> [Answer; 6] {
+fn answers() -> [Answer; 7] {
     let fits = false;
     [
         FITTING,
         // Another question waits there.
         Answer {
             slot: 2,
+            fits,
+            ..FITTING
+        },
+        Answer {
+            carrier: Carrier::Stream,
             fits,
             ..FITTING
         },
@@ -204,19 +231,26 @@ fn one_waits(alloc: Global) -> Result<WaitingTable, Fail> {
 fn first_misjudged(table: &WaitingTable) -> Result<Option<Answer>, Fail> {
     for row in answers() {
         let (name, _) = Name::read(row.name)?;
-        if row.slot > 3 || table.fits(row.slot, row.id, &name, row.qtype, row.qclass) != row.fits {
+        if fits(table, row, &name) != row.fits {
             return Ok(Some(row));
         }
     }
     Ok(None)
 }
 
+fn fits(table: &WaitingTable, row: Answer, name: &Name) -> bool {
+    if row.slot > 3 {
+        return !row.fits;
+    }
+    table.fits(row.slot, row.carrier, row.id, name, row.qtype, row.qclass)
+}
+
 #[test]
-fn an_answer_fits_by_slot_id_name_type_and_class(rt: HostRuntime) -> Result<(), Fail> {
+fn an_answer_fits_by_slot_carrier_id_name_type_and_class(rt: HostRuntime) -> Result<(), Fail> {
     let mut table = one_waits(rt.alloc())?;
     let wrong = first_misjudged(&table)?;
     assert!(rt; wrong.is_none(), "{wrong:?}");
     table.free(3);
-    assert!(rt; !table.has_id(3, 7) && table.clients(3) == 0);
+    assert!(rt; !table.has_id(3, Carrier::Datagram, 7) && table.clients(3) == 0);
     Ok(())
 }

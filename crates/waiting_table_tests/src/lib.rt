@@ -6,4 +6,6 @@ mod asked;
 #[cfg(test)]
 mod questions;
 #[cfg(test)]
+mod streamed;
+#[cfg(test)]
 mod ticked;

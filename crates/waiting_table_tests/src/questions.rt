@@ -3,6 +3,7 @@ ghost use Rattle.std.specs.Prelude.{◌<◌};
 ghost use Rattle.waiting_table.specs.Steps.{place_slot};
 ghost use Rattle.waiting_table.specs.declared.waiting_table.TheConstants.{SLOTS};
 
+use arrivals::Carrier;
 use dnswire::{QueryRead, Question, read_query};
 use std::test::Fail;
 use waiting_table::{Place, WaitingTable};
@@ -40,7 +41,7 @@ pub(crate) fn numbered(number: u8) -> Result<Question, Fail> {
     question(&[0x12, 0x34, 1, 0, 0, 1, 0, 0, 0, 0, 0, 0, 0, 1, number, 0, 1])
 }
 
-/// The client asks, and waits there.
+/// The client asks by a datagram, and waits there.
 pub(crate) fn ask(
     table: &mut WaitingTable,
     client: u64,
@@ -50,7 +51,21 @@ pub(crate) fn ask(
 ) -> Place
     ensures { place_slot result < SLOTS }
 {
+    ask_by(table, Carrier::Datagram, client, question, id, now)
+}
+
+/// The client asks by the carrier, and waits there.
+pub(crate) fn ask_by(
+    table: &mut WaitingTable,
+    carrier: Carrier,
+    client: u64,
+    question: &Question,
+    id: u16,
+    now: u64,
+) -> Place
+    ensures { place_slot result < SLOTS }
+{
     let place = table.place_for(question);
-    table.enter(place, client, question, id, now);
+    table.enter(place, client, carrier, question, id, now);
     place
 }

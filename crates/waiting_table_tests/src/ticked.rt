@@ -1,5 +1,6 @@
 //! What a tick finds due.
 use crate::questions::{QUERY, ask, question};
+use arrivals::Carrier;
 use std::test::Fail;
 use waiting_table::{SLOTS, WaitingTable};
 
@@ -41,7 +42,8 @@ fn a_question_is_asked_three_times_and_is_late_after_four_and_a_half_seconds(
     ask(&mut table, 1, &question(QUERY)?, 7, 10_000);
     let wrong = first_wrong(&mut table);
     assert!(rt; wrong.is_none(), "{wrong:?}");
-    assert!(rt; !table.has_id(0, 7) && table.has_id(0, 8));
+    let by = Carrier::Datagram;
+    assert!(rt; !table.has_id(0, by, 7) && table.has_id(0, by, 8));
     Ok(())
 }
 
