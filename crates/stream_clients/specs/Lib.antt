@@ -1,0 +1,7 @@
+pub mod Number
+pub mod Connection
+pub mod Places
+pub mod Steps
+pub mod Laws
+pub mod Idle
+pub mod Replies
