@@ -7,5 +7,5 @@ use Rattle.forward_sockets.specs.declared.open_fault.OpenFault.TheVariants.{Poll
 -- where an address is at fault, it is one of these
 abbrev pub IsFaultOf : List SocketAddr → OpenFault → Type 0
 IsFaultOf addresses (Poll cause) = Unit {0}
-IsFaultOf addresses (Address address cause) = Contains addresses address
+IsFaultOf addresses (Address address carrier cause) = Contains addresses address
 IsFaultOf addresses OutOfMemory = Unit {0}

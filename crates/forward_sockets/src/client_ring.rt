@@ -1,5 +1,5 @@
 //! Where replies go.
-ghost use Rattle.std.specs.Prelude.{◌≡◌, ◌≢◌, ℕ, ◌%◌, ◌<◌, ◌≤◌, None, Some, IsSome, IfOk};
+ghost use Rattle.std.specs.Prelude.{◌≡◌, ◌≢◌, ℕ, ◌%◌, ◌^◌, ◌<◌, ◌≤◌, None, Some, IsSome, IfOk};
 ghost use Rattle.forward_sockets.specs.ClientRing.{IsFreeAt, client_at};
 
 use outside_core::OutOfMemory;
@@ -9,6 +9,9 @@ use std::net::SocketAddr;
 
 /// As many clients as can wait at once, 16 for each of 256 slots, and 1,024 more.
 const PLACES: usize = 5120;
+
+// From this number on the numbers of a place begin anew.
+const LAST: u64 = (1 << 63) - PLACES as u64;
 
 /// Where a client's reply goes.
 #[derive(Clone, Copy, Debug, PartialEq, Eq)]
@@ -64,6 +67,9 @@ impl ClientRing {
     pub(crate) fn enter(&mut self, client: ClientAddress) -> u64
         ensures named { client_at self.new result ≡ Some client }
         ensures somebody { 1 ≤ result }
+
+        // The highest bit tells the numbers of clients with streams.
+        ensures low { result < 2 ^ 63 }
         ensures none_else { (other : ℕ) → other ≢ result → IsSome (client_at self.new other)
             → client_at self.new other ≡ client_at self.old other }
         ensures kept { (other at : ℕ) → other ≢ result
@@ -112,13 +118,16 @@ impl ClientRing {
     }
 }
 
-// The next number of a place. Those of 64 bits last longer than any machine.
+// The next number of a place. Those of 63 bits last longer than any machine.
 fn number_after(number: u64) -> u64
     ensures place { result % PLACES ≡ number % PLACES }
     ensures somebody { 1 ≤ result }
+    ensures low { result < 2 ^ 63 }
 {
-    match number.checked_add(PLACES as u64) {
-        Some(next) => next,
-        None => number % PLACES as u64 + PLACES as u64,
+    let place = number % PLACES as u64;
+    if number < LAST {
+        number + PLACES as u64
+    } else {
+        place + PLACES as u64
     }
 }

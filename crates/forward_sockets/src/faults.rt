@@ -39,13 +39,22 @@ impl Fault {
         }
     }
 
-    fn add(&mut self, cause: io::Error) {
+    pub(crate) fn add(&mut self, cause: io::Error) {
+        self.add_coded(cause.raw_os_error());
+    }
+
+    /// Counts what failed before any call of the system.
+    pub(crate) fn add_own(&mut self) {
+        self.add_coded(None);
+    }
+
+    fn add_coded(&mut self, code: Option<i32>) {
         self.count = self.count.saturating_add(1);
-        self.last = cause.raw_os_error();
+        self.last = code;
     }
 }
 
-/// The calls of a worker's sockets that failed. Each cost its datagram, and ended nothing.
+/// The calls of a worker's sockets that failed. Each cost its datagram or its stream, and ended nothing else.
 #[derive(Clone, Copy, Debug, PartialEq, Eq)]
 pub struct Faults {
     /// To wait until a socket has something.
@@ -54,7 +63,8 @@ pub struct Faults {
     pub query: Fault,
     /// To receive from the upstream. Here the system tells that nobody listens at the upstream's address.
     pub answer: Fault,
-    /// To send to a client. Its port may be 0, its network out of reach, or the reply too long.
+    /// To send to a client. Its port may be 0, its network out of reach, or the reply too long. Here too a reply is counted that no
+    /// client waits for.
     pub reply: Fault,
     /// To make a socket for an asking.
     pub socket: Fault,
@@ -66,8 +76,15 @@ pub struct Faults {
     pub watch: Fault,
     /// To send the question.
     pub send: Fault,
-    /// Replies that no client waits for, up to 2^64 - 1.
-    pub unwanted: u64,
+    /// To accept a client's connection. Here too one is counted that was closed at once, as 32 others were open.
+    pub accept: Fault,
+    /// To connect a stream to the upstream.
+    pub stream_connect: Fault,
+    /// To read a stream, a client's or one to the upstream. Here too a stream is counted that the upstream ends without an answer, one in
+    /// which a length comes that no message has, or a query more than may wait, and one for whose octets there is no memory.
+    pub stream_read: Fault,
+    /// To write a stream, a client's or one to the upstream. Here too one is counted for whose octets there is no memory.
+    pub stream_write: Fault,
 }
 
 impl Faults {
@@ -81,6 +98,9 @@ impl Faults {
         connect: Fault::NONE,
         watch: Fault::NONE,
         send: Fault::NONE,
-        unwanted: 0,
+        accept: Fault::NONE,
+        stream_connect: Fault::NONE,
+        stream_read: Fault::NONE,
+        stream_write: Fault::NONE,
     };
 }

@@ -1,25 +1,28 @@
-//! The sockets of one worker of a forwarder, on the machine's own network: those at which clients ask, and one for each asking of
-//! the upstream. Trusted, as no clause says what is on the wire.
+//! The sockets of one worker of a forwarder, on the machine's own network: those at which clients ask, by datagrams and by streams, and
+//! one for each asking of the upstream. Trusted, as no clause says what is on the wire.
 #![tactic(auto)]
 
 mod address;
-mod arrival;
+mod asked_stream;
 mod askings;
 mod client_ring;
+mod connection;
 mod faults;
+mod heard;
 mod listeners;
-mod moment;
+mod moments;
 mod open_fault;
 mod opening;
+mod queries;
 mod random_ids;
 mod ready;
 mod sending;
 mod sockets;
+mod streaming;
+mod streams;
 
-pub use arrival::{Arrival, Came};
 pub use faults::{Fault, Faults};
 pub use listeners::MAX_LISTENERS;
-pub use moment::Moment;
 pub use open_fault::OpenFault;
 pub use random_ids::RandomIds;
 pub use sockets::Sockets;

@@ -1,12 +1,15 @@
 //! The sockets at which clients ask.
-ghost use Rattle.std.specs.Prelude.{◌<◌, ◌≤◌, length, IfErr, IfSome};
+ghost use Rattle.std.specs.Prelude.{◌<◌, ◌≤◌, length, IfErr};
 ghost use Rattle.forward_sockets.specs.OpenFault.{IsFaultOf};
 
 use crate::client_ring::{ClientAddress, ClientRing};
+use crate::heard::put;
 use crate::opening::open_shared;
+use crate::queries::{NOBODY, has_reply};
 use crate::ready::Ready;
 use crate::sending::sent;
 use crate::{Faults, OpenFault};
+use arrivals::{Carrier, MessageOctets};
 use mio::net::UdpSocket;
 use mio::{Interest, Poll, Token};
 use outside_core::MAX_DATAGRAM;
@@ -22,9 +25,6 @@ pub(crate) const FIRST_LISTENER: usize = 256;
 
 /// At how many addresses a worker can listen.
 pub const MAX_LISTENERS: usize = 8;
-
-// The number of what may have no reply.
-const NOBODY: u64 = 0;
 
 /// The listeners, with the clients that have no reply yet.
 #[derive(Drop)]
@@ -49,7 +49,14 @@ impl Listeners {
             let address = addresses[number];
             match open_watched(poll, number, address) {
                 Ok(socket) => sockets.push(socket)?,
-                Err(cause) => return Err(OpenFault::Address { address, cause }),
+                Err(cause) => {
+                    let carrier = Carrier::Datagram;
+                    return Err(OpenFault::Address {
+                        address,
+                        carrier,
+                        cause,
+                    });
+                }
             }
         }
         Ok(Listeners {
@@ -59,22 +66,22 @@ impl Listeners {
         })
     }
 
-    /// The next query, if the listener whose turn it is has one: the number of its client, and how many octets of the buffer it
-    /// has. A listener that may have more has a further turn.
+    /// What the listener whose turn it is has, where that is a query: the number of its client. Its octets are put into `into`. A
+    /// listener that may have more has a further turn.
     pub(crate) fn receive(
         &mut self,
         buffer: &mut [u8; MAX_DATAGRAM],
+        into: &mut MessageOctets,
         faults: &mut Faults,
-    ) -> Option<(u64, usize)>
-        ensures { IfSome result (λ query. query.1 ≤ 4096) }
-    {
+    ) -> Option<u64> {
         let listener = self.ready.take()?;
         let socket = self.sockets.get(usize::from(listener))?;
         match socket.recv_from(buffer) {
             Ok((count, address)) => {
                 self.ready.add(listener);
+                put(into, &buffer[..count]);
                 let client = ClientAddress { listener, address };
-                Some((self.number_of(client, &buffer[..count]), count))
+                Some(self.number_of(client, &buffer[..count]))
             }
             Err(cause) => {
                 if faults.query.note_receipt(cause) {
@@ -85,19 +92,19 @@ impl Listeners {
         }
     }
 
-    // The number of a client that sent this. A datagram that is shorter than a header, or a response, gets no reply (RFC 1035,
-    // section 4.1.1), and takes no client's place.
+    // The number of a client that sent this. What gets no reply takes no client's place.
     fn number_of(&mut self, client: ClientAddress, octets: &[u8]) -> u64 {
-        if octets.len() < 12 || octets[2] >= 0x80 {
-            return NOBODY;
+        if has_reply(octets) {
+            self.clients.enter(client)
+        } else {
+            NOBODY
         }
-        self.clients.enter(client)
     }
 
     /// Sends the client its reply, from the socket at which it asked. It has no other from then on.
     pub(crate) fn reply(&mut self, client: u64, octets: &[u8], faults: &mut Faults) {
         let Some(client) = self.clients.leave(client) else {
-            faults.unwanted = faults.unwanted.saturating_add(1);
+            faults.reply.add_own();
             return;
         };
         if let Some(socket) = self.sockets.get(usize::from(client.listener)) {

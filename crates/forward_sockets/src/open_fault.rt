@@ -1,5 +1,6 @@
 ghost use Rattle.std.specs.Prelude.{◌≡◌};
 
+use arrivals::Carrier;
 use std::alloc::{AllocError, AllocFailed};
 use std::io;
 use std::net::SocketAddr;
@@ -9,9 +10,10 @@ use std::net::SocketAddr;
 pub enum OpenFault {
     /// The system has no means to wait for them.
     Poll(io::Error),
-    /// One can't be had, bound or watched at this address.
+    /// One can't be had, bound or watched at this address, for datagrams or for streams.
     Address {
         address: SocketAddr,
+        carrier: Carrier,
         cause: io::Error,
     },
     OutOfMemory,

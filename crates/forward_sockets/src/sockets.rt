@@ -1,16 +1,22 @@
 //! All sockets of one worker.
 ghost use Rattle.std.specs.Prelude.{◌≤◌, length, IfErr};
+ghost use Rattle.arrivals.specs.declared.event.TheConstants.{MAX_MESSAGE};
 ghost use Rattle.forward_sockets.specs.OpenFault.{IsFaultOf};
 
 use crate::askings::Askings;
+use crate::connection::STREAM;
 use crate::listeners::{FIRST_LISTENER, Listeners};
-use crate::{Arrival, Came, Faults, MAX_LISTENERS, Moment, OpenFault};
+use crate::moments::{START, go_on};
+use crate::streams::{FIRST_STREAM, Streams};
+use crate::{Faults, MAX_LISTENERS, OpenFault};
+use arrivals::{Came, Carrier, Event, MessageOctets, Moment};
 use mio::{Events, Poll};
-use outside_core::{DatagramOctets, MAX_DATAGRAM};
+use outside_core::MAX_DATAGRAM;
 use std::alloc::Global;
 use std::net::{Net, SocketAddr};
 use std::thread;
 use std::time::{Clock, Duration};
+use stream_clients::PLACES;
 
 // A tick comes so many milliseconds after the last one.
 const TICK: u64 = 250;
@@ -23,18 +29,22 @@ const QUERIES: u32 = 16;
 // How many tries a receipt has, each of which may find nothing.
 const TRIES: u32 = 1024;
 
-/// The sockets of one worker: a listener at each address at which clients ask, and one socket at most for each of 256 slots, over
-/// which the upstream was asked last. At most 265 files are open: these, and the one by which the system tells what has come. Only
-/// `bind` takes memory.
+/// The sockets of one worker: two listeners at each address at which clients ask, one for datagrams and one for streams; at most 32
+/// connections of clients; and one socket at most for each of 256 slots, over which the upstream was asked last. At most 306 files are
+/// open: these, the one by which the system tells what has come, and a connection that is closed at once. What streams carry takes memory
+/// after `bind`, at most 140,000 octets for each, and want of it closes that stream.
 #[derive(Drop)]
 pub struct Sockets {
     poll: Poll,
     events: Events,
     listeners: Listeners,
+    streams: Streams,
     askings: Askings,
     // How many tries of both are left until both have their turns again.
     answers: u32,
     queries: u32,
+    // Whether the next query is a stream's, where both have some.
+    stream_is_next: bool,
     buffer: [u8; MAX_DATAGRAM],
     moment: Moment,
     // When the next tick is due, and whether it is.
@@ -44,8 +54,8 @@ pub struct Sockets {
 }
 
 impl Sockets {
-    /// Listens at each address, where other sockets of the same user may listen too: the system deals clients out among them by
-    /// their addresses and ports. An IPv6 address has no clients of IPv4. The upstream isn't asked yet.
+    /// Listens at each address for datagrams and for streams, where other sockets of the same user may listen too: the system deals
+    /// clients out among them by their addresses and ports. An IPv6 address has no clients of IPv4. The upstream isn't asked yet.
     pub fn bind<N: Net>(
         net: &N,
         alloc: Global,
@@ -57,111 +67,121 @@ impl Sockets {
     {
         let poll = Poll::new(net).map_err(OpenFault::Poll)?;
         let listeners = Listeners::bind(alloc, &poll, addresses)?;
+        let streams = Streams::bind(alloc, &poll, addresses)?;
+        let sources = FIRST_STREAM + MAX_LISTENERS + PLACES;
         Ok(Sockets {
             poll,
-            events: Events::with_capacity(alloc, FIRST_LISTENER + addresses.len())?,
+            events: Events::with_capacity(alloc, sources)?,
             listeners,
+            streams,
             askings: Askings::new(alloc, upstream)?,
             answers: 0,
             queries: 0,
+            stream_is_next: false,
             buffer: [0; MAX_DATAGRAM],
-            moment: Moment::START,
+            moment: START,
             next_tick: 0,
             tick_is_due: false,
             faults: Faults::NONE,
         })
     }
 
-    /// Waits for what comes next, and puts its octets into `into`. A tick is due the first time, where a quarter of a second has gone
-    /// by since the last one, and after a signal. Answers that lie at the slots' sockets come before it, 256 at most once it is due,
-    /// and queries after it. Else answers come before queries too: at most 16 queries come between two looks at the slots' sockets,
-    /// and in between what these are told to have. Of a datagram of more than 4,096 octets the rest is lost.
+    /// Waits for what comes next, and puts it into `into`. A tick is due the first time, where a quarter of a second has gone by since
+    /// the last one, and after a signal. Answers that lie at the slots' sockets come before it, 256 at most once it is due, and queries
+    /// after it. Else answers come before queries too: at most 16 queries come between two looks at the slots' sockets, and in between what
+    /// these are told to have. Datagrams and streams have their turns among the queries, and so have connections. Of a datagram of more than
+    /// 4,096 octets the rest is lost.
     ///
-    /// A failed call is counted as a fault, and ends nothing. A clock that fails stands still.
-    pub fn receive<C: Clock>(&mut self, clock: &C, into: &mut DatagramOctets) -> Arrival {
-        self.go_on(clock);
+    /// The moment of what comes is that of the last look at all sockets. A failed call is counted as a fault, and ends nothing but the
+    /// stream where it failed. A clock that fails stands still.
+    pub fn receive<C: Clock>(&mut self, clock: &C, into: &mut Event) {
         for _ in 0..TRIES {
-            if let Some(came) = self.try_once(clock, into) {
-                return self.arrival(came);
+            if let Some(came) = self.try_once(clock, &mut into.octets) {
+                self.arrive(came, into);
+                return;
             }
         }
-        self.arrival(Came::Tick)
-    }
-
-    // Goes on to what the clock says. The thread may have been held up since the last look, so a tick that is due wants another.
-    fn go_on<C: Clock>(&mut self, clock: &C) {
-        self.moment.go_on(clock);
-        if self.moment.millis >= self.next_tick {
-            self.make_due(clock);
-        }
-    }
-
-    // Has a tick come once the answers that are there now have come.
-    fn make_due<C: Clock>(&mut self, clock: &C) {
-        if !self.tick_is_due {
-            self.tick_is_due = true;
-            self.answers = ANSWERS;
-        }
-        let _told = self.look(clock, 0);
+        self.arrive(Came::Tick, into);
     }
 
     // What came, now.
-    fn arrival(&mut self, came: Came) -> Arrival {
+    fn arrive(&mut self, came: Came, into: &mut Event) {
         if came == Came::Tick {
             self.tick_is_due = false;
             self.next_tick = self.moment.millis.saturating_add(TICK);
+            self.streams.tick(self.moment.millis);
+            self.askings.tick(self.moment.millis);
         }
-        Arrival {
-            moment: self.moment,
-            came,
-        }
+        into.moment = self.moment;
+        into.came = came;
     }
 
     // Reads one socket that may have something, or, where none has or each had its turn, looks at all. A tick that is due comes
     // between the answers and the queries.
-    fn try_once<C: Clock>(&mut self, clock: &C, into: &mut DatagramOctets) -> Option<Came> {
+    fn try_once<C: Clock>(&mut self, clock: &C, into: &mut MessageOctets) -> Option<Came> {
         if self.answers > 0 && !self.askings.ready.is_empty() {
             self.answers -= 1;
-            return self.try_answer(into);
+            return self
+                .askings
+                .receive(&mut self.buffer, into, &mut self.faults);
         }
         if self.tick_is_due {
             return Some(Came::Tick);
         }
-        if self.queries > 0 && !self.listeners.ready.is_empty() {
+        if self.queries > 0 && self.may_have_queries() {
             self.queries -= 1;
             return self.try_query(into);
         }
-        self.answers = ANSWERS;
-        self.queries = QUERIES;
-        if self.askings.ready.is_empty() && self.listeners.ready.is_empty() {
-            self.wait(clock);
-        } else {
-            let _told = self.look(clock, 0);
-        }
+        self.look_around(clock);
         None
     }
 
-    fn try_answer(&mut self, into: &mut DatagramOctets) -> Option<Came> {
-        let (slot, count) = self.askings.receive(&mut self.buffer, &mut self.faults)?;
-        *into = DatagramOctets::of(&self.buffer[..count]);
-        Some(Came::Answer { slot })
-    }
-
-    fn try_query(&mut self, into: &mut DatagramOctets) -> Option<Came> {
-        let (client, count) = self.listeners.receive(&mut self.buffer, &mut self.faults)?;
-        *into = DatagramOctets::of(&self.buffer[..count]);
-        Some(Came::Query { client })
-    }
-
-    // Waits until a socket has something or a tick is due. It is due too where the clock stood still, or a signal came.
-    fn wait<C: Clock>(&mut self, clock: &C) {
+    // Looks at all sockets, and at the clocks. Where none has something, it waits until one has or a tick is due. It is due too where the
+    // clock stood still, or a signal came. The thread may have been held up, so a tick that is due wants a look behind the clocks'.
+    fn look_around<C: Clock>(&mut self, clock: &C) {
+        self.answers = ANSWERS;
+        self.queries = QUERIES;
+        let is_idle = self.askings.ready.is_empty() && !self.may_have_queries();
         let patience = self.next_tick.saturating_sub(self.moment.millis);
-        if self.look(clock, patience) {
-            self.go_on(clock);
-        } else {
-            self.moment.go_on(clock);
-            self.make_due(clock);
+        let is_in_vain = is_idle && !self.look(clock, patience);
+        go_on(&mut self.moment, clock);
+        self.tick_is_due = is_in_vain || self.moment.millis >= self.next_tick;
+        if self.tick_is_due || !is_idle {
+            let _told = self.look(clock, 0);
         }
+    }
+
+    fn may_have_queries(&self) -> bool {
+        !self.listeners.ready.is_empty() || !self.streams.ready.is_empty()
+    }
+
+    // Datagrams and streams have their turns, where both have one.
+    fn try_query(&mut self, into: &mut MessageOctets) -> Option<Came> {
+        let by_stream = self.stream_is_next || self.listeners.ready.is_empty();
+        if by_stream && !self.streams.ready.is_empty() {
+            self.stream_is_next = false;
+            self.try_stream(into)
+        } else {
+            self.stream_is_next = true;
+            self.try_datagram(into)
+        }
+    }
+
+    fn try_datagram(&mut self, into: &mut MessageOctets) -> Option<Came> {
+        let client = self
+            .listeners
+            .receive(&mut self.buffer, into, &mut self.faults)?;
+        let carrier = Carrier::Datagram;
+        Some(Came::Query { client, carrier })
+    }
+
+    fn try_stream(&mut self, into: &mut MessageOctets) -> Option<Came> {
+        let now = self.moment.millis;
+        let client = self
+            .streams
+            .receive(&self.poll, &mut self.buffer, into, now, &mut self.faults)?;
+        let carrier = Carrier::Stream;
+        Some(Came::Query { client, carrier })
     }
 
     // Asks the system which sockets have something. Where none has, or the call fails, it waits for so many milliseconds. Whether
@@ -181,27 +201,36 @@ impl Sockets {
             let token = event.token().0;
             if token < FIRST_LISTENER {
                 self.askings.ready.add(token as u8);
-            } else if token < FIRST_LISTENER + 256 {
+            } else if token < FIRST_STREAM {
                 self.listeners.ready.add((token - FIRST_LISTENER) as u8);
+            } else if token < FIRST_STREAM + 256 {
+                self.streams.ready.add((token - FIRST_STREAM) as u8);
             }
         }
     }
 
-    /// Sends a client its reply, from the address at which it asked. The client's number names nobody from then on. A reply to a
-    /// number that names nobody, or that can't be sent, is dropped, and counted as a fault.
-    pub fn reply(&mut self, client: u64, octets: &[u8]) {
-        self.listeners.reply(client, octets, &mut self.faults);
+    /// Sends a client its reply, from the address at which it asked or over its connection. The number of a client that asked by a
+    /// datagram names nobody from then on. A reply to a number that names nobody, or that can't be sent, is dropped, and counted as a fault.
+    pub fn reply(&mut self, client: u64, octets: &[u8])
+        requires { length octets.now ≤ MAX_MESSAGE }
+    {
+        if client < STREAM {
+            self.listeners.reply(client, octets, &mut self.faults);
+        } else {
+            let now = self.moment.millis;
+            self.streams.reply(client, octets, now, &mut self.faults);
+        }
     }
 
     /// Sends the upstream a question over a new socket at a free port, which is the slot's from then on; the slot's older one is
-    /// closed. Where a call fails, that is counted as a fault, and the slot has no socket.
-    pub fn ask(&mut self, slot: u8, octets: &[u8]) {
-        self.askings.ask(&self.poll, slot, octets, &mut self.faults);
-    }
-
-    /// Closes the slot's socket, if it has one: an answer that comes later finds none.
-    pub fn close(&mut self, slot: u8) {
-        self.askings.close(slot);
+    /// closed. It is closed after five seconds, and a stream before that where its answer has come, it ends or fails. Where a call fails, that is counted as a fault, and the
+    /// slot has no socket.
+    pub fn ask(&mut self, slot: u8, carrier: Carrier, octets: &[u8])
+        requires { length octets.now ≤ MAX_MESSAGE }
+    {
+        let now = self.moment.millis;
+        self.askings
+            .ask(&self.poll, slot, carrier, octets, now, &mut self.faults);
     }
 
     /// The calls that failed so far.

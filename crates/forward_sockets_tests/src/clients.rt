@@ -1,9 +1,9 @@
 //! Clients and their replies.
 use crate::scene::{
-    end, free_port, gets, is_silent, next, next_client, open, query, sends, v4, v6,
+    end, free_port, gets, is_silent, next, next_client, no_event, once, open, query, sends, v4, v6,
 };
-use forward_sockets::{Came, Sockets};
-use outside_core::DatagramOctets;
+use arrivals::Came;
+use forward_sockets::Sockets;
 use std::net::{Net, SocketAddr};
 use std::test::Fail;
 use std::time::Clock;
@@ -50,7 +50,7 @@ fn a_number_names_its_client_until_the_reply(rt: HostRuntime) -> Result<(), Fail
     assert!(rt; gets(&client, address, b"first"));
     client.set_nonblocking(true)?;
     let second = client.recv(&mut [0; 16]);
-    assert!(rt; second.is_err() && sockets.faults().unwanted == 1);
+    assert!(rt; second.is_err() && sockets.faults().reply == once(None));
     Ok(())
 }
 
@@ -93,7 +93,7 @@ fn no_query_has_no_reply(rt: HostRuntime) -> Result<(), Fail> {
     }
     client.set_nonblocking(true)?;
     assert!(rt; client.recv(&mut [0; 16]).is_err());
-    assert!(rt; sockets.faults().unwanted == 4 && sockets.faults().reply.count == 0);
+    assert!(rt; sockets.faults().reply.count == 4);
     Ok(())
 }
 
@@ -124,9 +124,17 @@ fn what_is_too_long_is_cut(rt: HostRuntime) -> Result<(), Fail> {
     let client = end(&rt, address)?;
     let long = Vec::from_elem(rt.alloc(), 0u8, 4097)?;
     assert!(rt; sends(&client, address, &long));
-    let mut into = DatagramOctets::of(b"");
+    let mut into = no_event();
     let came = next(&mut sockets, &rt, &mut into);
-    assert!(rt; matches!(&came, Some(Came::Query { client: _ })) && into.as_slice().len() == 4096);
+    assert!(rt;
+        matches!(
+            &came,
+            Some(Came::Query {
+                client: _,
+                carrier: _
+            })
+        ) && into.octets.as_slice().len() == 4096
+    );
     assert!(rt; is_silent(&mut sockets, &rt, &mut into));
     Ok(())
 }

@@ -2,6 +2,8 @@
 #![tactic(auto)]
 
 #[cfg(test)]
+mod asked_streams;
+#[cfg(test)]
 mod clients;
 #[cfg(test)]
 mod opening;
@@ -13,5 +15,9 @@ mod overdue;
 mod scene;
 #[cfg(test)]
 mod slots;
+#[cfg(test)]
+mod stream_scene;
+#[cfg(test)]
+mod streams;
 #[cfg(test)]
 mod ticks;

@@ -1,34 +1,56 @@
 //! Sockets are opened, alone and several at one address.
-use crate::scene::{end, free_port, open, query, sends, v4, v6};
-use forward_sockets::{Came, Faults, OpenFault, RandomIds, Sockets};
-use outside_core::DatagramOctets;
+use crate::scene::{end, free_port, no_event, open, query, sends, v4, v6};
+use arrivals::{Came, Carrier};
+use forward_sockets::{Faults, OpenFault, RandomIds, Sockets};
 use std::alloc::Global;
 use std::io::ErrorKind;
-use std::net::{Net, SocketAddr};
+use std::net::{Net, OpenListener, SocketAddr};
 use std::test::Fail;
 use std::thread;
 use std::time::Clock;
+
+// Which of two addresses can't be had, and for what.
+fn fault_of<N: Net>(
+    net: &N,
+    alloc: Global,
+    addresses: &[SocketAddr; 2],
+) -> Option<(SocketAddr, Carrier)> {
+    match Sockets::bind(net, alloc, addresses, v4(9)) {
+        Err(
+            OpenFault::Address {
+                address,
+                carrier,
+                cause,
+            },
+        ) if cause.kind() == ErrorKind::AddrInUse => Some((address, carrier)),
+        _ => None,
+    }
+}
 
 #[test]
 fn an_address_that_another_has_is_named(rt: HostRuntime) -> Result<(), Fail> {
     let taken = end(&rt, v6(0))?;
     let addresses = [v4(free_port(&rt)?), taken.local_addr()?];
-    match Sockets::bind(&rt, rt.alloc(), &addresses, v4(9)) {
-        Err(OpenFault::Address { address, cause }) => {
-            assert!(rt; address == addresses[1] && cause.kind() == ErrorKind::AddrInUse);
-            Ok(())
-        }
-        _ => Err(Fail::from("no fault")),
-    }
+    let fault = fault_of(&rt, rt.alloc(), &addresses);
+    assert!(rt;
+        fault == Some((addresses[1], Carrier::Datagram)),
+        "{fault:?}"
+    );
+    let taken = rt.bind(v4(0))?;
+    let addresses = [taken.local_addr()?, v6(free_port(&rt)?)];
+    let fault = fault_of(&rt, rt.alloc(), &addresses);
+    assert!(rt; fault == Some((addresses[0], Carrier::Stream)), "{fault:?}");
+    Ok(())
 }
 
 // How many queries come to a worker's sockets until three ticks come, and which calls failed.
 fn queries_at<C: Clock>(clock: &C, sockets: Sockets) -> (u32, Faults) {
     let mut sockets = sockets;
-    let mut into = DatagramOctets::of(b"");
+    let mut into = no_event();
     let (mut count, mut ticks) = (0u32, 0u32);
     for _ in 0..100 {
-        match sockets.receive(clock, &mut into).came {
+        sockets.receive(clock, &mut into);
+        match into.came {
             Came::Tick => ticks = ticks.saturating_add(1),
             _ => count = count.saturating_add(1),
         }

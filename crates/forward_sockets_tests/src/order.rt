@@ -1,17 +1,22 @@
 //! Answers come before queries.
-use crate::scene::{end, free_port, next, open, query, sender_of, sends, v4};
-use forward_sockets::{Came, Sockets};
-use outside_core::DatagramOctets;
+use crate::scene::{end, free_port, next, no_event, open, query, sender_of, sends, v4};
+use arrivals::{Came, Carrier};
+use forward_sockets::Sockets;
 use std::net::{SocketAddr, UdpSocket};
 use std::test::Fail;
 use std::time::Clock;
 
 // How many queries come before the next answer, of 100 events.
 fn queries_before_an_answer<C: Clock>(sockets: &mut Sockets, clock: &C) -> Option<u32> {
-    let mut into = DatagramOctets::of(b"");
+    let mut into = no_event();
     for count in 0..100u32 {
         match next(sockets, clock, &mut into) {
-            Some(Came::Answer { slot: _ }) => return Some(count),
+            Some(
+                Came::Answer {
+                    slot: _,
+                    carrier: _,
+                },
+            ) => return Some(count),
             Some(_) => {}
             None => return None,
         }
@@ -28,7 +33,8 @@ fn answers_come_before_queries(rt: HostRuntime) -> Result<(), Fail> {
     let (upstream, client) = (end(&rt, v4(0))?, end(&rt, v4(0))?);
     let address = v4(free_port(&rt)?);
     let mut sockets = open(&rt, rt.alloc(), &[address], upstream.local_addr()?)?;
-    sockets.ask(3, b"question");
+    sockets.receive(&rt, &mut no_event());
+    sockets.ask(3, Carrier::Datagram, b"question");
     let Some(here) = sender_of(&upstream, b"question") else {
         return Err(Fail::from("no question"));
     };
@@ -36,7 +42,7 @@ fn answers_come_before_queries(rt: HostRuntime) -> Result<(), Fail> {
     let before = queries_before_an_answer(&mut sockets, &rt);
     assert!(rt; before == Some(0), "{before:?}");
     // One that comes between the queries waits for 16 of them at most.
-    assert!(rt; next(&mut sockets, &rt, &mut DatagramOctets::of(b"")).is_some());
+    assert!(rt; next(&mut sockets, &rt, &mut no_event()).is_some());
     assert!(rt; sends(&upstream, here, b"answer"));
     let before = queries_before_an_answer(&mut sockets, &rt);
     assert!(rt; before.is_some_and(|count| count <= 16), "{before:?}");
@@ -50,10 +56,12 @@ fn listeners_have_their_turns(rt: HostRuntime) -> Result<(), Fail> {
     let addresses = [v4(free_port(&rt)?), v4(free_port(&rt)?)];
     let mut sockets = open(&rt, rt.alloc(), &addresses, v4(9))?;
     assert!(rt; asks_often(&busy, addresses[0], 60) && sends(&quiet, addresses[1], &query(1000)));
-    let mut into = DatagramOctets::of(b"");
+    let mut into = no_event();
     let mut before = None;
     for count in 0..60u32 {
-        if next(&mut sockets, &rt, &mut into).is_some() && into.as_slice() == &query(1000)[..] {
+        if next(&mut sockets, &rt, &mut into).is_some()
+            && into.octets.as_slice() == &query(1000)[..]
+        {
             before = Some(count);
             break;
         }

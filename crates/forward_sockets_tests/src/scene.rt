@@ -1,11 +1,13 @@
 //! A worker's sockets with clients and an upstream.
 ghost use Rattle.std.specs.Prelude.{◌≤◌, length};
 
-use forward_sockets::{Arrival, Came, OpenFault, Sockets};
-use outside_core::DatagramOctets;
+use arrivals::{Came, Event, MessageOctets, Moment};
+use forward_sockets::{Fault, OpenFault, Sockets};
 use std::alloc::Global;
 use std::io;
-use std::net::{Ipv4Addr, Ipv6Addr, Net, SocketAddr, SocketAddrV4, SocketAddrV6, UdpSocket};
+use std::net::{
+    Ipv4Addr, Ipv6Addr, Net, OpenListener, SocketAddr, SocketAddrV4, SocketAddrV6, UdpSocket,
+};
 use std::test::Fail;
 use std::time::{Clock, Duration};
 
@@ -19,9 +21,12 @@ pub(crate) fn v6(port: u16) -> SocketAddr {
     SocketAddr::V6(SocketAddrV6::new(Ipv6Addr::LOCALHOST, port, 0, 0))
 }
 
-// A port that nobody has.
+// A port that nobody has, for datagrams and for streams.
 pub(crate) fn free_port<N: Net>(net: &N) -> io::Result<u16> {
-    Ok(net.bind_udp(v4(0))?.local_addr()?.port())
+    let listener = net.bind(v4(0))?;
+    let port = listener.local_addr()?.port();
+    let _datagrams = net.bind_udp(v4(port))?;
+    Ok(port)
 }
 
 // A socket at a free port like that, which waits for five seconds at most.
@@ -32,6 +37,11 @@ pub(crate) fn end<N: Net>(net: &N, like: SocketAddr) -> io::Result<UdpSocket> {
     };
     socket.set_read_timeout(Some(Duration::from_secs(5)))?;
     Ok(socket)
+}
+
+// Error numbers of Linux, where the system gave one.
+pub(crate) fn once(last: Option<i32>) -> Fault {
+    Fault { count: 1, last }
 }
 
 pub(crate) fn open<N: Net>(
@@ -49,6 +59,7 @@ pub(crate) fn open<N: Net>(
         Err(
             OpenFault::Address {
                 address: _,
+                carrier: _,
                 cause: _,
             },
         ) => Err(Fail::from("an address can't be bound")),
@@ -61,29 +72,34 @@ pub(crate) fn query(id: u16) -> [u8; 12] {
     [high, low, 1, 0, 0, 0, 0, 0, 0, 0, 0, 0]
 }
 
+// Where what comes is put.
+pub(crate) fn no_event() -> Event {
+    Event {
+        moment: Moment {
+            seconds: 0,
+            millis: 0,
+        },
+        came: Came::Tick,
+        octets: MessageOctets::new(),
+    }
+}
+
 // What comes next that isn't a tick, within some seconds.
-pub(crate) fn next<C: Clock>(
-    sockets: &mut Sockets,
-    clock: &C,
-    into: &mut DatagramOctets,
-) -> Option<Came> {
+pub(crate) fn next<C: Clock>(sockets: &mut Sockets, clock: &C, into: &mut Event) -> Option<Came> {
     for _ in 0..20 {
-        let arrival: Arrival = sockets.receive(clock, into);
-        if arrival.came != Came::Tick {
-            return Some(arrival.came);
+        sockets.receive(clock, into);
+        if into.came != Came::Tick {
+            return Some(into.came);
         }
     }
     None
 }
 
 // Whether nothing but ticks comes within half a second.
-pub(crate) fn is_silent<C: Clock>(
-    sockets: &mut Sockets,
-    clock: &C,
-    into: &mut DatagramOctets,
-) -> bool {
+pub(crate) fn is_silent<C: Clock>(sockets: &mut Sockets, clock: &C, into: &mut Event) -> bool {
     for _ in 0..3 {
-        if sockets.receive(clock, into).came != Came::Tick {
+        sockets.receive(clock, into);
+        if into.came != Came::Tick {
             return false;
         }
     }
@@ -96,18 +112,20 @@ pub(crate) fn next_client<C: Clock>(
     clock: &C,
     octets: &[u8],
 ) -> Option<u64> {
-    let mut into = DatagramOctets::of(b"");
+    let mut into = no_event();
     match next(sockets, clock, &mut into) {
-        Some(Came::Query { client }) if into.as_slice() == octets => Some(client),
+        Some(Came::Query { client, carrier: _ }) if into.octets.as_slice() == octets => Some(
+            client,
+        ),
         _ => None,
     }
 }
 
 // The slot whose answer with these octets comes next.
 pub(crate) fn next_slot<C: Clock>(sockets: &mut Sockets, clock: &C, octets: &[u8]) -> Option<u8> {
-    let mut into = DatagramOctets::of(b"");
+    let mut into = no_event();
     match next(sockets, clock, &mut into) {
-        Some(Came::Answer { slot }) if into.as_slice() == octets => Some(slot),
+        Some(Came::Answer { slot, carrier: _ }) if into.octets.as_slice() == octets => Some(slot),
         _ => None,
     }
 }

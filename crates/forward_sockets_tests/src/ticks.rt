@@ -1,7 +1,7 @@
 //! Ticks and moments.
-use crate::scene::{end, free_port, open, query, sends, v4};
-use forward_sockets::{Arrival, Came, Sockets};
-use outside_core::DatagramOctets;
+use crate::scene::{end, free_port, no_event, open, query, sends, v4};
+use arrivals::Came;
+use forward_sockets::Sockets;
 use std::io;
 use std::net::{SocketAddr, UdpSocket};
 use std::test::Fail;
@@ -9,11 +9,12 @@ use std::time::{Clock, Duration, Instant, SystemTime};
 
 // How long the next three ticks take, after a first one.
 fn three_ticks<C: Clock>(sockets: &mut Sockets, clock: &C) -> io::Result<Option<Duration>> {
-    let mut into = DatagramOctets::of(b"");
-    let _first = sockets.receive(clock, &mut into);
+    let mut into = no_event();
+    sockets.receive(clock, &mut into);
     let start = Instant::now(clock)?;
     for _ in 0..3 {
-        if sockets.receive(clock, &mut into).came != Came::Tick {
+        sockets.receive(clock, &mut into);
+        if into.came != Came::Tick {
             return Ok(None);
         }
     }
@@ -39,15 +40,19 @@ fn queries_before_a_tick<C: Clock>(
     client: &UdpSocket,
     address: SocketAddr,
 ) -> Option<u32> {
-    let mut into = DatagramOctets::of(b"");
+    let mut into = no_event();
     for id in 0..1_000_000u32 {
         if !sends(client, address, &query((id % 65_536) as u16)) {
             return None;
         }
-        match sockets.receive(clock, &mut into).came {
+        sockets.receive(clock, &mut into);
+        match into.came {
             Came::Tick => return Some(id),
-            Came::Query { client } => sockets.reply(client, b""),
-            Came::Answer { slot: _ } => return None,
+            Came::Query { client, carrier: _ } => sockets.reply(client, b""),
+            Came::Answer {
+                slot: _,
+                carrier: _,
+            } => return None,
         }
     }
     None
@@ -58,7 +63,7 @@ fn a_tick_comes_while_queries_flood(rt: HostRuntime) -> Result<(), Fail> {
     let address = v4(free_port(&rt)?);
     let client = end(&rt, address)?;
     let mut sockets = open(&rt, rt.alloc(), &[address], v4(9))?;
-    let _first = sockets.receive(&rt, &mut DatagramOctets::of(b""));
+    sockets.receive(&rt, &mut no_event());
     let start = Instant::now(&rt)?;
     let count = queries_before_a_tick(&mut sockets, &rt, &client, address);
     let took = start.elapsed(&rt)?;
@@ -70,17 +75,19 @@ fn a_tick_comes_while_queries_flood(rt: HostRuntime) -> Result<(), Fail> {
 #[test]
 fn a_moment_is_what_the_clocks_say(rt: HostRuntime) -> Result<(), Fail> {
     let mut sockets = open(&rt, rt.alloc(), &[], v4(9))?;
-    let mut into = DatagramOctets::of(b"");
+    let mut into = no_event();
     let before = SystemTime::now(&rt)?;
-    let first: Arrival = sockets.receive(&rt, &mut into);
-    let second: Arrival = sockets.receive(&rt, &mut into);
+    sockets.receive(&rt, &mut into);
+    let first = into.moment;
+    sockets.receive(&rt, &mut into);
+    let second = into.moment;
     let since = before.duration_since(SystemTime::UNIX_EPOCH);
     let Ok(since) = since else {
         return Err(Fail::from("a clock before 1970"));
     };
     let seconds = (since.as_secs() % 0x1_0000_0000) as u32;
-    assert!(rt; first.moment.seconds.wrapping_sub(seconds) <= 1);
-    let between = second.moment.millis.wrapping_sub(first.moment.millis);
+    assert!(rt; first.seconds.wrapping_sub(seconds) <= 1);
+    let between = second.millis.wrapping_sub(first.millis);
     assert!(rt; between >= 250 && between <= 400, "{between}");
     Ok(())
 }
