@@ -10,12 +10,12 @@ use Rattle.dnswire.specs.declared.edns.Edns.{Edns}
 use Rattle.dnswire.specs.declared.edns.TheConstants.{DO}
 use Rattle.dnswire.specs.declared.message.Message.{Message}
 use Rattle.dnswire.specs.declared.question.Question.{Question}
-use Rattle.reply_core.specs.Relay.{is_whole, relay_flags, relay_octets, relay_upper, relayed, rr_octets, truncated_relay, whole_relay}
-use Rattle.reply_core.specs.Reply.{ReplyRecord, flag, header_octets, limit_of, opt_count, opt_octets, record_octets, wants_dnssec}
-use Rattle.reply_core.specs.Sections.{coded_flags, sent_octets, truncated_with, whole_with}
+use Rattle.reply_core.specs.Relay.{is_whole_within, relay_flags, relay_upper, relay_within, relayed, rr_octets, truncated_relay, whole_relay}
+use Rattle.reply_core.specs.Reply.{ReplyRecord, flag, header_octets, opt_count, opt_octets, record_octets, wants_dnssec}
+use Rattle.reply_core.specs.Sections.{coded_flags, sent_within, truncated_with, whole_with}
 use Rattle.reply_core.specs.declared.draft.TheConstants.{MAX_REPLY}
 use Rattle.resolver.specs.Walk.{Walk}
-use Rattle.resolver.specs.WalkReply.{end_rcode, walk_answers, walk_authorities, walk_octets}
+use Rattle.resolver.specs.WalkReply.{end_rcode, walk_answers, walk_authorities, walk_within}
 use Rattle.forwarding.specs.Options.{can_take, has_no_data, opt_with, told, with_options}
 
 -- the octets end in the tail
@@ -30,9 +30,9 @@ either_ends : (test : Bool) (tail octets other : List ℕ) → EndsIn tail octet
 either_ends true tail octets other ends ends' = ends
 either_ends false tail octets other ends ends' = ends'
 
-sent_ends : (question : Question) (rcode ttl : ℕ) (answers authorities : List ReplyRecord) → EndsIn (opt_octets 0 question.edns) (sent_octets question rcode ttl answers authorities)
-sent_ends question rcode ttl answers authorities = either_ends
-    (nat_le (length (whole_with question rcode ttl answers authorities)) (limit_of question.edns))
+sent_ends : (limit : ℕ) (question : Question) (rcode ttl : ℕ) (answers authorities : List ReplyRecord) → EndsIn (opt_octets 0 question.edns) (sent_within limit question rcode ttl answers authorities)
+sent_ends limit question rcode ttl answers authorities = either_ends
+    (nat_le (length (whole_with question rcode ttl answers authorities)) limit)
     (opt_octets 0 question.edns) (whole_with question rcode ttl answers authorities) (truncated_with question rcode)
     (after
     (header_octets question.id (coded_flags question rcode false) 1 (length answers) (length authorities) (opt_count question.edns)
@@ -41,16 +41,16 @@ sent_ends question rcode ttl answers authorities = either_ends
     (header_octets question.id (coded_flags question rcode true) 1 0 0 (opt_count question.edns) ++ question.asked.items)
     (opt_octets 0 question.edns))
 
-pub walk_ends : (question : Question) (walk : Walk) (ttl : ℕ) → EndsIn (opt_octets 0 question.edns) (walk_octets question walk ttl)
-walk_ends question walk ttl = sent_ends question (end_rcode walk.end) ttl (walk_answers (wants_dnssec question) walk) (walk_authorities (wants_dnssec question) walk)
+pub walk_ends : (limit : ℕ) (question : Question) (walk : Walk) (ttl : ℕ) → EndsIn (opt_octets 0 question.edns) (walk_within limit question walk ttl)
+walk_ends limit question walk ttl = sent_ends limit question (end_rcode walk.end) ttl (walk_answers (wants_dnssec question) walk) (walk_authorities (wants_dnssec question) walk)
 
-pub relay_ends : (question : Question) (message : Message) → EndsIn (opt_octets (relay_upper question message) question.edns) (relay_octets question message)
-relay_ends question message =
+pub relay_ends : (limit : ℕ) (question : Question) (message : Message) → EndsIn (opt_octets (relay_upper question message) question.edns) (relay_within limit question message)
+relay_ends limit question message =
     let answers = relayed question message.answer in
     let authorities = relayed question message.authority in
     let additionals = relayed question message.additional in
     let tail = opt_octets (relay_upper question message) question.edns in
-    either_ends (is_whole question message) tail (whole_relay question message) (truncated_relay question message)
+    either_ends (is_whole_within limit question message) tail (whole_relay question message) (truncated_relay question message)
     (after
     (header_octets question.id (relay_flags question message false) 1 (length answers) (length authorities) (length additionals + opt_count question.edns)
     ++ question.asked.items ++ flat_map rr_octets (answers ++ authorities ++ additionals)) tail)
@@ -95,19 +95,19 @@ pub opt_has_no_data : (front reply : List ℕ) (upper : ℕ) (edns : Edns) → r
 opt_has_no_data front reply upper edns ends = ap has_no_data (ends ∙ split_at_data front upper edns) ∙ no_data_at_end (front ++ opt_head upper edns)
 
 -- what can be taken is the data of the record; a client without one gets none
-pub taken_is_data : (front options reply : List ℕ) (upper : ℕ) (edns : Option Edns) → reply ≡ front ++ opt_octets upper edns → can_take edns options reply ≡ true → told edns options reply ≡ front ++ opt_with upper edns options
-taken_is_data front options reply upper None ends can = absurd cc
-taken_is_data front options reply upper (Some edns) ends can =
+pub taken_is_data : (limit : ℕ) (front options reply : List ℕ) (upper : ℕ) (edns : Option Edns) → reply ≡ front ++ opt_octets upper edns → can_take limit edns options reply ≡ true → told limit edns options reply ≡ front ++ opt_with upper edns options
+taken_is_data limit front options reply upper None ends can = absurd cc
+taken_is_data limit front options reply upper (Some edns) ends can =
     ap (λ test. if test then with_options options reply else reply) can ∙ opt_has_options front options reply upper edns ends
 
-can_take_some : (front options reply : List ℕ) (upper : ℕ) (edns : Edns) → reply ≡ front ++ opt_octets upper (Some edns) → 0 < length options → length options ≤ limit_of (Some edns) - length reply → can_take (Some edns) options reply ≡ true
-can_take_some front options reply upper edns ends some fits =
+can_take_some : (limit : ℕ) (front options reply : List ℕ) (upper : ℕ) (edns : Edns) → reply ≡ front ++ opt_octets upper (Some edns) → 0 < length options → length options ≤ limit - length reply → can_take limit (Some edns) options reply ≡ true
+can_take_some limit front options reply upper edns ends some fits =
     let none = opt_has_no_data front reply upper edns ends in
-    let sum : length reply + length options ≤ limit_of (Some edns) = omega (arith, some, fits) in
+    let sum : length reply + length options ≤ limit = omega (arith, some, fits) in
     grind (arith, nat_tests, none, some, sum)
 
-pub fitting_is_data : (front options reply : List ℕ) (upper : ℕ) (edns : Option Edns) → reply ≡ front ++ opt_octets upper edns → length options ≤ limit_of edns - length reply → told edns options reply ≡ front ++ opt_with upper edns options
-fitting_is_data front options reply upper None ends fits = ends
-fitting_is_data front [] reply upper (Some edns) ends fits = ends
-fitting_is_data front (octet ∷ more) reply upper (Some edns) ends fits =
-    taken_is_data front (octet ∷ more) reply upper (Some edns) ends (can_take_some front (octet ∷ more) reply upper edns ends (omega arith) fits)
+pub fitting_is_data : (limit : ℕ) (front options reply : List ℕ) (upper : ℕ) (edns : Option Edns) → reply ≡ front ++ opt_octets upper edns → length options ≤ limit - length reply → told limit edns options reply ≡ front ++ opt_with upper edns options
+fitting_is_data limit front options reply upper None ends fits = ends
+fitting_is_data limit front [] reply upper (Some edns) ends fits = ends
+fitting_is_data limit front (octet ∷ more) reply upper (Some edns) ends fits =
+    taken_is_data limit front (octet ∷ more) reply upper (Some edns) ends (can_take_some limit front (octet ∷ more) reply upper edns ends (omega arith) fits)

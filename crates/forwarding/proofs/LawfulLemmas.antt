@@ -1,12 +1,13 @@
 -- The turns of a worker, one after the other, and what may be sent of them.
 use Rattle.std.proofs.Common.{◌≡◌, ◌∙◌, ℕ, ◌+◌, ◌-◌, ◌<◌, Bool, true, false, List, [], ◌∷◌, ◌++◌, length, map, take, drop, get_or, Option, None, Some, refl, sym, ap, subst, arith, append_assoc}
-use Rattle.std.specs.Prelude.{IfSome, fold}
+use Rattle.std.specs.Prelude.{IfSome}
 use Rattle.std.specs.List.{All, flat_map}
 use Rattle.std.proofs.lemmas.Grind.{flat_map-append}
 use Rattle.std.proofs.lemmas.List.Sums.{fold-append}
 use Rattle.std.proofs.lemmas.List.{append-nil, drop_more, map-append, take_all}
 use Rattle.facts.proofs.Prefixes.{take_prefix}
 use mathlib.Core.List.{IsPrefix}
+use Rattle.arrivals.specs.declared.event.Event.{Event}
 use Rattle.counters.specs.Counts.{Tally, counted, no_counts, with_tally}
 use Rattle.dname.specs.Name.{Label}
 use Rattle.denial_records.specs.declared.batch.Batch.{Batch}
@@ -23,7 +24,6 @@ use Rattle.forwarding.specs.Done.{Done, IsDone}
 use Rattle.forwarding.specs.Turn.{Turn, AreTurns, IsKeptAt, IsSoundDone, IsTurn, sends_of}
 use Rattle.forwarding.specs.declared.want.Want.{Want}
 use Rattle.forwarding.specs.Lawful.{EachTurnIsLawful, HasCome, HasServed, IsAtWork, IsCalled, IsLawful, IsNew, MaySend, MaySendAll, Told, counts_of, left_by, more_received, more_sent}
-use Rattle.forwarding.specs.declared.event.Event.{Event}
 use Rattle.forwarding.specs.declared.sent.Sent.{Sent}
 
 -- ---- more batches
@@ -73,7 +73,7 @@ counts_push turns turn =
 -- ---- what is told
 
 abbrev with_sent : Told → List Sent → Told
-with_sent t sent = record { received = t.received; sent = sent }
+with_sent t sent = record t { sent = sent }
 
 pub sent_none : (told : Option Told) → more_sent told [] ≡ told
 sent_none None = refl
@@ -90,6 +90,7 @@ module _ (passed : List (List Label)) where
   pub may_send : (history : List Batch) (told : Option Told) (one : Sent) (more : List Sent) → MaySendAll passed history told (one ∷ more) → MaySend passed history told one
   may_send history None one more may = tt
   may_send history (Some t) one more may = record {
+    passes_are = may.passes_are;
     turns = may.turns;
     events_are = may.events_are;
     are = may.are;
@@ -100,6 +101,7 @@ module _ (passed : List (List Label)) where
   pub may_front : (history : List Batch) (told : Option Told) (first more : List Sent) → MaySendAll passed history told (first ++ more) → MaySendAll passed history told first
   may_front history None first more may = tt
   may_front history (Some t) first more may = record {
+    passes_are = may.passes_are;
     turns = may.turns;
     events_are = may.events_are;
     are = may.are;
@@ -114,9 +116,17 @@ module _ (passed : List (List Label)) where
   -- ---- an event
 
   -- nothing has come yet
-  pub begun : (history : List Batch) (table : List Slot) (counts : List ℕ) (told : Option Told) → table ≡ empty_table → counts ≡ no_counts → IsNew told → IsAtWork passed history table counts told
+  pub begun : (history : List Batch) (table : List Slot) (counts : List ℕ) (told : Option Told) → table ≡ empty_table → counts ≡ no_counts → IsNew passed told → IsAtWork passed history table counts told
   begun history table counts None empty zero none = tt
-  begun history table counts (Some t) empty zero none = record { turns = []; events_are = none.0; are = tt; sent_are = none.1; left = empty; counts_are = zero }
+  begun history table counts (Some t) empty zero new = record {
+    passes_are = ap (λ (u : Told). u.passes) new;
+    turns = [];
+    events_are = ap (λ (u : Told). u.received) new;
+    are = tt;
+    sent_are = ap (λ (u : Told). u.sent) new;
+    left = empty;
+    counts_are = zero;
+  }
 
   -- an event comes to a worker
   pub called : (history : List Batch) (table : List Slot) (counts : List ℕ) (event : Event) (told told' : Option Told) → IsAtWork passed history table counts told → told' ≡ more_received told event → IsCalled passed history table counts event told'
@@ -125,6 +135,7 @@ module _ (passed : List (List Label)) where
 
   served_more : (seen history : List Batch) (table : List Slot) (counts : List ℕ) (told : Told) → IsPrefix seen history → HasServed passed seen table counts told → HasServed passed history table counts told
   served_more seen history table counts told begins served = record {
+    passes_are = served.passes_are;
     turns = served.turns;
     events_are = served.events_are;
     are = turns_more passed seen history empty_table served.turns begins served.are;
@@ -154,10 +165,14 @@ module _ (passed : List (List Label)) where
     sends_more : (t : Told) (come : HasCome passed history table counts event t) → t.sent ++ turn.done.sends ≡ sends_of (come.served.turns ++ turn ∷ [])
     sends_more t come = ap (λ (l : List Sent). l ++ turn.done.sends) (ap (λ (u : Told). u.sent) come.told_is ∙ come.served.sent_are) ∙ sym (sends_push come.served.turns turn)
 
+    passes_same : (t : Told) (come : HasCome passed history table counts event t) → t.passes ≡ passed
+    passes_same t come = ap (λ (u : Told). u.passes) come.told_is ∙ come.served.passes_are
+
     -- all that the event's turn sends may be sent
     lawful_turn : (told : Option Told) → IsCalled passed history table counts event told → MaySendAll passed history told turn.done.sends
     lawful_turn None come = tt
     lawful_turn (Some t) come = record {
+      passes_are = passes_same t come;
       turns = come.served.turns ++ turn ∷ [];
       events_are = events_more t come;
       are = are_more t come;
@@ -168,6 +183,7 @@ module _ (passed : List (List Label)) where
     worked : (told told' : Option Told) → IsCalled passed history table counts event told → told' ≡ more_sent told turn.done.sends → IsAtWork passed history turn.done.table (counted turn.done.tallies counts) told'
     worked None told' come sent = subst (λ (u : Option Told). IsAtWork passed history turn.done.table (counted turn.done.tallies counts) u) (sym sent) tt
     worked (Some t) told' come sent = subst (λ (u : Option Told). IsAtWork passed history turn.done.table (counted turn.done.tallies counts) u) (sym sent) (record {
+      passes_are = passes_same t come;
       turns = come.served.turns ++ turn ∷ [];
       events_are = events_more t come;
       are = are_more t come;

@@ -5,6 +5,7 @@ use Rattle.std.proofs.Math.Nat.{add-mod-mod, mod-add-mod}
 use Rattle.std.proofs.lemmas.List.Elements.{All-replicate, All-set, filter-append}
 use Rattle.std.proofs.lemmas.Bool.{and_parts, false≢true, not-true}
 use Rattle.std.proofs.lemmas.List.{append-nil, append_assoc, drop_all, drop_more, drop-drop, drop-set-lt, get_or-drop, take_all, take_more, take_more_set}
+use Rattle.arrivals.specs.declared.carrier.Carrier.TheVariants.{Datagram}
 use Rattle.dnswire.specs.declared.question.Question.{Question}
 use Rattle.reply_core.specs.Ask.{ask_octets}
 use Rattle.counters.specs.Counts.{count_of, counted, index_of, times, with_tally}
@@ -34,7 +35,7 @@ slot_by now id w late due = cond late None (cond due (again_in now id (Some w)) 
 
 -- and what is sent
 abbrev sends_by : ℕ → ℕ → Waiting → Bool → Bool → List Sent
-sends_by slot id w late due = cond late (map failed (clients_in (Some w))) (cond due (to_upstream slot (ask_octets w.asker.question id) ∷ []) [])
+sends_by slot id w late due = cond late (map failed (clients_in (Some w))) (cond due (to_upstream slot Datagram (ask_octets w.asker.question id) ∷ []) [])
 
 pub late_sends : (now slot id : ℕ) (s : Slot) → is_late_in now s ≡ true → tick_sends now slot id s ≡ map failed (clients_in s)
 late_sends now slot id None is = absurd (false≢true is)
@@ -44,11 +45,11 @@ pub late_slot : (now id : ℕ) (s : Slot) → is_late_in now s ≡ true → tick
 late_slot now id None is = refl
 late_slot now id (Some w) is = ap (λ (b : Bool). slot_by now id w b (is_due now w)) is
 
-pub due_sends : (now slot id : ℕ) (s : Slot) (question : Question) → is_late_in now s ≡ false → is_due_in now s ≡ true → IfSome s (λ w. question ≡ w.asker.question) → tick_sends now slot id s ≡ to_upstream slot (ask_octets question id) ∷ []
+pub due_sends : (now slot id : ℕ) (s : Slot) (question : Question) → is_late_in now s ≡ false → is_due_in now s ≡ true → IfSome s (λ w. question ≡ w.asker.question) → tick_sends now slot id s ≡ to_upstream slot Datagram (ask_octets question id) ∷ []
 due_sends now slot id None question late due same = absurd (false≢true due)
 due_sends now slot id (Some w) question late due same =
-    let one : tick_sends now slot id (Some w) ≡ to_upstream slot (ask_octets w.asker.question id) ∷ [] = (λ i. sends_by slot id w (late i) (due i)) in
-    one ∙ ap (λ (q : Question). to_upstream slot (ask_octets q id) ∷ []) (sym same)
+    let one : tick_sends now slot id (Some w) ≡ to_upstream slot Datagram (ask_octets w.asker.question id) ∷ [] = (λ i. sends_by slot id w (late i) (due i)) in
+    one ∙ ap (λ (q : Question). to_upstream slot Datagram (ask_octets q id) ∷ []) (sym same)
 
 pub due_slot : (now id : ℕ) (s : Slot) → is_late_in now s ≡ false → is_due_in now s ≡ true → ticked_slot now id s ≡ again_in now id s
 due_slot now id None late due = absurd (false≢true due)

@@ -1,5 +1,11 @@
 -- What one event does, by the table of the questions that wait, and the batches of one version.
-use Rattle.std.specs.Prelude.{◌≡◌, ℕ, suc, ◌==◌, ◌&&◌, ◌||◌, Bool, true, false, nat_le, if◌then◌else◌, List, [], ◌∷◌, ◌++◌, length, map, drop, filter, get_or, not, Option, option_map, Some, None, Result, Ok, Err}
+use Rattle.std.specs.Prelude.{◌≡◌, ℕ, suc, ◌==◌, ◌&&◌, ◌||◌, Bool, true, false, nat_le, if◌then◌else◌, List, [], ◌∷◌, ◌++◌, length, map, drop, filter, get_or, set, not, Option, option_map, Some, None, Result, Ok, Err}
+use Rattle.arrivals.specs.declared.came.Came.{Came}
+use Rattle.arrivals.specs.declared.came.Came.TheVariants.{Query, Answer, Tick}
+use Rattle.arrivals.specs.declared.carrier.Carrier.{Carrier}
+use Rattle.arrivals.specs.declared.carrier.Carrier.TheVariants.{Datagram, Stream}
+use Rattle.arrivals.specs.declared.event.Event.{Event}
+use Rattle.arrivals.specs.declared.moment.Moment.{Moment}
 use Rattle.byteorder.specs.Endian.{big_number}
 use Rattle.counters.specs.Counts.{Tally, times}
 use Rattle.counters.specs.declared.counter.Counter.{Counter}
@@ -25,21 +31,18 @@ use Rattle.reply_core.specs.Reply.{flag}
 use Rattle.reply_core.specs.declared.rcode.TheConstants.{NO_ERROR, FORMAT_ERROR, SERVER_FAILURE, NAME_ERROR, NOT_IMPLEMENTED, REFUSED, BAD_VERSION}
 use Rattle.resolver.specs.Origin.{is_synthesized, origin_of}
 use Rattle.resolver.specs.Walk.{Walk}
-use Rattle.resolver.specs.WalkReply.{octets_at, walk_in}
+use Rattle.resolver.specs.WalkReply.{octets_within, walk_in}
 use Rattle.resolver.specs.declared.origin.Origin.{Origin}
 use Rattle.resolver.specs.declared.origin.Origin.TheVariants as origins
 use Rattle.resolver.specs.declared.rule.Rule.TheVariants.{Both}
-use Rattle.waiting_table.specs.Waiting.{Slot, client_of, clients_in, clients_of, fits, has_id, is_due, is_late, slot_at}
+use Rattle.waiting_table.specs.Waiting.{Slot, asked_by_stream, client_of, clients_in, clients_of, fits, has_id, is_due, is_late, may_ask_by_stream, slot_at}
 use Rattle.waiting_table.specs.Steps.{freed, given_up, is_due_in, is_late_in, late_clients, place_for, placed, ticked}
 use Rattle.waiting_table.specs.declared.client.Client.{Client}
 use Rattle.waiting_table.specs.declared.place.Place.{Place}
 use Rattle.waiting_table.specs.declared.place.Place.TheVariants.{Joins, Fills, Replaces}
 use Rattle.forwarding.specs.ExtendedError.{marked, told_relay}
+use Rattle.forwarding.specs.Limit.{limit_for}
 use Rattle.forwarding.specs.Passed.{is_passed, stored_of}
-use Rattle.forwarding.specs.declared.event.Event.{Event}
-use Rattle.forwarding.specs.declared.event.Moment.{Moment}
-use Rattle.forwarding.specs.declared.event.Came.{Came}
-use Rattle.forwarding.specs.declared.event.Came.TheVariants.{Query, Answer, Tick}
 use Rattle.forwarding.specs.declared.sent.Sent.{Sent}
 use Rattle.forwarding.specs.declared.sent.Receiver.TheVariants.{ToClient, ToUpstream}
 use Rattle.forwarding.specs.declared.want.Want.{Want}
@@ -48,11 +51,13 @@ use Rattle.forwarding.specs.declared.want.Want.TheVariants.{Nothing, ToRead, ToS
 -- ---- what is sent
 
 abbrev pub to_client : ℕ → List ℕ → Sent
-to_client number octets = record { receiver = ToClient number; octets = octets }
+to_client number octets =
+    record { receiver = ToClient number; octets = record { items = octets } }
 
 -- over a new socket, which is the slot's from then on
-abbrev pub to_upstream : ℕ → List ℕ → Sent
-to_upstream slot octets = record { receiver = ToUpstream slot; octets = octets }
+abbrev pub to_upstream : ℕ → Carrier → List ℕ → Sent
+to_upstream slot carrier octets =
+    record { receiver = ToUpstream slot carrier; octets = record { items = octets } }
 
 -- the client is told of a failed server (RFC 1035, section 4.1.1)
 abbrev pub failed : Client → Sent
@@ -65,9 +70,11 @@ trusted message =
     if (message.rcode == NO_ERROR) || (message.rcode == NAME_ERROR) then message
     else record message { flags = flag (has_tc message.flags) TC }
 
--- the client gets the message as the answer to its own question, with the upstream's extended errors
+-- the client gets the message as the answer to its own question, with the upstream's extended errors, within what it takes
 abbrev pub answered : Message → Client → Sent
-answered message client = to_client client.number (told_relay client.question message)
+answered message client =
+    let limit = limit_for client.carrier client.question.edns in
+    to_client client.number (told_relay limit client.question message)
 
 -- ---- what is done
 
@@ -92,11 +99,11 @@ told_once table number octets counter =
 
 -- ---- a query
 
--- the question is asked with the ID, unless its client joins
+-- the question is asked by a datagram with the ID, unless its client joins
 abbrev pub asking : ℕ → Question → Place → List Sent
 asking id question (Joins slot) = []
-asking id question (Fills slot) = to_upstream slot (ask_octets question id) ∷ []
-asking id question (Replaces slot) = to_upstream slot (ask_octets question id) ∷ []
+asking id question (Fills slot) = to_upstream slot Datagram (ask_octets question id) ∷ []
+asking id question (Replaces slot) = to_upstream slot Datagram (ask_octets question id) ∷ []
 
 abbrev pub waiting_tallies : List Slot → Place → List Tally
 waiting_tallies table (Joins slot) = times 1 counters.Joined ∷ []
@@ -135,35 +142,43 @@ queried table now id client (Some found) =
     told_once table client.number found.octets (counter_of found.origin)
 queried table now id client None = waits table now id client
 
--- the reply of a walk at a moment, marked as synthesized where a denial or a wildcard has part in it and the mark fits
-abbrev pub shown : Question → ℕ → Walk → Found
-shown question now walk = record {
-  octets = marked question (is_synthesized (origin_of walk)) (octets_at question now walk);
-  origin = origin_of walk;
-}
+-- the reply of a walk at a moment within the limit, marked as synthesized where a denial or a wildcard has part in it and the mark
+-- fits
+abbrev pub shown : ℕ → Question → ℕ → Walk → Found
+shown limit question now walk =
+    let reply = octets_within limit question now walk in
+    found_as (marked limit question (is_synthesized (origin_of walk)) reply) (origin_of walk)
 
 -- what the records of the version prove of the question, by aliases and redirections
-abbrev pub found : List Batch → Question → ℕ → Option Found
-found seen question now = option_map (shown question now) (walk_in Both (held_of seen) question now)
+abbrev pub found_within : ℕ → List Batch → Question → ℕ → Option Found
+found_within limit seen question now =
+    option_map (shown limit question now) (walk_in Both (held_of seen) question now)
+
+-- within what a client by the carrier takes
+abbrev pub found : Carrier → List Batch → Question → ℕ → Option Found
+found carrier seen question now =
+    found_within (limit_for carrier question.edns) seen question now
 
 -- the same of a question at or below no passed name
-abbrev pub proved : List (List Label) → List Batch → Question → ℕ → Option Found
-proved passed seen question now =
-    if is_passed passed question.name then None else found seen question now
+abbrev pub proved : Carrier → List (List Label) → List Batch → Question → ℕ → Option Found
+proved carrier passed seen question now =
+    if is_passed passed question.name then None else found carrier seen question now
 
--- A datagram that gets no reply, a fault, whose reply is told at once, or a query. The RCODE is 4 for another opcode than that
+-- A message that gets no reply, a fault, whose reply is told at once, or a query. The RCODE is 4 for another opcode than that
 -- of a standard query, 1 for what can't be read (RFC 1035, section 4.1.1), 16 for an OPT record of another version than 0
 -- (RFC 6891, section 6.1.3)
-abbrev pub query_done : List (List Label) → List Slot → Moment → ℕ → List Batch → ℕ → QueryRead → Done
-query_done passed table moment id seen number reads.Dropped = silent table counters.Dropped
-query_done passed table moment id seen number (reads.NotImp head) =
+abbrev pub query_done : List (List Label) → List Slot → Moment → ℕ → List Batch → ℕ → Carrier → QueryRead → Done
+query_done passed table moment id seen number carrier reads.Dropped =
+    silent table counters.Dropped
+query_done passed table moment id seen number carrier (reads.NotImp head) =
     told_once table number (error_octets head NOT_IMPLEMENTED) counters.NotImplemented
-query_done passed table moment id seen number (reads.FormErr head) =
+query_done passed table moment id seen number carrier (reads.FormErr head) =
     told_once table number (error_octets head FORMAT_ERROR) counters.FormatError
-query_done passed table moment id seen number (reads.BadVers question) =
+query_done passed table moment id seen number carrier (reads.BadVers question) =
     told_once table number (plain_octets question BAD_VERSION) counters.BadVersion
-query_done passed table moment id seen number (reads.Query question) =
-    queried table moment.millis id (client_of number question) (proved passed seen question moment.seconds)
+query_done passed table moment id seen number carrier (reads.Query question) =
+    queried table moment.millis id (client_of number carrier question)
+    (proved carrier passed seen question moment.seconds)
 
 -- ---- an answer
 
@@ -180,10 +195,10 @@ bare_id octets =
     && (big_number 2 (drop 4 octets) == 0)
     then Some (big_number 2 octets) else None
 
--- the slot's question was asked with it
-abbrev pub is_bare_for : Slot → Option ℕ → Bool
-is_bare_for slot None = false
-is_bare_for slot (Some id) = has_id id slot
+-- the slot's question was asked with it last, by the carrier
+abbrev pub is_bare_for : Slot → Carrier → Option ℕ → Bool
+is_bare_for slot carrier None = false
+is_bare_for slot carrier (Some id) = has_id carrier id slot
 
 -- nobody waits any longer for the slot's question: each client is told of a failed server
 abbrev pub gives_up : List Slot → ℕ → Done
@@ -239,41 +254,68 @@ IsStoringOf passed octets now Nothing stored =
 IsStoringOf passed octets now ToRead stored = ⊥
 IsStoringOf passed octets now ToStore stored = stored ≡ storing None counters.Unstored
 
--- the answer is relayed where it is one to the slot's question (RFC 5452, section 9.1); any other is passed over
-abbrev pub IsDoneOf : List (List Label) → List Slot → ℕ → ℕ → List ℕ → Want → Message → Bool → Done → Type 0
-IsDoneOf passed table slot now octets want message false done =
-    (want ≡ Nothing) × (done ≡ silent table counters.Ignored)
-IsDoneOf passed table slot now octets want message true done =
+-- an answer that was cut short to go into a datagram (RFC 1035, section 4.1.1)
+abbrev pub is_cut : Carrier → Message → Bool
+is_cut Datagram message = has_tc message.flags
+is_cut Stream message = false
+
+-- the slot's question as it is asked by a stream, unless it was asked so before
+abbrev pub stream_asking : ℕ → ℕ → Slot → List Sent
+stream_asking slot id None = []
+stream_asking slot id (Some waiting) =
+    if may_ask_by_stream (Some waiting)
+    then to_upstream slot Stream (ask_octets waiting.asker.question id) ∷ [] else []
+
+-- Nothing is stored, and nobody is told: what the stream brings is the answer (RFC 2181, section 9; RFC 7766, section 5)
+abbrev pub asks_by_stream : List Slot → ℕ → ℕ → Done
+asks_by_stream table slot id =
+    done_as (set table slot (asked_by_stream id (slot_at table slot)))
+    (stream_asking slot id (slot_at table slot)) None (times 1 counters.AskedByStream ∷ [])
+
+-- an answer to the slot's question: where it was cut short the question is asked by a stream, with the ID, and else it is relayed
+abbrev pub IsTakenBy : List (List Label) → List Slot → ℕ → ℕ → ℕ → List ℕ → Want → Message → Bool → Done → Type 0
+IsTakenBy passed table slot id now octets want message true done =
+    (want ≡ Nothing) × (done ≡ asks_by_stream table slot id)
+IsTakenBy passed table slot id now octets want message false done =
     (stored : Storing) × IsStoringOf passed octets now want stored
     × (done ≡ relays table slot message stored)
 
-abbrev pub IsAnswerDone : List (List Label) → List Slot → ℕ → ℕ → List ℕ → Want → Option Message → Done → Type 0
-IsAnswerDone passed table slot now octets want None done =
-    (want ≡ Nothing)
-    × (done ≡ (if is_bare_for (slot_at table slot) (bare_id octets) then gives_up table slot
-    else silent table counters.Ignored))
-IsAnswerDone passed table slot now octets want (Some message) done =
-    IsDoneOf passed table slot now octets want message
-    (fits message.id message.name message.qtype message.qclass (slot_at table slot)) done
+-- it is taken where it is one to the slot's question (RFC 5452, section 9.1); any other is passed over
+abbrev pub IsDoneOf : List (List Label) → List Slot → ℕ → Carrier → ℕ → ℕ → List ℕ → Want → Message → Bool → Done → Type 0
+IsDoneOf passed table slot carrier id now octets want message false done =
+    (want ≡ Nothing) × (done ≡ silent table counters.Ignored)
+IsDoneOf passed table slot carrier id now octets want message true done =
+    IsTakenBy passed table slot id now octets want message (is_cut carrier message) done
 
--- where memory is wanted to read it, it is passed over
-abbrev pub IsAnswered : List (List Label) → List Slot → ℕ → ℕ → List ℕ → Want → Done → Type 0
-IsAnswered passed table slot now octets ToRead done = done ≡ silent table counters.Unread
-IsAnswered passed table slot now octets Nothing done =
+abbrev pub IsAnswerDone : List (List Label) → List Slot → ℕ → Carrier → ℕ → ℕ → List ℕ → Want → Option Message → Done → Type 0
+IsAnswerDone passed table slot carrier id now octets want None done =
+    (want ≡ Nothing)
+    × (done ≡ (if is_bare_for (slot_at table slot) carrier (bare_id octets) then gives_up table slot
+    else silent table counters.Ignored))
+IsAnswerDone passed table slot carrier id now octets want (Some message) done =
+    IsDoneOf passed table slot carrier id now octets want message
+    (fits carrier message.id message.name message.qtype message.qclass (slot_at table slot)) done
+
+-- What an answer does that came by the carrier, where this ID is drawn. Where memory is wanted to read it, it is passed over
+abbrev pub IsAnswered : List (List Label) → List Slot → ℕ → Carrier → ℕ → ℕ → List ℕ → Want → Done → Type 0
+IsAnswered passed table slot carrier id now octets ToRead done =
+    done ≡ silent table counters.Unread
+IsAnswered passed table slot carrier id now octets Nothing done =
     (answer : Option Message) × IsAnswer octets answer
-    × IsAnswerDone passed table slot now octets Nothing answer done
-IsAnswered passed table slot now octets ToStore done =
+    × IsAnswerDone passed table slot carrier id now octets Nothing answer done
+IsAnswered passed table slot carrier id now octets ToStore done =
     (answer : Option Message) × IsAnswer octets answer
-    × IsAnswerDone passed table slot now octets ToStore answer done
+    × IsAnswerDone passed table slot carrier id now octets ToStore answer done
 
 -- ---- a tick
 
--- the clients of a late question are told of a failed server; one that is due is asked again, with the ID
+-- the clients of a late question are told of a failed server; one that is due is asked again by a datagram, with the ID
 abbrev pub tick_sends : ℕ → ℕ → ℕ → Slot → List Sent
 tick_sends now slot id None = []
 tick_sends now slot id (Some waiting) =
     if is_late now waiting then map failed (clients_of waiting)
-    else (if is_due now waiting then to_upstream slot (ask_octets waiting.asker.question id) ∷ [] else [])
+    else (if is_due now waiting
+    then to_upstream slot Datagram (ask_octets waiting.asker.question id) ∷ [] else [])
 
 -- slot by slot from that number on, with the IDs in order
 abbrev pub ticks_from : ℕ → ℕ → List ℕ → List Slot → List Sent
@@ -294,14 +336,14 @@ tick_done now ids table =
 
 -- what an event does, where these batches make the version, these IDs are drawn, and memory is wanted for this
 abbrev pub IsDoneBy : List (List Label) → List Slot → List Batch → Moment → List ℕ → List ℕ → Want → Came → Done → Type 0
-IsDoneBy passed table seen moment octets ids want (Query client) done =
+IsDoneBy passed table seen moment octets ids want (Query client carrier) done =
     (read : QueryRead) × IsReadAs octets read × (want ≡ Nothing)
-    × (done ≡ query_done passed table moment (get_or ids 0 0) seen client read)
-IsDoneBy passed table seen moment octets ids want (Answer slot) done =
-    IsAnswered passed table slot moment.seconds octets want done
+    × (done ≡ query_done passed table moment (get_or ids 0 0) seen client carrier read)
+IsDoneBy passed table seen moment octets ids want (Answer slot carrier) done =
+    IsAnswered passed table slot carrier (get_or ids 0 0) moment.seconds octets want done
 IsDoneBy passed table seen moment octets ids want Tick done =
     (want ≡ Nothing) × (done ≡ tick_done moment.millis ids table)
 
 abbrev pub IsDone : List (List Label) → List Slot → List Batch → Event → List ℕ → Want → Done → Type 0
 IsDone passed table seen event ids want done =
-    IsDoneBy passed table seen event.moment event.octets ids want event.came done
+    IsDoneBy passed table seen event.moment event.octets.items ids want event.came done

@@ -4,10 +4,10 @@ use Rattle.std.specs.List.{flat_map}
 use Rattle.byteorder.specs.Endian.{big_bytes, big_number}
 use Rattle.dnswire.specs.declared.message.Message.{Message}
 use Rattle.dnswire.specs.declared.question.Question.{Question}
-use Rattle.reply_core.specs.Relay.{relay_octets, relay_upper}
-use Rattle.reply_core.specs.Reply.{opt_octets, limit_of}
+use Rattle.reply_core.specs.Relay.{relay_upper, relay_within}
+use Rattle.reply_core.specs.Reply.{opt_octets}
 use Rattle.resolver.specs.Walk.{Walk}
-use Rattle.resolver.specs.WalkReply.{walk_octets}
+use Rattle.resolver.specs.WalkReply.{walk_within}
 use Rattle.forwarding.specs.Options.{EdnsOption, IsOption, option_octets, option_size, opt_data, opt_with, room_in, told, can_take}
 use Rattle.forwarding.specs.declared.extended_error.TheConstants.{EXTENDED_ERROR, SYNTHESIZED}
 
@@ -17,18 +17,20 @@ use Rattle.forwarding.specs.declared.extended_error.TheConstants.{EXTENDED_ERROR
 abbrev pub synthesized_option : EdnsOption
 synthesized_option = record { code = EXTENDED_ERROR; value = big_bytes 2 SYNTHESIZED }
 
--- the reply with the mark, where it is synthesized and can have it; else the reply, octet for octet
-abbrev pub marked : Question → Bool → List ℕ → List ℕ
-marked question synthesized reply =
-    if synthesized then told question.edns (option_octets synthesized_option) reply else reply
+-- the reply with the mark, where it is synthesized and can have it within the limit; else the reply, octet for octet
+abbrev pub marked : ℕ → Question → Bool → List ℕ → List ℕ
+marked limit question synthesized reply =
+    if synthesized then told limit question.edns (option_octets synthesized_option) reply
+    else reply
 
 -- a walk's reply ends in an OPT record where the client has one, and the mark is that record's one option
 abbrev pub MarkIsAnOption : Type 0
 MarkIsAnOption =
-    (question : Question) (walk : Walk) (ttl : ℕ) → (front : List ℕ)
-    × (walk_octets question walk ttl ≡ front ++ opt_octets 0 question.edns)
-    × (can_take question.edns (option_octets synthesized_option) (walk_octets question walk ttl) ≡ true
-    → marked question true (walk_octets question walk ttl)
+    (limit : ℕ) (question : Question) (walk : Walk) (ttl : ℕ) → (front : List ℕ)
+    × (walk_within limit question walk ttl ≡ front ++ opt_octets 0 question.edns)
+    × (can_take limit question.edns (option_octets synthesized_option)
+    (walk_within limit question walk ttl) ≡ true
+    → marked limit question true (walk_within limit question walk ttl)
     ≡ front ++ opt_with 0 question.edns (option_octets synthesized_option))
 
 -- ---- the resolver's own extended errors
@@ -70,21 +72,23 @@ errors_after (suc more) room octets errors = behind_one errors
 abbrev pub errors_in : ℕ → List ℕ → List ℕ
 errors_in room octets = errors_after (length octets) room octets []
 
--- the relay with the message's extended errors, as far as there is room
-abbrev pub told_relay : Question → Message → List ℕ
-told_relay question message =
-    told question.edns
-    (errors_in (room_in question.edns (relay_octets question message)) (opt_data message.additional))
-    (relay_octets question message)
+-- the relay within the limit, with the message's extended errors, as far as there is room
+abbrev pub told_relay : ℕ → Question → Message → List ℕ
+told_relay limit question message =
+    let relay = relay_within limit question message in
+    told limit question.edns (errors_in (room_in limit relay) (opt_data message.additional)) relay
 
 -- Of an OPT record with these options, those that are extended errors are passed on, as far as there is room: they are the data
 -- of the relay's own OPT record, and a client without one gets none. Octets at whose front no
 -- whole option stands are left out.
 abbrev pub ErrorsArePassedOn : Type 0
 ErrorsArePassedOn =
-    (question : Question) (message : Message) (options : List EdnsOption) (tail : List ℕ) → All IsOption options
-    → option_size tail ≡ None → opt_data message.additional ≡ flat_map option_octets options ++ tail → (front : List ℕ)
-    × (relay_octets question message ≡ front ++ opt_octets (relay_upper question message) question.edns)
-    × (told_relay question message ≡ front ++ opt_with (relay_upper question message) question.edns
+    (limit : ℕ) (question : Question) (message : Message) (options : List EdnsOption) (tail : List ℕ)
+    → All IsOption options → option_size tail ≡ None
+    → opt_data message.additional ≡ flat_map option_octets options ++ tail → (front : List ℕ)
+    × (relay_within limit question message
+    ≡ front ++ opt_octets (relay_upper question message) question.edns)
+    × (told_relay limit question message
+    ≡ front ++ opt_with (relay_upper question message) question.edns
     (flat_map option_octets
-    (fitting (room_in question.edns (relay_octets question message)) (filter is_extended_error options))))
+    (fitting (room_in limit (relay_within limit question message)) (filter is_extended_error options))))

@@ -2,33 +2,40 @@
 use Rattle.std.specs.Prelude.{◌≡◌, ℕ, ◌<◌, Bool, List, [], ◌∷◌, ◌++◌, length, map, Option, option_map, IfSome}
 use Rattle.std.specs.List.{All, flat_map}
 use mathlib.Core.List.{IsPrefix}
+use Rattle.arrivals.specs.declared.event.Event.{Event}
 use Rattle.counters.specs.Counts.{counted, no_counts}
 use Rattle.dname.specs.Name.{Label}
 use Rattle.denial_records.specs.declared.batch.Batch.{Batch}
 use Rattle.waiting_table.specs.Waiting.{Slot, empty_table}
 use Rattle.forwarding.specs.Done.{Done, IsDone}
 use Rattle.forwarding.specs.Turn.{Turn, AreTurns, IsKeptAt, sends_of}
-use Rattle.forwarding.specs.declared.event.Event.{Event}
 use Rattle.forwarding.specs.declared.sent.Sent.{Sent}
 use Rattle.forwarding.specs.declared.want.Want.{Want}
 
--- what an outlet carried so far
+-- the names that are passed, as the outlet was told when it was opened, and what it carried so far
 pub record Told : Type 0 where
+  pub passes : List (List Label)
   pub received : List Event
   pub sent : List Sent
 
--- the events received so far did these turns, by this history, from an empty table; what was sent is what they say, up to some of it
+-- the passed names are the outlet's; the events received so far did these turns, by this history, from an empty table; what was sent
+-- is what they say, up to some of it
 pub record IsLawful (passed : List (List Label)) (history : List Batch) (told : Told) : Type 0 where
+  pub passes_are : told.passes ≡ passed
   pub turns : List Turn
   pub events_are : told.received ≡ map (λ turn. turn.event) turns
   pub are : AreTurns passed history empty_table turns
   pub begins : IsPrefix told.sent (sends_of turns)
 
+-- before anything was carried
+abbrev pub new_told : List (List Label) → Told
+new_told passed = record { passes = passed; received = []; sent = [] }
+
 abbrev pub with_event : Event → Told → Told
-with_event event before = record { received = before.received ++ event ∷ []; sent = before.sent }
+with_event event before = record before { received = before.received ++ event ∷ [] }
 
 abbrev pub with_sends : List Sent → Told → Told
-with_sends sends before = record { received = before.received; sent = before.sent ++ sends }
+with_sends sends before = record before { sent = before.sent ++ sends }
 
 -- and then this was received
 abbrev pub more_received : Option Told → Event → Option Told
@@ -46,9 +53,9 @@ MaySendAll passed history told sends = IfSome (more_sent told sends) (IsLawful p
 abbrev pub MaySend : List (List Label) → List Batch → Option Told → Sent → Type 0
 MaySend passed history told one = MaySendAll passed history told (one ∷ [])
 
--- nothing was carried yet
-abbrev pub IsNew : Option Told → Type 0
-IsNew told = IfSome told (λ before. (before.received ≡ []) × (before.sent ≡ []))
+-- these names are passed, and nothing was carried yet
+abbrev pub IsNew : List (List Label) → Option Told → Type 0
+IsNew passed told = IfSome told (λ before. before ≡ new_told passed)
 
 -- ---- a worker
 
@@ -61,8 +68,9 @@ left_by table (turn ∷ later) = left_by turn.done.table later
 abbrev pub counts_of : List Turn → List ℕ
 counts_of turns = counted (flat_map (λ turn. turn.done.tallies) turns) no_counts
 
--- all that was received was done, all of it was sent, and it was counted
+-- the passed names are the outlet's; all that was received was done, all of it was sent, and it was counted
 pub record HasServed (passed : List (List Label)) (history : List Batch) (table : List Slot) (counts : List ℕ) (told : Told) : Type 0 where
+  pub passes_are : told.passes ≡ passed
   pub turns : List Turn
   pub events_are : told.received ≡ map (λ turn. turn.event) turns
   pub are : AreTurns passed history empty_table turns

@@ -1,9 +1,11 @@
+pub mod Limit
 pub mod Passed
 pub mod Done
 pub mod Turn
 pub mod Lawful
 pub mod Laws
 pub mod Stored
+pub mod Buffers
 pub mod Ends
 pub mod Holding
 pub mod MemoryOutlet

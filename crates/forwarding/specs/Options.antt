@@ -1,5 +1,5 @@
 -- The options of an OPT record, which are its data (RFC 6891, section 6.1.2).
-use Rattle.std.specs.Prelude.{ℕ, ◌+◌, ◌-◌, ◌^◌, ◌<◌, Bool, ◌&&◌, if◌then◌else◌, nat_eq, nat_lt, nat_le, is_some, List, [], ◌∷◌, ◌++◌, length, take, drop, Option, Some, None}
+use Rattle.std.specs.Prelude.{ℕ, ◌+◌, ◌-◌, ◌^◌, ◌<◌, min, Bool, ◌&&◌, if◌then◌else◌, nat_eq, nat_lt, nat_le, is_some, List, [], ◌∷◌, ◌++◌, length, take, drop, Option, Some, None}
 use Rattle.byteorder.specs.Endian.{big_bytes, big_number}
 use Rattle.dname.specs.Name.{wire_of}
 use Rattle.dname.specs.declared.types.TheConstants.{OPT_TYPE}
@@ -7,7 +7,7 @@ use Rattle.dnswire.specs.Message.{is_root}
 use Rattle.dnswire.specs.declared.edns.Edns.{Edns}
 use Rattle.dnswire.specs.declared.edns.TheConstants.{DO}
 use Rattle.dnswire.specs.declared.rr.Rr.{Rr}
-use Rattle.reply_core.specs.Reply.{flag, limit_of}
+use Rattle.reply_core.specs.Reply.{flag}
 use Rattle.reply_core.specs.declared.draft.TheConstants.{MAX_REPLY}
 
 pub record EdnsOption : Type 0 where
@@ -37,23 +37,24 @@ opt_with upper (Some edns) options =
 abbrev pub with_options : List ℕ → List ℕ → List ℕ
 with_options options reply = take (length reply - 2) reply ++ big_bytes 2 (length options) ++ options
 
--- the octets that the reply may have more, by what the client takes
-abbrev pub room_in : Option Edns → List ℕ → ℕ
-room_in edns reply = limit_of edns - length reply
+-- the octets of options that the reply may have: 1232 at most, by a stream too
+abbrev pub room_in : ℕ → List ℕ → ℕ
+room_in limit reply = min MAX_REPLY (limit - length reply)
 
 -- a record that ends the reply has no data, if one does
 abbrev pub has_no_data : List ℕ → Bool
 has_no_data reply = nat_le 2 (length reply) && nat_eq (big_number 2 (drop (length reply - 2) reply)) 0
 
--- there are some, the client sent an OPT record, the reply's has none yet, and the reply stays within what the client takes
-abbrev pub can_take : Option Edns → List ℕ → List ℕ → Bool
-can_take edns options reply =
+-- there are some, the client sent an OPT record, the reply's has none yet, and the reply stays within the limit
+abbrev pub can_take : ℕ → Option Edns → List ℕ → List ℕ → Bool
+can_take limit edns options reply =
     is_some edns && nat_lt 0 (length options) && has_no_data reply
-    && nat_le (length reply + length options) (limit_of edns)
+    && nat_le (length reply + length options) limit
 
 -- the reply with them where that can be, else the reply
-abbrev pub told : Option Edns → List ℕ → List ℕ → List ℕ
-told edns options reply = if can_take edns options reply then with_options options reply else reply
+abbrev pub told : ℕ → Option Edns → List ℕ → List ℕ → List ℕ
+told limit edns options reply =
+    if can_take limit edns options reply then with_options options reply else reply
 
 -- ---- what is read
 

@@ -1,6 +1,7 @@
 -- What one worker did of the events that came to it, in their order.
 use Rattle.std.specs.Prelude.{◌≡◌, ℕ, ◌-◌, ◌<◌, ◌≤◌, Bool, true, false, List, [], ◌∷◌, length, take, slice_get, Option, Some, None}
 use Rattle.std.specs.List.{All, flat_map}
+use Rattle.arrivals.specs.declared.event.Event.{Event}
 use Rattle.dname.specs.Name.{Label}
 use Rattle.dnswire.specs.Query.{IsReadAs}
 use Rattle.dnswire.specs.declared.question.Question.{Question}
@@ -12,7 +13,6 @@ use Rattle.resolver.specs.declared.answering.Answering.TheVariants.{ByWalk}
 use Rattle.resolver.specs.declared.rule.Rule.TheVariants.{Both}
 use Rattle.waiting_table.specs.Waiting.{Slot}
 use Rattle.forwarding.specs.Done.{Done, IsDone}
-use Rattle.forwarding.specs.declared.event.Event.{Event}
 use Rattle.forwarding.specs.declared.sent.Sent.{Sent}
 use Rattle.forwarding.specs.declared.want.Want.{Want}
 
@@ -40,7 +40,7 @@ IsKeptAt history version (Some batch) false = version ≡ LAST
 -- what the records of the version prove of the question is true of every zone of which they are
 abbrev pub IsSoundDone : List Batch → Event → Type 0
 IsSoundDone seen event =
-    (question : Question) → IsReadAs event.octets (reads.Query question)
+    (question : Question) → IsReadAs event.octets.items (reads.Query question)
     → IsSoundBy (ByWalk Both) (held_of seen) question event.moment.seconds
 
 -- the event did this to the table, at its version

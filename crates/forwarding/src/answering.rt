@@ -1,37 +1,41 @@
 //! An answer of the upstream.
-ghost use Rattle.std.specs.Prelude.{◌≡◌, ◌≤◌, ◌<◌, length, Some, None, IfOk, IfSome, OnOk};
+ghost use Rattle.std.specs.Prelude.{◌≡◌, ◌≤◌, ◌<◌, false, length, true, Some, None, IfOk, IfSome, OnOk};
 ghost use mathlib.Core.List.{IsPrefix};
+ghost use Rattle.arrivals.specs.declared.came.Came.TheVariants as comes;
+ghost use Rattle.arrivals.specs.declared.carrier.Carrier.TheVariants as carriers;
 ghost use Rattle.cache_versions.specs.Seats.{seen_by};
 ghost use Rattle.counters.specs.Counts.{times, with_tally};
 ghost use Rattle.resolver.specs.Caches.{IsSeatOf};
 ghost use Rattle.dnswire.specs.declared.wire_fault.WireFault.{WireFault};
 ghost use Rattle.reply_core.specs.declared.rcode.TheConstants.{MAX_RCODE};
-ghost use Rattle.waiting_table.specs.Waiting.{clients_in, slot_at};
+ghost use Rattle.waiting_table.specs.Waiting.{clients_in, fits, slot_at};
 ghost use Rattle.waiting_table.specs.declared.waiting_table.TheConstants.{SLOTS};
-ghost use Rattle.forwarding.specs.declared.event.Came.TheVariants as comes;
-ghost use Rattle.forwarding.specs.Done.{IsAnswer, bare_id, is_bare_for, relayed_with, trusted};
+ghost use Rattle.forwarding.specs.Done.{IsAnswer, bare_id, is_bare_for, is_cut, relayed_with, trusted};
 ghost use Rattle.forwarding.specs.Lawful.{IsAtWork, IsCalled};
 
+use crate::asking::ask;
+use crate::buffers::Buffers;
 use crate::counting::relayed_with;
 use crate::storing::store;
 use crate::telling::{fail_all, relay_all};
-use crate::{Event, Outlet, PassedNames, each_turn_is_lawful};
+use crate::{Dice, Outlet, PassedNames, each_turn_is_lawful};
+use arrivals::{Carrier, Event};
 use counters::{Counter, Counts};
 use dname::{OutOfMemory, u16_at};
 use dnswire::flags::TC;
 use dnswire::{HeaderFlags, Message, WireFault, read_message};
-use reply_core::ReplyBuffer;
 use reply_core::rcode::{NAME_ERROR, NO_ERROR};
 use resolver::{CacheSeat, SharedCache};
 use std::alloc::{AllocError, Global};
 use std::sync::Wait;
 use waiting_table::WaitingTable;
 
-/// Does what a datagram of the upstream asks for, which came over the slot's socket.
-pub(crate) fn serve_answer<R: Wait, O: Outlet>(
+/// Does what a message of the upstream asks for, which came over the slot's socket, of this carrier.
+pub(crate) fn serve_answer<R: Wait, O: Outlet, D: Dice>(
     rt: &R,
     alloc: Global,
     outlet: &mut O,
+    dice: &D,
     cache: &SharedCache,
     seat: &mut CacheSeat,
     passed: &PassedNames,
@@ -39,11 +43,12 @@ pub(crate) fn serve_answer<R: Wait, O: Outlet>(
     counts: &mut Counts,
     event: &Event,
     slot: usize,
-    out: &mut ReplyBuffer,
+    carrier: Carrier,
+    out: &mut Buffers,
 )
     requires object { IsSeatOf cache.now seat.old }
     requires slot { slot < SLOTS }
-    requires answer { event.now.came ≡ comes.Answer slot }
+    requires answer { event.now.came ≡ comes.Answer slot carrier }
     requires called { IsCalled passed.now (seen_by seat.old) table.old counts.old event.now
         (O.Outlet.told outlet.old) }
     ensures object { IsSeatOf cache.now seat.new }
@@ -56,9 +61,12 @@ pub(crate) fn serve_answer<R: Wait, O: Outlet>(
             each_turn_is_lawful();
             counts.add(Counter::Unread, 1);
         }
-        Ok(None) => serve_bare(outlet, cache, seat, passed, table, counts, event, slot, out),
+        Ok(None) => serve_bare(
+            outlet, cache, seat, passed, table, counts, event, slot, carrier,
+        ),
         Ok(Some(message)) => serve_message(
-            rt, alloc, outlet, cache, seat, passed, table, counts, event, slot, message, out,
+            rt, alloc, outlet, dice, cache, seat, passed, table, counts, event, slot, carrier,
+            message, out,
         ),
     }
 }
@@ -73,34 +81,35 @@ fn serve_bare<O: Outlet>(
     counts: &mut Counts,
     event: &Event,
     slot: usize,
-    out: &mut ReplyBuffer,
+    carrier: Carrier,
 )
     requires object { IsSeatOf cache.now seat.now }
     requires slot { slot < SLOTS }
-    requires answer { event.now.came ≡ comes.Answer slot }
-    requires none { IsAnswer event.now.octets None }
+    requires answer { event.now.came ≡ comes.Answer slot carrier }
+    requires none { IsAnswer event.now.octets.items None }
     requires called { IsCalled passed.now (seen_by seat.now) table.old counts.old event.now
         (O.Outlet.told outlet.old) }
     ensures { IsAtWork passed.now (seen_by seat.now) table.new counts.new
         (O.Outlet.told outlet.new) }
 {
     each_turn_is_lawful();
-    if !is_bare_for(table, slot, event) {
+    if !is_bare_for(table, slot, carrier, event) {
         counts.add(Counter::Ignored, 1);
         return;
     }
     counts.add(Counter::Unreadable, table.clients(slot) as u64);
-    fail_all(outlet, cache, seat, passed, table, slot, out);
+    fail_all(outlet, cache, seat, passed, table, slot);
     table.free(slot);
 }
 
-// Whether it has no question, and the ID with which the slot's question was asked.
-fn is_bare_for(table: &WaitingTable, slot: usize, event: &Event) -> bool
+// Whether it has no question, and the ID with which the slot's question was asked, by its carrier.
+fn is_bare_for(table: &WaitingTable, slot: usize, carrier: Carrier, event: &Event) -> bool
     requires { slot < SLOTS }
-    ensures { result ≡ is_bare_for (slot_at table.now slot) (bare_id event.now.octets) }
+    ensures { result
+        ≡ is_bare_for (slot_at table.now slot) carrier (bare_id event.now.octets.items) }
 {
     match bare_id(event.octets.as_slice()) {
-        Some(id) => table.has_id(slot, id),
+        Some(id) => table.has_id(slot, carrier, id),
         None => false,
     }
 }
@@ -118,8 +127,121 @@ fn bare_id(octets: &[u8]) -> Option<u16>
     Some(u16_at(octets, 0))
 }
 
-// An answer to the slot's question is stored, and then goes to all clients that wait for it.
-fn serve_message<R: Wait, O: Outlet>(
+// An answer to the slot's question is relayed, unless it was cut short.
+fn serve_message<R: Wait, O: Outlet, D: Dice>(
+    rt: &R,
+    alloc: Global,
+    outlet: &mut O,
+    dice: &D,
+    cache: &SharedCache,
+    seat: &mut CacheSeat,
+    passed: &PassedNames,
+    table: &mut WaitingTable,
+    counts: &mut Counts,
+    event: &Event,
+    slot: usize,
+    carrier: Carrier,
+    message: Message,
+    out: &mut Buffers,
+)
+    requires object { IsSeatOf cache.now seat.old }
+    requires slot { slot < SLOTS }
+    requires answer { event.now.came ≡ comes.Answer slot carrier }
+    requires message { IsAnswer event.now.octets.items (Some message) }
+    requires rcode { message.rcode ≤ MAX_RCODE }
+    requires called { IsCalled passed.now (seen_by seat.old) table.old counts.old event.now
+        (O.Outlet.told outlet.old) }
+    ensures object { IsSeatOf cache.now seat.new }
+    ensures begins { IsPrefix (seen_by seat.old) (seen_by seat.new) }
+    ensures work { IsAtWork passed.now (seen_by seat.new) table.new counts.new
+        (O.Outlet.told outlet.new) }
+{
+    if !fits(table, slot, carrier, &message) {
+        each_turn_is_lawful();
+        counts.add(Counter::Ignored, 1);
+        return;
+    }
+    if is_cut(carrier, &message) {
+        serve_cut(
+            outlet, dice, cache, seat, passed, table, counts, event, slot, &message,
+        );
+        return;
+    }
+    serve_whole(
+        rt, alloc, outlet, cache, seat, passed, table, counts, event, slot, carrier, message, out,
+    );
+}
+
+// Whether the message is an answer to the slot's question.
+fn fits(table: &WaitingTable, slot: usize, carrier: Carrier, message: &Message) -> bool
+    requires { slot < SLOTS }
+    ensures { result ≡ fits carrier message.now.id message.now.name message.now.qtype
+        message.now.qclass (slot_at table.now slot) }
+{
+    table.fits(
+        slot,
+        carrier,
+        message.id,
+        &message.name,
+        message.qtype,
+        message.qclass,
+    )
+}
+
+// Whether it was cut short to go into a datagram.
+fn is_cut(carrier: Carrier, message: &Message) -> bool
+    ensures { result ≡ is_cut carrier message.now }
+{
+    match carrier {
+        Carrier::Datagram => message.flags.has_tc(),
+        Carrier::Stream => false,
+    }
+}
+
+// The slot's question is asked by a stream, since its answer was cut short.
+fn serve_cut<O: Outlet, D: Dice>(
+    outlet: &mut O,
+    dice: &D,
+    cache: &SharedCache,
+    seat: &CacheSeat,
+    passed: &PassedNames,
+    table: &mut WaitingTable,
+    counts: &mut Counts,
+    event: &Event,
+    slot: usize,
+    message: &Message,
+)
+    requires object { IsSeatOf cache.now seat.now }
+    requires slot { slot < SLOTS }
+    requires answer { event.now.came ≡ comes.Answer slot carriers.Datagram }
+    requires message { IsAnswer event.now.octets.items (Some message.now) }
+    requires fits { fits carriers.Datagram message.now.id message.now.name message.now.qtype
+        message.now.qclass (slot_at table.old slot) ≡ true }
+    requires cut { is_cut carriers.Datagram message.now ≡ true }
+    requires called { IsCalled passed.now (seen_by seat.now) table.old counts.old event.now
+        (O.Outlet.told outlet.old) }
+    ensures { IsAtWork passed.now (seen_by seat.now) table.new counts.new
+        (O.Outlet.told outlet.new) }
+{
+    each_turn_is_lawful();
+    let id = dice.draw();
+    counts.add(Counter::AskedByStream, 1);
+    let by = Carrier::Stream;
+    ask(
+        outlet,
+        cache,
+        seat,
+        passed,
+        slot,
+        by,
+        table.question(slot),
+        id,
+    );
+    table.ask_by_stream(slot, id);
+}
+
+// The answer is stored, and then goes to all clients that wait for it.
+fn serve_whole<R: Wait, O: Outlet>(
     rt: &R,
     alloc: Global,
     outlet: &mut O,
@@ -130,14 +252,18 @@ fn serve_message<R: Wait, O: Outlet>(
     counts: &mut Counts,
     event: &Event,
     slot: usize,
+    carrier: Carrier,
     message: Message,
-    out: &mut ReplyBuffer,
+    out: &mut Buffers,
 )
     requires object { IsSeatOf cache.now seat.old }
     requires slot { slot < SLOTS }
-    requires answer { event.now.came ≡ comes.Answer slot }
-    requires message { IsAnswer event.now.octets (Some message) }
+    requires answer { event.now.came ≡ comes.Answer slot carrier }
+    requires message { IsAnswer event.now.octets.items (Some message) }
     requires rcode { message.rcode ≤ MAX_RCODE }
+    requires fits { fits carrier message.id message.name message.qtype message.qclass
+        (slot_at table.old slot) ≡ true }
+    requires whole { is_cut carrier message ≡ false }
     requires called { IsCalled passed.now (seen_by seat.old) table.old counts.old event.now
         (O.Outlet.told outlet.old) }
     ensures object { IsSeatOf cache.now seat.new }
@@ -146,16 +272,6 @@ fn serve_message<R: Wait, O: Outlet>(
         (O.Outlet.told outlet.new) }
 {
     each_turn_is_lawful();
-    if !table.fits(
-        slot,
-        message.id,
-        &message.name,
-        message.qtype,
-        message.qclass,
-    ) {
-        counts.add(Counter::Ignored, 1);
-        return;
-    }
     counts.add(store(rt, alloc, cache, seat, passed, event), 1);
     count_relay(table, slot, message.rcode, counts);
     let message = trusted(message);
@@ -186,9 +302,9 @@ fn trusted(message: Message) -> Message
     message
 }
 
-// The answer of a standard query that the datagram is, if it is one.
+// The answer of a standard query that the message is, if it is one.
 fn answer_in(alloc: Global, event: &Event) -> Result<Option<Message>, OutOfMemory>
-    ensures answer { IfOk result (IsAnswer event.now.octets) }
+    ensures answer { IfOk result (IsAnswer event.now.octets.items) }
     ensures rcode { IfOk result (λ answer.
         IfSome answer (λ message. message.rcode ≤ MAX_RCODE)) }
 {

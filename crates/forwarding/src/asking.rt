@@ -1,5 +1,6 @@
 //! A client waits for the upstream's answer.
 ghost use Rattle.std.specs.Prelude.{◌≡◌, ◌<◌, ◌∷◌, [], map};
+ghost use Rattle.arrivals.specs.declared.carrier.Carrier.TheVariants.{Datagram};
 ghost use Rattle.cache_versions.specs.Seats.{seen_by};
 ghost use Rattle.counters.specs.Counts.{counted};
 ghost use Rattle.resolver.specs.Caches.{IsSeatOf};
@@ -12,6 +13,7 @@ ghost use Rattle.forwarding.specs.Lawful.{MaySend, MaySendAll, more_sent};
 
 use crate::telling::fail_all;
 use crate::{Outlet, PassedNames};
+use arrivals::Carrier;
 use counters::{Counter, Counts};
 use dnswire::Question;
 use reply_core::{ReplyBuffer, write_ask};
@@ -28,23 +30,24 @@ pub(crate) fn wait<O: Outlet>(
     table: &mut WaitingTable,
     place: Place,
     client: u64,
+    carrier: Carrier,
     question: &Question,
     id: u16,
     now: u64,
-    out: &mut ReplyBuffer,
 )
     requires object { IsSeatOf cache.now seat.now }
     requires place { place ≡ place_for question.now table.old }
     requires within { place_slot place < SLOTS }
     requires lawful { MaySendAll passed.now (seen_by seat.now) (O.Outlet.told outlet.old)
-        (waits table.old now id (client_of client question.now)).sends }
-    ensures table { table.new ≡ (waits table.old now id (client_of client question.now)).table }
+        (waits table.old now id (client_of client carrier question.now)).sends }
+    ensures table { table.new
+        ≡ (waits table.old now id (client_of client carrier question.now)).table }
     ensures told { O.Outlet.told outlet.new ≡ more_sent (O.Outlet.told outlet.old)
-        (waits table.old now id (client_of client question.now)).sends }
+        (waits table.old now id (client_of client carrier question.now)).sends }
 {
-    give_up(outlet, cache, seat, passed, table, place, out);
-    ask_at(outlet, cache, seat, passed, place, question, id, out);
-    table.enter(place, client, question, id, now);
+    give_up(outlet, cache, seat, passed, table, place);
+    ask_at(outlet, cache, seat, passed, place, question, id);
+    table.enter(place, client, carrier, question, id, now);
 }
 
 // Those who wait where another question is to wait are told of a failed server.
@@ -55,7 +58,6 @@ fn give_up<O: Outlet>(
     passed: &PassedNames,
     table: &WaitingTable,
     place: Place,
-    out: &mut ReplyBuffer,
 )
     requires object { IsSeatOf cache.now seat.now }
     requires within { place_slot place < SLOTS }
@@ -67,11 +69,11 @@ fn give_up<O: Outlet>(
     match place {
         Place::Joins { slot: _ } => {}
         Place::Fills { slot: _ } => {}
-        Place::Replaces { slot } => fail_all(outlet, cache, seat, passed, table, slot, out),
+        Place::Replaces { slot } => fail_all(outlet, cache, seat, passed, table, slot),
     }
 }
 
-// The question is asked, unless its client joins.
+// The question is asked by a datagram, unless its client joins.
 fn ask_at<O: Outlet>(
     outlet: &mut O,
     cache: &SharedCache,
@@ -80,7 +82,6 @@ fn ask_at<O: Outlet>(
     place: Place,
     question: &Question,
     id: u16,
-    out: &mut ReplyBuffer,
 )
     requires object { IsSeatOf cache.now seat.now }
     requires lawful { MaySendAll passed.now (seen_by seat.now) (O.Outlet.told outlet.old)
@@ -91,30 +92,32 @@ fn ask_at<O: Outlet>(
     match place {
         Place::Joins { slot: _ } => {}
         Place::Fills { slot } | Place::Replaces { slot } => {
-            ask(outlet, cache, seat, passed, slot, question, id, out);
+            let by = Carrier::Datagram;
+            ask(outlet, cache, seat, passed, slot, by, question, id);
         }
     }
 }
 
-/// The question is asked of the upstream, for the slot.
+/// The question is asked of the upstream by the carrier, for the slot.
 pub(crate) fn ask<O: Outlet>(
     outlet: &mut O,
     cache: &SharedCache,
     seat: &CacheSeat,
     passed: &PassedNames,
     slot: usize,
+    carrier: Carrier,
     question: &Question,
     id: u16,
-    out: &mut ReplyBuffer,
 )
     requires object { IsSeatOf cache.now seat.now }
     requires lawful { MaySend passed.now (seen_by seat.now) (O.Outlet.told outlet.old)
-        (to_upstream slot (ask_octets question.now id)) }
+        (to_upstream slot carrier (ask_octets question.now id)) }
     ensures { O.Outlet.told outlet.new ≡ more_sent (O.Outlet.told outlet.old)
-        (to_upstream slot (ask_octets question.now id) ∷ []) }
+        (to_upstream slot carrier (ask_octets question.now id) ∷ []) }
 {
-    write_ask(question, id, out);
-    outlet.ask(cache, seat, passed, slot, out.as_slice());
+    let mut out = ReplyBuffer::new();
+    write_ask(question, id, &mut out);
+    outlet.ask(cache, seat, passed, slot, carrier, out.as_slice());
 }
 
 /// Counts a client that is to wait there, and those of a question that is given up for it.

@@ -1,4 +1,5 @@
-use crate::{Event, Sent};
+use crate::Sent;
+use arrivals::Event;
 
 /// What goes over an outlet.
 #[derive(Debug, Drop)]

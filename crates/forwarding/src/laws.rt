@@ -1,6 +1,6 @@
 //! What holds of every turn, and of every run of turns.
 ghost use Rattle.forwarding.specs.Lawful.{EachTurnIsLawful};
-ghost use Rattle.forwarding.specs.Laws.{EachQueryIsRepliedToOnce, EachTurnIsAStep, NoneIsAskedTwice, NoneWaitsForLong, WhatIsDropped};
+ghost use Rattle.forwarding.specs.Laws.{EachIsAskedByStreamOnce, EachQueryIsRepliedToOnce, EachTurnIsAStep, NoneIsAskedTwice, NoneWaitsForLong, WhatIsDropped};
 
 use resolver::each_query_is_answered_soundly;
 
@@ -29,6 +29,11 @@ pub fn each_query_is_replied_to_once()
 /// No two questions wait that are one, unless one of them has 16 clients.
 pub fn none_is_asked_twice()
     ensures { NoneIsAskedTwice }
+{}
+
+/// A question that waits is asked by a stream once at most.
+pub fn each_is_asked_by_stream_once()
+    ensures { EachIsAskedByStreamOnce }
 {}
 
 /// After a tick no question has waited for 4.5 seconds or longer.

@@ -1,16 +1,16 @@
 //! A worker that forwards queries without end, and denies from the cache. Whatever it sends is lawful when it is sent: it is what the
 //! events that it received call for, by the one history of the cache.
 //!
-//! Its specs, in reading order: `Passed`, `Options` and `ExtendedError`, `Done`, `Turn`, `Lawful`, `Holding`, `Laws`; for the inner
-//! steps `Stored` and `Ends`, and for the outlet in memory `MemoryOutlet`.
+//! Its specs, in reading order: `Limit`, `Passed`, `Options` and `ExtendedError`, `Done`, `Turn`, `Lawful`, `Holding`, `Laws`; for the inner
+//! steps `Stored`, `Buffers` and `Ends`, and for the outlet in memory `MemoryOutlet`.
 #![tactic(auto)]
 
 mod answering;
 mod asking;
+mod buffers;
 mod carried;
 mod counting;
 mod dice;
-mod event;
 mod extended_error;
 mod holding;
 mod laws;
@@ -32,14 +32,14 @@ mod told_laws;
 mod want;
 mod worker;
 
+pub use arrivals::{Came, Carrier, Event, MAX_MESSAGE, MessageOctets, Moment};
 pub use carried::Carried;
 pub use dice::Dice;
-pub use event::{Came, Event, Moment};
 pub use extended_error::{EXTENDED_ERROR, SYNTHESIZED};
 pub use holding::Holding;
 pub use laws::{
-    each_query_is_replied_to_once, each_turn_is_a_step, each_turn_is_lawful, none_is_asked_twice,
-    none_waits_for_long, what_is_dropped,
+    each_is_asked_by_stream_once, each_query_is_replied_to_once, each_turn_is_a_step,
+    each_turn_is_lawful, none_is_asked_twice, none_waits_for_long, what_is_dropped,
 };
 pub use memory_outlet::MemoryOutlet;
 pub use outlet::Outlet;

@@ -1,5 +1,6 @@
 //! An outlet in memory.
 ghost use Rattle.std.specs.Prelude.{◌≡◌, ◌≤◌, ◌∷◌, [], length, Some, IfOk};
+ghost use Rattle.arrivals.specs.declared.event.TheConstants.{MAX_MESSAGE};
 ghost use Rattle.cache_versions.specs.Seats.{seen_by};
 ghost use Rattle.resolver.specs.Caches.{IsSeatOf};
 ghost use Rattle.forwarding.specs.Done.{to_client, to_upstream};
@@ -7,23 +8,25 @@ ghost use Rattle.forwarding.specs.Holding.{holding_of};
 ghost use Rattle.forwarding.specs.Lawful.{MaySend, MayShow, with_event, with_sends};
 ghost use Rattle.forwarding.specs.MemoryOutlet.{after_giving, after_receipt, after_showing, outlet_of, sent_to, told_by};
 
-use crate::{Carried, Event, Holding, Outlet, PassedNames, Receiver, Sent};
+use crate::{Carried, Holding, Outlet, PassedNames, Receiver, Sent};
+use arrivals::{Carrier, Event, MessageOctets};
 use counters::Counts;
-use outside_core::{DatagramOctets, OutOfMemory};
+use dname::OutOfMemory;
 use resolver::{CacheSeat, SharedCache};
 use std::alloc::{AllocError, Global};
 use std::marker::Model;
 use std::sync::Wait;
 
-/// An outlet in memory, with the room for all that goes over it, which it took when it was made. Where no event is left, `receive`
-/// waits without end, and so do `reply` and `ask` where no room is left.
+/// An outlet in memory that was opened for these passed names, with the room for all that goes over it, which it took when it was
+/// made. Where no event is left, `receive` waits without end, and so do `reply` and `ask` where no room is left.
 #[derive(Drop)]
 pub struct MemoryOutlet<'a, R: Wait> {
     rt: &'a R,
+    passed: &'a PassedNames,
     carried: Vec<Carried>,
     // The last is received next.
     incoming: Vec<Event>,
-    // How many more datagrams may be sent.
+    // How many more messages may be sent.
     room: usize,
     shown: Counts,
     holding: Holding,
@@ -36,6 +39,7 @@ impl<'a, R: Wait> Model for MemoryOutlet<'a, R> {
     ghost Value = { Carrying };
 
     ghost view = { λ o. record {
+      passes = o.passed.now;
       carried = o.carried.items;
       left = reverse o.incoming.items;
       room = o.room;
@@ -48,20 +52,22 @@ impl<'a, R: Wait> Model for MemoryOutlet<'a, R> {
 }
 
 impl<'a, R: Wait> MemoryOutlet<'a, R> {
-    /// An outlet that gives these events, in order, and has room to send so many datagrams.
+    /// An outlet that is opened for these passed names, gives these events, in order, and has room to send so many messages.
     pub fn with_room(
         rt: &'a R,
         alloc: Global,
+        passed: &'a PassedNames,
         events: Vec<Event>,
         room: usize,
     ) -> Result<MemoryOutlet<'a, R>, OutOfMemory>
-        ensures { IfOk result (λ outlet. outlet ≡ outlet_of events.items room) }
+        ensures { IfOk result (λ outlet. outlet ≡ outlet_of passed.now events.items room) }
     {
         let number = events.len().checked_add(room).ok_or(AllocError)?;
         let mut incoming = events;
         incoming.reverse();
         Ok(MemoryOutlet {
             rt,
+            passed,
             carried: Vec::with_capacity(alloc, number)?,
             incoming,
             room,
@@ -93,14 +99,14 @@ impl<'a, R: Wait> MemoryOutlet<'a, R> {
 
     // Keeps what is to be sent.
     fn keep(&mut self, receiver: Receiver, octets: &[u8])
-        requires { length octets.now ≤ 4096 }
+        requires { length octets.now ≤ MAX_MESSAGE }
         ensures room { 1 ≤ self.old.room }
         ensures after { self.new ≡ after_giving (sent_to receiver octets.now) self.old }
     {
         if self.room == 0 {
             wait_on(self.rt);
         }
-        let octets = DatagramOctets::of(octets);
+        let octets = octets_of(octets);
         let fitted = self
             .carried
             .push(Carried::Given(Sent { receiver, octets }))
@@ -117,8 +123,18 @@ fn copy_of(event: &Event) -> Event
     Event {
         moment: event.moment,
         came: event.came,
-        octets: event.octets.copy(),
+        octets: octets_of(event.octets.as_slice()),
     }
+}
+
+fn octets_of(octets: &[u8]) -> MessageOctets
+    requires { length octets.now ≤ MAX_MESSAGE }
+    ensures { result.items ≡ octets.now }
+{
+    let mut kept: MessageOctets = MessageOctets::new();
+    let fitted = kept.try_extend_from_slice(octets).is_ok();
+    prove!(fitted);
+    kept
 }
 
 // Waits without end.
@@ -158,7 +174,7 @@ impl<'a, R: Wait> Outlet for MemoryOutlet<'a, R> {
         octets: &[u8],
     )
         requires object { IsSeatOf cache.now seat.now }
-        requires fits { length octets.now ≤ 4096 }
+        requires fits { length octets.now ≤ MAX_MESSAGE }
         requires lawful { MaySend passed.now (seen_by seat.now) (Some (told_by self.old))
             (to_client client octets.now) }
         ensures told { told_by self.new
@@ -178,21 +194,22 @@ impl<'a, R: Wait> Outlet for MemoryOutlet<'a, R> {
         seat: &CacheSeat,
         passed: &PassedNames,
         slot: usize,
+        carrier: Carrier,
         octets: &[u8],
     )
         requires object { IsSeatOf cache.now seat.now }
         requires fits { length octets.now ≤ 4096 }
         requires lawful { MaySend passed.now (seen_by seat.now) (Some (told_by self.old))
-            (to_upstream slot octets.now) }
+            (to_upstream slot carrier octets.now) }
         ensures told { told_by self.new
-            ≡ with_sends (to_upstream slot octets.now ∷ []) (told_by self.old) }
+            ≡ with_sends (to_upstream slot carrier octets.now ∷ []) (told_by self.old) }
 
         // Beyond the trait: the outlet after the call follows from it.
         ensures room { 1 ≤ self.old.room }
-        ensures after { self.new ≡ after_giving (to_upstream slot octets.now) self.old }
+        ensures after { self.new ≡ after_giving (to_upstream slot carrier octets.now) self.old }
     {
         let (_cache, _seat, _passed) = (cache, seat, passed);
-        self.keep(Receiver::ToUpstream { slot }, octets);
+        self.keep(Receiver::ToUpstream { slot, carrier }, octets);
     }
 
     fn show(

@@ -1,31 +1,40 @@
 //! A query.
-ghost use Rattle.std.specs.Prelude.{◌≡◌, [], None};
+ghost use Rattle.std.specs.Prelude.{◌≡◌, ◌≤◌, [], length, None, IsSome};
 ghost use Rattle.std.specs.Option.{option_map};
 ghost use mathlib.Core.List.{IsPrefix};
+ghost use Rattle.arrivals.specs.declared.came.Came.TheVariants as comes;
+ghost use Rattle.arrivals.specs.declared.event.TheConstants.{MAX_MESSAGE};
 ghost use Rattle.cache_meaning.specs.Held.{nothing_held};
 ghost use Rattle.cache_versions.specs.Lends.{seat_in};
 ghost use Rattle.cache_versions.specs.Seats.{IsSameSeat, opening_by, seen_by};
+ghost use Rattle.counters.specs.declared.counter.Counter.TheVariants as counters;
+ghost use Rattle.reply_core.specs.Error.{error_octets, plain_octets};
+ghost use Rattle.reply_core.specs.declared.draft.TheConstants.{MAX_LONG_REPLY};
+ghost use Rattle.reply_core.specs.declared.rcode.TheConstants.{BAD_VERSION, FORMAT_ERROR, NOT_IMPLEMENTED};
 ghost use Rattle.resolver.specs.Caches.{HasGoneOn, IsSeatOf};
 ghost use Rattle.dnswire.specs.Query.{IsReadAs};
+ghost use Rattle.dnswire.specs.declared.edns.TheConstants.{LEAST_PAYLOAD};
 ghost use Rattle.dnswire.specs.declared.query_read.QueryRead.TheVariants as reads;
-ghost use Rattle.forwarding.specs.declared.event.Came.TheVariants as comes;
 ghost use Rattle.forwarding.specs.declared.want.Want.TheVariants as wants;
-ghost use Rattle.forwarding.specs.Done.{IsDone, found, found_as, proved, told_once};
+ghost use Rattle.forwarding.specs.Buffers.{octets_in};
+ghost use Rattle.forwarding.specs.Done.{IsDone, found, found_as, found_within, proved, told_once};
 ghost use Rattle.forwarding.specs.Lawful.{IsAtWork, IsCalled};
 
 use crate::asking::{count_wait, wait};
+use crate::buffers::Buffers;
 use crate::counting::counter_of;
-use crate::{Dice, Event, Outlet, PassedNames, each_turn_is_lawful, mark_synthesized};
+use crate::{Dice, Outlet, PassedNames, each_turn_is_lawful, mark_synthesized};
+use arrivals::{Carrier, Event};
 use cache_versions::VersionRef;
 use counters::{Counter, Counts};
-use dnswire::{QueryRead, Question, read_query};
+use dnswire::{Head, QueryRead, Question, read_query};
 use record_store::Store;
 use reply_core::rcode::{BAD_VERSION, FORMAT_ERROR, NOT_IMPLEMENTED};
-use reply_core::{ReplyBuffer, write_error, write_plain};
-use resolver::{CacheSeat, Origin, Rule, SharedCache, walk_reply};
+use reply_core::{MAX_LONG_REPLY, Reply, ReplyBuffer, limit_of, write_error, write_plain};
+use resolver::{CacheSeat, Origin, Rule, SharedCache, walk_reply_within};
 use waiting_table::WaitingTable;
 
-/// Does what a client's datagram asks for.
+/// Does what a client's message asks for.
 pub(crate) fn serve_query<O: Outlet, D: Dice>(
     outlet: &mut O,
     dice: &D,
@@ -36,10 +45,11 @@ pub(crate) fn serve_query<O: Outlet, D: Dice>(
     counts: &mut Counts,
     event: &Event,
     client: u64,
-    out: &mut ReplyBuffer,
+    carrier: Carrier,
+    out: &mut Buffers,
 )
     requires object { IsSeatOf cache.now seat.old }
-    requires query { event.now.came ≡ comes.Query client }
+    requires query { event.now.came ≡ comes.Query client carrier }
     requires called { IsCalled passed.now (seen_by seat.old) table.old counts.old event.now
         (O.Outlet.told outlet.old) }
     ensures object { IsSeatOf cache.now seat.new }
@@ -47,36 +57,111 @@ pub(crate) fn serve_query<O: Outlet, D: Dice>(
     ensures work { IsAtWork passed.now (seen_by seat.new) table.new counts.new
         (O.Outlet.told outlet.new) }
 {
-    match read(event) {
-        QueryRead::Dropped => {
-            each_turn_is_lawful();
-            counts.add(Counter::Dropped, 1);
-        }
-        QueryRead::NotImp(head) => {
-            write_error(&head, NOT_IMPLEMENTED, out);
-            let counter = Counter::NotImplemented;
-            reply(
-                outlet, cache, seat, passed, table, counts, event, client, counter, out,
-            );
-        }
-        QueryRead::FormErr(head) => {
-            write_error(&head, FORMAT_ERROR, out);
-            let counter = Counter::FormatError;
-            reply(
-                outlet, cache, seat, passed, table, counts, event, client, counter, out,
-            );
-        }
-        QueryRead::BadVers(question) => {
-            write_plain(&question, BAD_VERSION, out);
-            let counter = Counter::BadVersion;
-            reply(
-                outlet, cache, seat, passed, table, counts, event, client, counter, out,
-            );
-        }
+    each_turn_is_lawful();
+    let asked = read(event);
+    match &asked {
+        QueryRead::Dropped => counts.add(Counter::Dropped, 1),
+        QueryRead::NotImp(head) => tell_opcode(
+            outlet, cache, seat, passed, table, counts, event, client, head,
+        ),
+        QueryRead::FormErr(head) => tell_format(
+            outlet, cache, seat, passed, table, counts, event, client, head,
+        ),
+        QueryRead::BadVers(question) => tell_version(
+            outlet, cache, seat, passed, table, counts, event, client, question,
+        ),
         QueryRead::Query(question) => serve_question(
-            outlet, dice, cache, seat, passed, table, counts, event, client, &question, out,
+            outlet, dice, cache, seat, passed, table, counts, event, client, carrier, question, out,
         ),
     }
+}
+
+// A query with another opcode is told so.
+fn tell_opcode<O: Outlet>(
+    outlet: &mut O,
+    cache: &SharedCache,
+    seat: &CacheSeat,
+    passed: &PassedNames,
+    table: &WaitingTable,
+    counts: &mut Counts,
+    event: &Event,
+    client: u64,
+    head: &Head,
+)
+    requires object { IsSeatOf cache.now seat.now }
+    requires opcode { head.now.opcode ≤ 15 }
+    requires called { IsCalled passed.now (seen_by seat.now) table.now counts.old event.now
+        (O.Outlet.told outlet.old) }
+    requires does { IsDone passed.now table.now (seen_by seat.now) event.now [] wants.Nothing
+        (told_once table.now client (error_octets head.now NOT_IMPLEMENTED)
+        counters.NotImplemented) }
+    ensures { IsAtWork passed.now (seen_by seat.now) table.now counts.new
+        (O.Outlet.told outlet.new) }
+{
+    let mut out = ReplyBuffer::new();
+    write_error(head, NOT_IMPLEMENTED, &mut out);
+    let (counter, octets) = (Counter::NotImplemented, out.as_slice());
+    reply(
+        outlet, cache, seat, passed, table, counts, event, client, counter, octets,
+    );
+}
+
+// A query that can't be read is told so.
+fn tell_format<O: Outlet>(
+    outlet: &mut O,
+    cache: &SharedCache,
+    seat: &CacheSeat,
+    passed: &PassedNames,
+    table: &WaitingTable,
+    counts: &mut Counts,
+    event: &Event,
+    client: u64,
+    head: &Head,
+)
+    requires object { IsSeatOf cache.now seat.now }
+    requires opcode { head.now.opcode ≤ 15 }
+    requires called { IsCalled passed.now (seen_by seat.now) table.now counts.old event.now
+        (O.Outlet.told outlet.old) }
+    requires does { IsDone passed.now table.now (seen_by seat.now) event.now [] wants.Nothing
+        (told_once table.now client (error_octets head.now FORMAT_ERROR) counters.FormatError) }
+    ensures { IsAtWork passed.now (seen_by seat.now) table.now counts.new
+        (O.Outlet.told outlet.new) }
+{
+    let mut out = ReplyBuffer::new();
+    write_error(head, FORMAT_ERROR, &mut out);
+    let (counter, octets) = (Counter::FormatError, out.as_slice());
+    reply(
+        outlet, cache, seat, passed, table, counts, event, client, counter, octets,
+    );
+}
+
+// A query with another version of EDNS is told so.
+fn tell_version<O: Outlet>(
+    outlet: &mut O,
+    cache: &SharedCache,
+    seat: &CacheSeat,
+    passed: &PassedNames,
+    table: &WaitingTable,
+    counts: &mut Counts,
+    event: &Event,
+    client: u64,
+    question: &Question,
+)
+    requires object { IsSeatOf cache.now seat.now }
+    requires edns { IsSome question.now.edns }
+    requires called { IsCalled passed.now (seen_by seat.now) table.now counts.old event.now
+        (O.Outlet.told outlet.old) }
+    requires does { IsDone passed.now table.now (seen_by seat.now) event.now [] wants.Nothing
+        (told_once table.now client (plain_octets question.now BAD_VERSION) counters.BadVersion) }
+    ensures { IsAtWork passed.now (seen_by seat.now) table.now counts.new
+        (O.Outlet.told outlet.new) }
+{
+    let mut out = ReplyBuffer::new();
+    write_plain(question, BAD_VERSION, &mut out);
+    let (counter, octets) = (Counter::BadVersion, out.as_slice());
+    reply(
+        outlet, cache, seat, passed, table, counts, event, client, counter, octets,
+    );
 }
 
 // The one reply that the event calls for goes to the client, and is counted so.
@@ -90,24 +175,25 @@ fn reply<O: Outlet>(
     event: &Event,
     client: u64,
     counter: Counter,
-    out: &ReplyBuffer,
+    octets: &[u8],
 )
     requires object { IsSeatOf cache.now seat.now }
+    requires fits { length octets.now ≤ MAX_MESSAGE }
     requires called { IsCalled passed.now (seen_by seat.now) table.now counts.old event.now
         (O.Outlet.told outlet.old) }
     requires does { IsDone passed.now table.now (seen_by seat.now) event.now [] wants.Nothing
-        (told_once table.now client out.now counter) }
+        (told_once table.now client octets.now counter) }
     ensures { IsAtWork passed.now (seen_by seat.now) table.now counts.new
         (O.Outlet.told outlet.new) }
 {
     each_turn_is_lawful();
     counts.add(counter, 1);
-    outlet.reply(cache, seat, passed, client, out.as_slice());
+    outlet.reply(cache, seat, passed, client, octets);
 }
 
-// What a client's datagram asks.
+// What a client's message asks.
 fn read(event: &Event) -> QueryRead
-    ensures { IsReadAs event.now.octets result }
+    ensures { IsReadAs event.now.octets.items result }
 {
     read_query(event.octets.as_slice())
 }
@@ -123,12 +209,13 @@ fn serve_question<O: Outlet, D: Dice>(
     counts: &mut Counts,
     event: &Event,
     client: u64,
+    carrier: Carrier,
     question: &Question,
-    out: &mut ReplyBuffer,
+    out: &mut Buffers,
 )
     requires object { IsSeatOf cache.now seat.old }
-    requires query { event.now.came ≡ comes.Query client }
-    requires read { IsReadAs event.now.octets (reads.Query question.now) }
+    requires query { event.now.came ≡ comes.Query client carrier }
+    requires read { IsReadAs event.now.octets.items (reads.Query question.now) }
     requires called { IsCalled passed.now (seen_by seat.old) table.old counts.old event.now
         (O.Outlet.told outlet.old) }
     ensures object { IsSeatOf cache.now seat.new }
@@ -136,15 +223,16 @@ fn serve_question<O: Outlet, D: Dice>(
     ensures work { IsAtWork passed.now (seen_by seat.new) table.new counts.new
         (O.Outlet.told outlet.new) }
 {
-    match prove(cache, seat, passed, question, event.moment.seconds, out) {
+    let now = event.moment.seconds;
+    match prove(cache, seat, passed, carrier, question, now, out) {
         Some(origin) => {
-            let counter = counter_of(origin);
+            let (counter, octets) = (counter_of(origin), out.octets(carrier));
             reply(
-                outlet, cache, seat, passed, table, counts, event, client, counter, out,
+                outlet, cache, seat, passed, table, counts, event, client, counter, octets,
             );
         }
         None => serve_waiting(
-            outlet, dice, cache, seat, passed, table, counts, event, client, question, out,
+            outlet, dice, cache, seat, passed, table, counts, event, client, carrier, question,
         ),
     }
 }
@@ -160,14 +248,14 @@ fn serve_waiting<O: Outlet, D: Dice>(
     counts: &mut Counts,
     event: &Event,
     client: u64,
+    carrier: Carrier,
     question: &Question,
-    out: &mut ReplyBuffer,
 )
     requires object { IsSeatOf cache.now seat.now }
-    requires query { event.now.came ≡ comes.Query client }
-    requires read { IsReadAs event.now.octets (reads.Query question.now) }
-    requires unproved { proved passed.now (seen_by seat.now) question.now event.now.moment.seconds
-        ≡ None }
+    requires query { event.now.came ≡ comes.Query client carrier }
+    requires read { IsReadAs event.now.octets.items (reads.Query question.now) }
+    requires unproved { proved carrier passed.now (seen_by seat.now) question.now
+        event.now.moment.seconds ≡ None }
     requires called { IsCalled passed.now (seen_by seat.now) table.old counts.old event.now
         (O.Outlet.told outlet.old) }
     ensures { IsAtWork passed.now (seen_by seat.now) table.new counts.new
@@ -179,7 +267,7 @@ fn serve_waiting<O: Outlet, D: Dice>(
     let place = table.place_for(question);
     count_wait(table, place, counts);
     wait(
-        outlet, cache, seat, passed, table, place, client, question, id, now, out,
+        outlet, cache, seat, passed, table, place, client, carrier, question, id, now,
     );
 }
 
@@ -188,53 +276,79 @@ fn prove(
     cache: &SharedCache,
     seat: &mut CacheSeat,
     passed: &PassedNames,
+    carrier: Carrier,
     question: &Question,
     now: u32,
-    out: &mut ReplyBuffer,
+    out: &mut Buffers,
 ) -> Option<Origin>
     requires { IsSeatOf cache.now seat.old }
     ensures on { HasGoneOn cache.now seat.old seat.new }
-    ensures reply { proved passed.now (seen_by seat.new) question.now now
-        ≡ option_map (found_as out.new) result }
+    ensures reply { proved carrier passed.now (seen_by seat.new) question.now now
+        ≡ option_map (found_as (octets_in out.new carrier)) result }
 {
     if passed.has(&question.name.lent()) {
         return None;
     }
-    look(cache, seat, question, now, out)
+    look(cache, seat, carrier, question, now, out)
 }
 
 // The same by the published version.
 fn look(
     cache: &SharedCache,
     seat: &mut CacheSeat,
+    carrier: Carrier,
     question: &Question,
     now: u32,
-    out: &mut ReplyBuffer,
+    out: &mut Buffers,
 ) -> Option<Origin>
     requires { IsSeatOf cache.now seat.old }
     ensures object { IsSeatOf cache.now seat.new }
     ensures same { IsSameSeat seat.old seat.new }
     ensures begins { IsPrefix (seen_by seat.old) (seen_by seat.new) }
-    ensures reply { found (seen_by seat.new) question.now now
-        ≡ option_map (found_as out.new) result }
+    ensures reply { found carrier (seen_by seat.new) question.now now
+        ≡ option_map (found_as (octets_in out.new carrier)) result }
 {
     let version = cache.read(seat);
-    look_at(&version, question, now, out)
+    look_at(&version, carrier, question, now, out)
 }
 
 fn look_at(
     version: &VersionRef<'_, Store>,
+    carrier: Carrier,
     question: &Question,
     now: u32,
-    out: &mut ReplyBuffer,
+    out: &mut Buffers,
 ) -> Option<Origin>
     requires { opening_by (seat_in version.now) ≡ nothing_held }
-    ensures { found (seen_by (seat_in version.now)) question.now now
+    ensures { found carrier (seen_by (seat_in version.now)) question.now now
+        ≡ option_map (found_as (octets_in out.new carrier)) result }
+{
+    match carrier {
+        Carrier::Datagram => {
+            let limit = limit_of(question.edns);
+            look_within(version, limit, question, now, &mut out.datagram)
+        }
+        Carrier::Stream => { look_within(version, MAX_LONG_REPLY, question, now, &mut out.stream) }
+    }
+}
+
+fn look_within<const N: usize>(
+    version: &VersionRef<'_, Store>,
+    limit: usize,
+    question: &Question,
+    now: u32,
+    out: &mut Reply<N>,
+) -> Option<Origin>
+    requires opening { opening_by (seat_in version.now) ≡ nothing_held }
+    requires size { N ≤ MAX_LONG_REPLY }
+    requires room { limit ≤ N }
+    requires least { LEAST_PAYLOAD ≤ limit }
+    ensures { found_within limit (seen_by (seat_in version.now)) question.now now
         ≡ option_map (found_as out.new) result }
 {
-    match walk_reply(version.state(), Rule::Both, question, now, out) {
+    match walk_reply_within(version.state(), Rule::Both, question, now, limit, out) {
         Some(origin) => {
-            mark_synthesized(question, origin.is_synthesized(), out);
+            mark_synthesized(limit, question, origin.is_synthesized(), out);
             Some(origin)
         }
         None => None,

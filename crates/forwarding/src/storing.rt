@@ -9,8 +9,9 @@ ghost use Rattle.forwarding.specs.Done.{refusal_of, stored_as, storing};
 ghost use Rattle.forwarding.specs.Passed.{is_left_out, some_batch, stored_of};
 ghost use Rattle.forwarding.specs.Stored.{IsStored, IsStoredIn, IsStoring};
 
+use crate::PassedNames;
 use crate::left_out::is_left_out;
-use crate::{Event, PassedNames};
+use arrivals::Event;
 use counters::Counter;
 use denial_records::{Batch, Record, RecordList};
 use dname::OutOfMemory;
@@ -31,7 +32,7 @@ pub(crate) fn store<R: Wait>(
 ) -> Counter
     requires { IsSeatOf cache.now seat.old }
     ensures on { HasGoneOn cache.now seat.old seat.new }
-    ensures stored { IsStoring passed.now event.now.octets event.now.moment.seconds
+    ensures stored { IsStoring passed.now event.now.octets.items event.now.moment.seconds
         (seen_by seat.new) result }
 {
     let octets = event.octets.as_slice();

@@ -5,13 +5,18 @@ ghost use Rattle.resolver.specs.Caches.{IsSeatOf};
 ghost use Rattle.reply_core.specs.declared.rcode.TheConstants.{MAX_RCODE};
 ghost use Rattle.waiting_table.specs.Waiting.{clients_in, slot_at};
 ghost use Rattle.waiting_table.specs.declared.waiting_table.TheConstants.{SLOTS};
+ghost use Rattle.forwarding.specs.Buffers.{octets_in};
 ghost use Rattle.forwarding.specs.Done.{answered, failed};
+ghost use Rattle.forwarding.specs.ExtendedError.{told_relay};
 ghost use Rattle.forwarding.specs.Lawful.{MaySend, MaySendAll, more_sent};
+ghost use Rattle.forwarding.specs.Limit.{limit_for};
 
+use crate::buffers::Buffers;
 use crate::{Outlet, PassedNames, write_told_relay};
+use arrivals::Carrier;
 use dnswire::Message;
 use reply_core::rcode::SERVER_FAILURE;
-use reply_core::{ReplyBuffer, write_plain};
+use reply_core::{MAX_LONG_REPLY, ReplyBuffer, limit_of, write_plain};
 use resolver::{CacheSeat, SharedCache};
 use waiting_table::{Client, WaitingTable};
 
@@ -23,7 +28,6 @@ pub(crate) fn fail_all<O: Outlet>(
     passed: &PassedNames,
     table: &WaitingTable,
     slot: usize,
-    out: &mut ReplyBuffer,
 )
     requires object { IsSeatOf cache.now seat.now }
     requires slot { slot < SLOTS }
@@ -33,7 +37,7 @@ pub(crate) fn fail_all<O: Outlet>(
         (map failed (clients_in (slot_at table.now slot))) }
 {
     for i in 0..table.clients(slot) {
-        fail_one(outlet, cache, seat, passed, &table.client(slot, i), out);
+        fail_one(outlet, cache, seat, passed, &table.client(slot, i));
     }
 }
 
@@ -43,7 +47,6 @@ fn fail_one<O: Outlet>(
     seat: &CacheSeat,
     passed: &PassedNames,
     client: &Client,
-    out: &mut ReplyBuffer,
 )
     requires object { IsSeatOf cache.now seat.now }
     requires lawful { MaySend passed.now (seen_by seat.now) (O.Outlet.told outlet.old)
@@ -51,7 +54,8 @@ fn fail_one<O: Outlet>(
     ensures { O.Outlet.told outlet.new
         ≡ more_sent (O.Outlet.told outlet.old) (failed client.now ∷ []) }
 {
-    write_plain(&client.question, SERVER_FAILURE, out);
+    let mut out = ReplyBuffer::new();
+    write_plain(&client.question, SERVER_FAILURE, &mut out);
     outlet.reply(cache, seat, passed, client.number, out.as_slice());
 }
 
@@ -64,7 +68,7 @@ pub(crate) fn relay_all<O: Outlet>(
     table: &WaitingTable,
     slot: usize,
     message: &Message,
-    out: &mut ReplyBuffer,
+    out: &mut Buffers,
 )
     requires object { IsSeatOf cache.now seat.now }
     requires slot { slot < SLOTS }
@@ -94,7 +98,7 @@ fn relay_one<O: Outlet>(
     passed: &PassedNames,
     client: &Client,
     message: &Message,
-    out: &mut ReplyBuffer,
+    out: &mut Buffers,
 )
     requires object { IsSeatOf cache.now seat.now }
     requires rcode { message.now.rcode ≤ MAX_RCODE }
@@ -103,6 +107,26 @@ fn relay_one<O: Outlet>(
     ensures { O.Outlet.told outlet.new
         ≡ more_sent (O.Outlet.told outlet.old) (answered message.now client.now ∷ []) }
 {
-    write_told_relay(&client.question, message, out);
-    outlet.reply(cache, seat, passed, client.number, out.as_slice());
+    write_answer(client, message, out);
+    let octets = out.octets(client.carrier);
+    outlet.reply(cache, seat, passed, client.number, octets);
+}
+
+// Writes the answer for the client, within what it takes.
+fn write_answer(client: &Client, message: &Message, out: &mut Buffers)
+    requires { message.now.rcode ≤ MAX_RCODE }
+    ensures { octets_in out.new client.now.carrier
+        ≡ told_relay (limit_for client.now.carrier client.now.question.edns) client.now.question
+        message.now }
+{
+    let question = &client.question;
+    match client.carrier {
+        Carrier::Datagram => {
+            let limit = limit_of(question.edns);
+            write_told_relay(limit, question, message, &mut out.datagram);
+        }
+        Carrier::Stream => {
+            write_told_relay(MAX_LONG_REPLY, question, message, &mut out.stream);
+        }
+    }
 }

@@ -8,18 +8,18 @@ ghost use Rattle.resolver.specs.Caches.{HasGoneOn, IsSeatOf};
 ghost use Rattle.waiting_table.specs.Waiting.{slot_at};
 ghost use Rattle.waiting_table.specs.Steps.{is_due_in, is_late_in, late_clients, late_in, ticked_slot};
 ghost use Rattle.waiting_table.specs.declared.waiting_table.TheConstants.{SLOTS};
-ghost use Rattle.forwarding.specs.declared.event.Came.TheVariants as comes;
+ghost use Rattle.arrivals.specs.declared.came.Came.TheVariants as comes;
 ghost use Rattle.forwarding.specs.Done.{due_in, tick_done, tick_sends};
 ghost use Rattle.forwarding.specs.Holding.{WasHeld, holding_of};
 ghost use Rattle.forwarding.specs.Lawful.{IsAtWork, IsCalled, MaySendAll, more_sent};
 
 use crate::asking::ask;
 use crate::telling::fail_all;
-use crate::{Dice, Event, Holding, Outlet, PassedNames, each_turn_is_lawful};
+use crate::{Dice, Holding, Outlet, PassedNames, each_turn_is_lawful};
+use arrivals::{Carrier, Event};
 use cache_versions::VersionRef;
 use counters::{Counter, Counts};
 use record_store::Store;
-use reply_core::ReplyBuffer;
 use resolver::{CacheSeat, SharedCache};
 use waiting_table::{SLOTS, WaitingTable};
 
@@ -35,7 +35,6 @@ pub(crate) fn serve_tick<O: Outlet, D: Dice>(
     counts: &mut Counts,
     holding: &mut Holding,
     event: &Event,
-    out: &mut ReplyBuffer,
 )
     requires object { IsSeatOf cache.now seat.old }
     requires holding { WasHeld holding.old (seen_by seat.old) }
@@ -56,7 +55,7 @@ pub(crate) fn serve_tick<O: Outlet, D: Dice>(
     }
     count_tick(table, now, counts);
     let ids = draw(dice, table, now);
-    tick(outlet, cache, seat, passed, table, &ids, now, out);
+    tick(outlet, cache, seat, passed, table, &ids, now);
 }
 
 // What the published version holds, to which the seat goes on. It is counted where it isn't the version of the last tick.
@@ -167,7 +166,6 @@ fn tick<O: Outlet>(
     table: &mut WaitingTable,
     ids: &[u16; SLOTS],
     now: u64,
-    out: &mut ReplyBuffer,
 )
     requires object { IsSeatOf cache.now seat.now }
     requires lawful { MaySendAll passed.now (seen_by seat.now) (O.Outlet.told outlet.old)
@@ -177,9 +175,7 @@ fn tick<O: Outlet>(
         (tick_done now ids.now table.old).sends }
 {
     for slot in 0..table.len() {
-        tick_slot(
-            outlet, cache, seat, passed, table, slot, ids[slot], now, out,
-        );
+        tick_slot(outlet, cache, seat, passed, table, slot, ids[slot], now);
     }
 }
 
@@ -192,7 +188,6 @@ fn tick_slot<O: Outlet>(
     slot: usize,
     id: u16,
     now: u64,
-    out: &mut ReplyBuffer,
 )
     requires object { IsSeatOf cache.now seat.now }
     requires slot { slot < SLOTS }
@@ -203,7 +198,7 @@ fn tick_slot<O: Outlet>(
         (tick_sends now slot id (slot_at table.old slot)) }
 {
     if table.is_late(slot, now) {
-        fail_all(outlet, cache, seat, passed, table, slot, out);
+        fail_all(outlet, cache, seat, passed, table, slot);
         table.free(slot);
         return;
     }
@@ -216,9 +211,9 @@ fn tick_slot<O: Outlet>(
         seat,
         passed,
         slot,
+        Carrier::Datagram,
         table.question(slot),
         id,
-        out,
     );
     table.ask_again(slot, id, now);
 }

@@ -8,11 +8,12 @@ ghost use Rattle.forwarding.specs.Holding.{WasHeld};
 ghost use Rattle.forwarding.specs.Lawful.{IsAtWork, IsCalled, IsNew};
 
 use crate::answering::serve_answer;
+use crate::buffers::Buffers;
 use crate::querying::serve_query;
 use crate::ticking::serve_tick;
-use crate::{Came, Dice, Event, Holding, Outlet, PassedNames};
+use crate::{Dice, Holding, Outlet, PassedNames};
+use arrivals::{Came, Event};
 use counters::Counts;
-use reply_core::ReplyBuffer;
 use resolver::{CacheSeat, SharedCache};
 use std::alloc::Global;
 use std::sync::Wait;
@@ -36,11 +37,11 @@ pub fn serve_on<R: Wait, O: Outlet, D: Dice>(
     requires object { IsSeatOf cache.now seat.old }
     requires table { table.old ≡ empty_table }
     requires counts { counts.old ≡ no_counts }
-    requires outlet { IsNew (O.Outlet.told outlet.old) }
+    requires outlet { IsNew passed.now (O.Outlet.told outlet.old) }
     ensures { ⊥ }
 {
     let mut holding = Holding::nothing();
-    let mut out = ReplyBuffer::new();
+    let mut out = Buffers::new();
     for _ in rt.forever() {
         serve_next(
             rt,
@@ -77,13 +78,13 @@ pub fn serve_some<R: Wait, O: Outlet, D: Dice>(
     requires object { IsSeatOf cache.now seat.old }
     requires table { table.old ≡ empty_table }
     requires counts { counts.old ≡ no_counts }
-    requires outlet { IsNew (O.Outlet.told outlet.old) }
+    requires outlet { IsNew passed.now (O.Outlet.told outlet.old) }
     ensures object { IsSeatOf cache.now seat.new }
     ensures work { IsAtWork passed.now (seen_by seat.new) table.new counts.new
         (O.Outlet.told outlet.new) }
 {
     let mut holding = Holding::nothing();
-    let mut out = ReplyBuffer::new();
+    let mut out = Buffers::new();
     for _ in 0..events {
         serve_next(
             rt,
@@ -115,7 +116,7 @@ fn serve_next<R: Wait, O: Outlet, D: Dice>(
     event: &mut Event,
     outlet: &mut O,
     dice: &D,
-    out: &mut ReplyBuffer,
+    out: &mut Buffers,
 )
     requires object { IsSeatOf cache.now seat.old }
     requires work { IsAtWork passed.now (seen_by seat.old) table.old counts.old
@@ -145,7 +146,7 @@ fn serve_event<R: Wait, O: Outlet, D: Dice>(
     event: &Event,
     outlet: &mut O,
     dice: &D,
-    out: &mut ReplyBuffer,
+    out: &mut Buffers,
 )
     requires object { IsSeatOf cache.now seat.old }
     requires called { IsCalled passed.now (seen_by seat.old) table.old counts.old event.now
@@ -157,20 +158,21 @@ fn serve_event<R: Wait, O: Outlet, D: Dice>(
     ensures holding { WasHeld holding.new (seen_by seat.new) }
 {
     match event.came {
-        Came::Query { client } => {
+        Came::Query { client, carrier } => {
             serve_query(
-                outlet, dice, cache, seat, passed, table, counts, event, client, out,
+                outlet, dice, cache, seat, passed, table, counts, event, client, carrier, out,
             );
         }
-        Came::Answer { slot } => {
+        Came::Answer { slot, carrier } => {
             let at = usize::from(slot);
             serve_answer(
-                rt, alloc, outlet, cache, seat, passed, table, counts, event, at, out,
+                rt, alloc, outlet, dice, cache, seat, passed, table, counts, event, at, carrier,
+                out,
             );
         }
         Came::Tick => {
             serve_tick(
-                outlet, dice, cache, seat, passed, table, counts, holding, event, out,
+                outlet, dice, cache, seat, passed, table, counts, holding, event,
             );
             outlet.show(cache, seat, passed, counts, *holding);
         }

@@ -3,25 +3,11 @@ use crate::messages::{
     AGAIN, ANSWER, ASKED, BARE, DENIED, FAILED, NEXT_ASKED, NEXT_QUERY, QUERY, RELAYED, THEN,
     TO_AGAIN,
 };
+use crate::parties::{
+    CLIENT, OTHER, OTHER_SLOT, OTHER_UPSTREAM, SLOT, TO_CLIENT, TO_OTHER, UPSTREAM,
+};
 use crate::row::{Row, first_wrong_row};
-use forwarding::{Came, Receiver};
 use std::test::Fail;
-
-const CLIENT: Came = Came::Query { client: 1 };
-
-const OTHER: Came = Came::Query { client: 2 };
-
-const SLOT: Came = Came::Answer { slot: 0 };
-
-const OTHER_SLOT: Came = Came::Answer { slot: 1 };
-
-const TO_CLIENT: Receiver = Receiver::ToClient(1);
-
-const TO_OTHER: Receiver = Receiver::ToClient(2);
-
-const UPSTREAM: Receiver = Receiver::ToUpstream { slot: 0 };
-
-const OTHER_UPSTREAM: Receiver = Receiver::ToUpstream { slot: 1 };
 
 /// An answer to d.example A, that there are no such records.
 const EMPTY_ANSWER: &[u8] = b"\

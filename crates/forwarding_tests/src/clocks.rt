@@ -1,20 +1,8 @@
 //! The clock of seconds is set back, while that of milliseconds goes on.
 use crate::messages::{ANSWER, ASKED, DENIED, NEXT_QUERY, QUERY, RELAYED, THEN, TICK};
+use crate::parties::{CLIENT, OTHER, SLOT, TO_CLIENT, TO_OTHER, UPSTREAM};
 use crate::row::{Row, first_wrong_row};
-use forwarding::{Came, Receiver};
 use std::test::Fail;
-
-const CLIENT: Came = Came::Query { client: 1 };
-
-const OTHER: Came = Came::Query { client: 2 };
-
-const SLOT: Came = Came::Answer { slot: 0 };
-
-const TO_CLIENT: Receiver = Receiver::ToClient(1);
-
-const TO_OTHER: Receiver = Receiver::ToClient(2);
-
-const UPSTREAM: Receiver = Receiver::ToUpstream { slot: 0 };
 
 /// A query for a name of another zone.
 const ELSEWHERE: &[u8] = b"\

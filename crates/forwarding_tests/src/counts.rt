@@ -2,24 +2,13 @@
 use crate::messages::{
     AGAIN, ANSWER, ASKED, BARE, DENIED, FAILED, NEXT_QUERY, QUERY, RELAYED, THEN, TICK, TO_AGAIN,
 };
+use crate::parties::{
+    CLIENT, OTHER, OTHER_SLOT, SLOT, STREAM_SLOT, STREAM_UPSTREAM, TO_CLIENT, TO_OTHER, UPSTREAM,
+};
 use crate::row::{Row, serve_rows};
 use counters::{Counter, Counts};
-use forwarding::{Came, Holding, Receiver};
+use forwarding::Holding;
 use std::test::Fail;
-
-const CLIENT: Came = Came::Query { client: 1 };
-
-const OTHER: Came = Came::Query { client: 2 };
-
-const SLOT: Came = Came::Answer { slot: 0 };
-
-const OTHER_SLOT: Came = Came::Answer { slot: 1 };
-
-const TO_CLIENT: Receiver = Receiver::ToClient(1);
-
-const TO_OTHER: Receiver = Receiver::ToClient(2);
-
-const UPSTREAM: Receiver = Receiver::ToUpstream { slot: 0 };
 
 /// The first counter that was counted otherwise: these so often, and all others never.
 pub(crate) fn first_miscounted(
@@ -179,7 +168,7 @@ const EMPTY: &[u8] = b"\
     \x01d\x07example\x00\x00\x01\x00\x01";
 
 // Answers of which nothing is stored, each as its client gets it.
-const REFUSED: [Row; 15] = [
+const REFUSED: [Row; 16] = [
     (THEN, 0, CLIENT, QUERY, &[], &[(UPSTREAM, ASKED, &[])]),
     // without AD
     (
@@ -201,11 +190,19 @@ const REFUSED: [Row; 15] = [
         &[(TO_CLIENT, FAILED, &[(3, b"\xa0")])],
     ),
     (THEN, 0, CLIENT, QUERY, &[], &[(UPSTREAM, ASKED, &[])]),
-    // with TC
+    // with TC, by a stream
     (
         THEN,
         0,
         SLOT,
+        EMPTY,
+        &[(2, b"\x83")],
+        &[(STREAM_UPSTREAM, ASKED, &[])],
+    ),
+    (
+        THEN,
+        0,
+        STREAM_SLOT,
         EMPTY,
         &[(2, b"\x83")],
         &[(TO_CLIENT, FAILED, &[(2, b"\x83\x80")])],
@@ -255,6 +252,7 @@ fn answers_are_counted_by_what_becomes_of_them(rt: HostRuntime) -> Result<(), Fa
         &served.shown,
         &[
             (Counter::Asked, 7),
+            (Counter::AskedByStream, 1),
             (Counter::NotAuthentic, 1),
             (Counter::NothingToStore, 1),
             (Counter::Truncated, 1),

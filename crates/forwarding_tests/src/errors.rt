@@ -1,20 +1,8 @@
 //! Extended errors of the upstream (RFC 8914) go on to clients that have an OPT record.
 use crate::messages::{ASKED, FAILED, QUERY, THEN};
+use crate::parties::{CLIENT, OTHER, SLOT, TO_CLIENT, TO_OTHER, UPSTREAM};
 use crate::row::{Row, first_wrong_row};
-use forwarding::{Came, Receiver};
 use std::test::Fail;
-
-const CLIENT: Came = Came::Query { client: 1 };
-
-const OTHER: Came = Came::Query { client: 2 };
-
-const SLOT: Came = Came::Answer { slot: 0 };
-
-const TO_CLIENT: Receiver = Receiver::ToClient(1);
-
-const TO_OTHER: Receiver = Receiver::ToClient(2);
-
-const UPSTREAM: Receiver = Receiver::ToUpstream { slot: 0 };
 
 /// SERVFAIL with the extended error "DNSSEC Bogus" (6).
 const BOGUS: &[u8] = b"\

@@ -1,18 +1,10 @@
 //! An alias or a redirection that leads to a passed name isn't stored, and one that leads elsewhere is.
 use crate::counts::first_miscounted;
 use crate::messages::{THEN, TICK};
+use crate::parties::{CLIENT, SLOT, TO_CLIENT, UPSTREAM};
 use crate::row::{Row, serve_rows};
 use counters::Counter;
-use forwarding::{Came, Receiver};
 use std::test::Fail;
-
-const CLIENT: Came = Came::Query { client: 1 };
-
-const SLOT: Came = Came::Answer { slot: 0 };
-
-const TO_CLIENT: Receiver = Receiver::ToClient(1);
-
-const UPSTREAM: Receiver = Receiver::ToUpstream { slot: 0 };
 
 /// What is passed: d.example.
 const PASSED: &[u8] = b"\x01d\x07example\x00";

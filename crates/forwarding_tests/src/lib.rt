@@ -18,7 +18,13 @@ mod many;
 #[cfg(test)]
 mod marks;
 #[cfg(test)]
+mod memory;
+#[cfg(test)]
 mod messages;
+#[cfg(test)]
+mod origins;
+#[cfg(test)]
+mod parties;
 #[cfg(test)]
 mod passed;
 #[cfg(test)]
@@ -29,6 +35,8 @@ mod row;
 mod script;
 #[cfg(test)]
 mod served;
+#[cfg(test)]
+mod streamed;
 #[cfg(test)]
 mod ticks;
 #[cfg(test)]

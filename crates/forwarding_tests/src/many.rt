@@ -1,11 +1,13 @@
 //! Many questions: more than sixteen that are one, more than the table has slots, and a zone whose servers are dead.
+use crate::counts::first_miscounted;
 use crate::loaded::Loaded;
-use crate::messages::THEN;
+use crate::messages::{THEN, TICK};
 use crate::script::Script;
-use crate::served::first_wrong;
-use crate::writing::datagram;
-use forwarding::{Came, Moment, Receiver};
-use outside_core::{DatagramOctets, OutOfMemory};
+use crate::served::{Served, serve};
+use crate::writing::message_of;
+use counters::Counter;
+use dname::OutOfMemory;
+use forwarding::{Came, Carrier, MessageOctets, Moment, Receiver};
 use std::alloc::Global;
 use std::cell::Cell;
 use std::ops::Range;
@@ -43,7 +45,7 @@ const SLOTS: u16 = 256;
 const MOST: usize = 128;
 
 // The message like that one, with the ID, of the name with the number, which is below 1,000.
-fn numbered(like: &[u8], id: u16, number: u16) -> DatagramOctets {
+fn numbered(like: &[u8], id: u16, number: u16) -> MessageOctets {
     let mut octets = [0; MOST];
     for (octet, other) in octets.iter_mut().zip(like.iter()) {
         *octet = *other;
@@ -61,7 +63,7 @@ fn numbered(like: &[u8], id: u16, number: u16) -> DatagramOctets {
             *octet = *other;
         }
     }
-    datagram(octets.get(..like.len()).unwrap_or(&[]))
+    message_of(octets.get(..like.len()).unwrap_or(&[]))
 }
 
 fn digit(number: u16) -> u8 {
@@ -76,6 +78,7 @@ fn asks(script: &mut Script, client: u16, number: u16) -> Result<(), OutOfMemory
     };
     let came = Came::Query {
         client: u64::from(client),
+        carrier: Carrier::Datagram,
     };
     script.comes(moment, came, numbered(QUERY, client, number))
 }
@@ -83,6 +86,7 @@ fn asks(script: &mut Script, client: u16, number: u16) -> Result<(), OutOfMemory
 fn is_asked(script: &mut Script, slot: u16, number: u16) -> Result<(), OutOfMemory> {
     let receiver = Receiver::ToUpstream {
         slot: usize::from(slot),
+        carrier: Carrier::Datagram,
     };
     script.goes(receiver, numbered(ASKED, ID, number))
 }
@@ -93,7 +97,20 @@ fn answers(script: &mut Script, slot: u8, number: u16) -> Result<(), OutOfMemory
         seconds: THEN,
         millis: 500,
     };
-    script.comes(moment, Came::Answer { slot }, numbered(ANSWER, ID, number))
+    let came = Came::Answer {
+        slot,
+        carrier: Carrier::Datagram,
+    };
+    script.comes(moment, came, numbered(ANSWER, ID, number))
+}
+
+// Nothing is due yet.
+fn ticks(script: &mut Script) -> Result<(), OutOfMemory> {
+    let moment = Moment {
+        seconds: THEN,
+        millis: 501,
+    };
+    script.comes(moment, TICK, message_of(&[]))
 }
 
 // The client gets a message about the name.
@@ -104,12 +121,12 @@ fn is_told(script: &mut Script, client: u16, like: &[u8], number: u16) -> Result
     )
 }
 
-fn first_wrong_step<R: Wait>(rt: &R, alloc: Global, script: Script) -> Result<Option<usize>, Fail> {
+fn serve_script<R: Wait>(rt: &R, alloc: Global, script: Script) -> Result<Served, Fail> {
     let dice = Loaded {
         next: Cell::new(ID),
         step: 0,
     };
-    first_wrong(rt, alloc, &[], &dice, script)
+    serve(rt, alloc, &[], &dice, script)
 }
 
 // Sixteen wait for one answer, and the seventeenth asks anew; each gets the answer to its own.
@@ -139,7 +156,7 @@ fn all_are_answered(script: &mut Script) -> Result<(), OutOfMemory> {
 #[test]
 fn seventeen_equal_questions_are_asked_twice(rt: HostRuntime) -> Result<(), Fail> {
     let script = seventeen_equal(rt.alloc())?;
-    let wrong = first_wrong_step(&rt, rt.alloc(), script)?;
+    let wrong = serve_script(&rt, rt.alloc(), script)?.wrong;
     assert!(rt; wrong.is_none(), "{wrong:?}");
     Ok(())
 }
@@ -156,7 +173,7 @@ fn all_are_asked(script: &mut Script, numbers: Range<u16>) -> Result<(), OutOfMe
     Ok(())
 }
 
-// The first slot is free again and has a younger question, as the table is full: the oldest is in the second.
+// The first slot is free again and has a younger question, as the table is full: the oldest is in the second, and has two clients.
 fn one_too_many(alloc: Global) -> Result<Script, OutOfMemory> {
     let mut script = Script::new(alloc);
     all_are_asked(&mut script, 0..SLOTS)?;
@@ -164,16 +181,31 @@ fn one_too_many(alloc: Global) -> Result<Script, OutOfMemory> {
     is_told(&mut script, 0, ANSWER, 0)?;
     asks(&mut script, 256, 256)?;
     is_asked(&mut script, 0, 256)?;
-    asks(&mut script, 257, 257)?;
+    asks(&mut script, 257, 1)?;
+    asks(&mut script, 258, 258)?;
     is_told(&mut script, 1, FAILED, 1)?;
-    is_asked(&mut script, 1, 257)?;
+    is_told(&mut script, 257, FAILED, 1)?;
+    is_asked(&mut script, 1, 258)?;
+    ticks(&mut script)?;
     Ok(script)
 }
 
 #[test]
 fn a_full_table_gives_up_its_oldest_question(rt: HostRuntime) -> Result<(), Fail> {
     let script = one_too_many(rt.alloc())?;
-    let wrong = first_wrong_step(&rt, rt.alloc(), script)?;
+    let served = serve_script(&rt, rt.alloc(), script)?;
+    let wrong = served.wrong;
+    assert!(rt; wrong.is_none(), "{wrong:?}");
+    let wrong = first_miscounted(
+        &served.shown,
+        &[
+            (Counter::Asked, 258),
+            (Counter::Joined, 1),
+            (Counter::Full, 2),
+            (Counter::NotAuthentic, 1),
+            (Counter::RelayedNoError, 1),
+        ],
+    );
     assert!(rt; wrong.is_none(), "{wrong:?}");
     Ok(())
 }
@@ -193,7 +225,7 @@ fn dead_and_good(alloc: Global) -> Result<Script, OutOfMemory> {
 #[test]
 fn a_dead_zone_silences_no_other(rt: HostRuntime) -> Result<(), Fail> {
     let script = dead_and_good(rt.alloc())?;
-    let wrong = first_wrong_step(&rt, rt.alloc(), script)?;
+    let wrong = serve_script(&rt, rt.alloc(), script)?.wrong;
     assert!(rt; wrong.is_none(), "{wrong:?}");
     Ok(())
 }

@@ -2,18 +2,10 @@
 //! is such a record, and they fit.
 use crate::counts::first_miscounted;
 use crate::messages::{ANSWER, ASKED, QUERY, RELAYED, THEN, TICK};
+use crate::parties::{CLIENT, SLOT, TO_CLIENT, UPSTREAM};
 use crate::row::{Row, first_wrong_row, serve_rows};
 use counters::Counter;
-use forwarding::{Came, Receiver};
 use std::test::Fail;
-
-const CLIENT: Came = Came::Query { client: 1 };
-
-const SLOT: Came = Came::Answer { slot: 0 };
-
-const TO_CLIENT: Receiver = Receiver::ToClient(1);
-
-const UPSTREAM: Receiver = Receiver::ToUpstream { slot: 0 };
 
 /// A query for dd.example A, without an OPT record.
 const PLAIN_QUERY: &[u8] = b"\

@@ -1,21 +1,9 @@
 //! Names that are the resolver's own: what is at or below one is asked and never answered from the cache, and no record of it is
 //! stored.
 use crate::messages::{ANSWER, ASKED, DENIED, NEXT_ASKED, NEXT_QUERY, QUERY, RELAYED, THEN};
+use crate::parties::{CLIENT, OTHER, SLOT, TO_CLIENT, TO_OTHER, UPSTREAM};
 use crate::row::{Row, first_wrong_row};
-use forwarding::{Came, Receiver};
 use std::test::Fail;
-
-const CLIENT: Came = Came::Query { client: 1 };
-
-const OTHER: Came = Came::Query { client: 2 };
-
-const SLOT: Came = Came::Answer { slot: 0 };
-
-const TO_CLIENT: Receiver = Receiver::ToClient(1);
-
-const TO_OTHER: Receiver = Receiver::ToClient(2);
-
-const UPSTREAM: Receiver = Receiver::ToUpstream { slot: 0 };
 
 // The name is passed: its neighbour's record, which is stored, doesn't deny it, but denies the next name.
 const NEIGHBOUR: [Row; 4] = [

@@ -1,7 +1,7 @@
 //! Which questions are one: those of the same name, in any letters, type, class and CD.
 use crate::messages::THEN;
 use crate::row::{Row, first_wrong_row};
-use forwarding::{Came, Receiver};
+use forwarding::{Came, Carrier, Receiver};
 use std::test::Fail;
 
 /// A query for a.example TXT, with RD.
@@ -19,16 +19,29 @@ const QUERIES: [Row; 8] = [
     (
         THEN,
         0,
-        Came::Query { client: 1 },
+        Came::Query {
+            client: 1,
+            carrier: Carrier::Datagram,
+        },
         QUERY,
         &[],
-        &[(Receiver::ToUpstream { slot: 0 }, ASKED, &[])],
+        &[(
+            Receiver::ToUpstream {
+                slot: 0,
+                carrier: Carrier::Datagram,
+            },
+            ASKED,
+            &[],
+        )],
     ),
     // another ID, in other letters, without RD
     (
         THEN,
         0,
-        Came::Query { client: 2 },
+        Came::Query {
+            client: 2,
+            carrier: Carrier::Datagram,
+        },
         QUERY,
         &[(0, b"\xab\xcd\x00"), (13, b"A\x07eXample")],
         &[],
@@ -37,20 +50,36 @@ const QUERIES: [Row; 8] = [
     (
         THEN,
         0,
-        Came::Query { client: 3 },
+        Came::Query {
+            client: 3,
+            carrier: Carrier::Datagram,
+        },
         QUERY,
         &[(13, b"b")],
-        &[(Receiver::ToUpstream { slot: 1 }, ASKED, &[(13, b"b")])],
+        &[(
+            Receiver::ToUpstream {
+                slot: 1,
+                carrier: Carrier::Datagram,
+            },
+            ASKED,
+            &[(13, b"b")],
+        )],
     ),
     // another type
     (
         THEN,
         0,
-        Came::Query { client: 4 },
+        Came::Query {
+            client: 4,
+            carrier: Carrier::Datagram,
+        },
         QUERY,
         &[(23, b"\x00\x01")],
         &[(
-            Receiver::ToUpstream { slot: 2 },
+            Receiver::ToUpstream {
+                slot: 2,
+                carrier: Carrier::Datagram,
+            },
             ASKED,
             &[(23, b"\x00\x01")],
         )],
@@ -59,11 +88,17 @@ const QUERIES: [Row; 8] = [
     (
         THEN,
         0,
-        Came::Query { client: 5 },
+        Came::Query {
+            client: 5,
+            carrier: Carrier::Datagram,
+        },
         QUERY,
         &[(25, b"\x00\x03")],
         &[(
-            Receiver::ToUpstream { slot: 3 },
+            Receiver::ToUpstream {
+                slot: 3,
+                carrier: Carrier::Datagram,
+            },
             ASKED,
             &[(25, b"\x00\x03")],
         )],
@@ -72,16 +107,29 @@ const QUERIES: [Row; 8] = [
     (
         THEN,
         0,
-        Came::Query { client: 6 },
+        Came::Query {
+            client: 6,
+            carrier: Carrier::Datagram,
+        },
         QUERY,
         &[(3, b"\x10")],
-        &[(Receiver::ToUpstream { slot: 4 }, ASKED, &[(3, b"\x30")])],
+        &[(
+            Receiver::ToUpstream {
+                slot: 4,
+                carrier: Carrier::Datagram,
+            },
+            ASKED,
+            &[(3, b"\x30")],
+        )],
     ),
     // each joins its own
     (
         THEN,
         0,
-        Came::Query { client: 7 },
+        Came::Query {
+            client: 7,
+            carrier: Carrier::Datagram,
+        },
         QUERY,
         &[(13, b"b")],
         &[],
@@ -89,7 +137,10 @@ const QUERIES: [Row; 8] = [
     (
         THEN,
         0,
-        Came::Query { client: 8 },
+        Came::Query {
+            client: 8,
+            carrier: Carrier::Datagram,
+        },
         QUERY,
         &[(3, b"\x10")],
         &[],

@@ -1,6 +1,6 @@
 //! What comes to a worker, and what it is to send.
-use forwarding::{Came, Carried, Event, Moment, Receiver, Sent};
-use outside_core::{DatagramOctets, OutOfMemory};
+use dname::OutOfMemory;
+use forwarding::{Came, Carried, Event, MessageOctets, Moment, Receiver, Sent};
 use std::alloc::Global;
 
 /// What goes over the outlet.
@@ -31,7 +31,7 @@ impl Script {
         &mut self,
         moment: Moment,
         came: Came,
-        octets: DatagramOctets,
+        octets: MessageOctets,
     ) -> Result<(), OutOfMemory> {
         self.events.push(Event {
             moment,
@@ -46,7 +46,7 @@ impl Script {
     pub(crate) fn goes(
         &mut self,
         receiver: Receiver,
-        octets: DatagramOctets,
+        octets: MessageOctets,
     ) -> Result<(), OutOfMemory> {
         self.steps.push(Step::Goes(Sent { receiver, octets }))?;
         Ok(())

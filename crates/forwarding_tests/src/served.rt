@@ -1,21 +1,24 @@
 //! A worker over a new cache and an outlet in memory.
-ghost use Rattle.std.specs.Prelude.{◌≡◌, []};
+ghost use Rattle.std.specs.Prelude.{◌≡◌, Some};
 ghost use Rattle.resolver.specs.Caches.{IsSeatOf};
 ghost use Rattle.waiting_table.specs.Waiting.{empty_table};
+ghost use Rattle.forwarding.specs.Lawful.{IsNew};
+ghost use Rattle.forwarding.specs.MemoryOutlet.{told_by};
 
 use crate::loaded::Loaded;
 use crate::script::{Script, Step, first_otherwise};
 use counters::Counts;
 use dname::Name;
-use forwarding::{Came, Event, Holding, MemoryOutlet, Moment, PassedNames, serve_some};
-use outside_core::DatagramOctets;
+use forwarding::{
+    Came, Event, Holding, MemoryOutlet, MessageOctets, Moment, PassedNames, serve_some,
+};
 use resolver::{CacheSeat, SharedCache};
 use std::alloc::Global;
 use std::sync::Wait;
 use std::test::Fail;
 use waiting_table::WaitingTable;
 
-/// How many more datagrams may be sent than the steps tell.
+/// How many more messages may be sent than the steps tell.
 const SPARE: usize = 64;
 
 /// What came of a script.
@@ -48,14 +51,25 @@ pub(crate) fn serve<R: Wait>(
     script: Script,
 ) -> Result<Served, Fail> {
     let names = passed_names(alloc, passed)?;
+    serve_passing(rt, alloc, &names, dice, script)
+}
+
+fn serve_passing<'a, R: Wait>(
+    rt: &'a R,
+    alloc: Global,
+    names: &'a PassedNames,
+    dice: &Loaded,
+    script: Script,
+) -> Result<Served, Fail> {
     let table = WaitingTable::new(alloc)?;
     let Script { events, steps } = script;
     let number = events.len();
-    let outlet = MemoryOutlet::with_room(rt, alloc, events, steps.len().saturating_add(SPARE))?;
+    let room = steps.len().saturating_add(SPARE);
+    let outlet = MemoryOutlet::with_room(rt, alloc, names, events, room)?;
     let (cache, mut seats) = SharedCache::with_seats(rt, alloc, 1)?;
     let found = match seats.pop() {
         Some(seat) => Ok(run_script(
-            rt, alloc, &cache, seat, &names, table, outlet, dice, number, &steps,
+            rt, alloc, &cache, seat, names, table, outlet, dice, number, &steps,
         )),
         None => Err(Fail::from("no seat")),
     };
@@ -86,7 +100,7 @@ fn run_script<R: Wait>(
 ) -> Served
     requires seat { IsSeatOf cache.now seat }
     requires table { table ≡ empty_table }
-    requires outlet { outlet.carried ≡ [] }
+    requires outlet { IsNew names.now (Some (told_by outlet)) }
 {
     let mut seat = seat;
     let mut table = table;
@@ -121,6 +135,6 @@ fn no_event() -> Event {
             millis: 0,
         },
         came: Came::Tick,
-        octets: DatagramOctets::of(&[]),
+        octets: MessageOctets::new(),
     }
 }

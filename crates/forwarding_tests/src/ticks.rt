@@ -1,21 +1,9 @@
 //! A question that nobody answers is asked again after one second and after two more, by a new socket and with a new ID, and its
 //! clients are told of a failed server after four and a half.
 use crate::messages::{AGAIN, ANSWER, ASKED, FAILED, QUERY, RELAYED, THEN, TICK, TO_AGAIN};
+use crate::parties::{CLIENT, OTHER, SLOT, TO_CLIENT, TO_OTHER, UPSTREAM};
 use crate::row::{Row, first_wrong_row};
-use forwarding::{Came, Receiver};
 use std::test::Fail;
-
-const CLIENT: Came = Came::Query { client: 1 };
-
-const OTHER: Came = Came::Query { client: 2 };
-
-const SLOT: Came = Came::Answer { slot: 0 };
-
-const TO_CLIENT: Receiver = Receiver::ToClient(1);
-
-const TO_OTHER: Receiver = Receiver::ToClient(2);
-
-const UPSTREAM: Receiver = Receiver::ToUpstream { slot: 0 };
 
 const GIVEN_UP: [Row; 9] = [
     (THEN, 100, CLIENT, QUERY, &[], &[(UPSTREAM, ASKED, &[])]),

@@ -10,4 +10,4 @@ pub returns-in-Err-clause-work : goal.returns-in-Err-clause-work
 returns-in-Err-clause-work g c =
     let seen = seen_by c.args.seat.now in
     nothing_done c.each_turn_is_lawful.ensures c.args.passed.now seen c.args.table.now c.args.counts.now c.add.new.self c.args.event.now [] wants.ToRead counters.Unread (g.O.Outlet.told c.args.outlet.now) c.requires.called
-    (unread_does c.args.passed.now c.args.table.now seen c.args.event.now c.args.slot c.requires.answer) (All-nil _) c.add.ensures
+    (unread_does c.args.passed.now c.args.table.now seen c.args.event.now c.args.slot c.args.carrier c.requires.answer) (All-nil _) c.add.ensures

@@ -1,20 +1,23 @@
-use Rattle.std.proofs.Common.{◌∙◌, ap}
+use Rattle.std.proofs.Common.{◌≡◌, ◌∙◌, ℕ, sym, ap, subst}
+use Rattle.std.specs.Option.{option_map}
+use Rattle.arrivals.specs.declared.carrier.Carrier.{Carrier}
 use Rattle.cache_versions.specs.Lends.{seat_in}
-use Rattle.cache_versions.specs.Seats.{opening_by, seen_by}
-use Rattle.resolver.proofs.OutcomeLemmas.{is_kept}
-use Rattle.forwarding.specs.ExtendedError.{marked}
-use Rattle.forwarding.proofs.QueryLemmas.{none_found, reply_found}
+use Rattle.cache_versions.specs.Seats.{seen_by}
+use Rattle.forwarding.specs.Buffers.{octets_in}
+use Rattle.forwarding.specs.declared.buffers.Buffers.{Buffers}
+use Rattle.forwarding.specs.Done.{found, found_as, found_within}
 use Rattle.forwarding.proofs.querying.look_at.Goals as goal
 
-pub returns-in-Some : goal.returns-in-Some
-returns-in-Some c =
-    let seat = seat_in c.args.version.now in
-    let kept = is_kept (seen_by seat) c.state.result.now (opening_by seat) c.state.ensures c.requires in
-    reply_found c.args.question.now c.args.now (seen_by seat) c.state.result.now kept c.in-Some.origin c.walk_reply.new.out c.mark_synthesized.new.out c.in-Some.ensures.reply c.in-Some.ensures.origin
-    (c.mark_synthesized.ensures.value ∙ ap (λ b. marked c.args.question.now b c.walk_reply.new.out) c.is_synthesized.ensures)
+pub returns-in-Datagram : goal.returns-in-Datagram
+returns-in-Datagram c =
+    let seen = seen_by (seat_in c.args.version.now) in
+    let after : Buffers = record { datagram = c.look_within.new.out; stream = c.args.out.now.stream } in
+    subst (λ (carrier : Carrier). found carrier seen c.args.question.now c.args.now ≡ option_map (found_as (octets_in after carrier)) c.look_within.result) (sym c.in-Datagram.is)
+    (ap (λ (n : ℕ). found_within n seen c.args.question.now c.args.now) (sym c.limit_of-limit.ensures.value) ∙ c.look_within.ensures)
 
-pub returns-in-None : goal.returns-in-None
-returns-in-None c =
-    let seat = seat_in c.args.version.now in
-    let kept = is_kept (seen_by seat) c.state.result.now (opening_by seat) c.state.ensures c.requires in
-    none_found c.args.question.now c.args.now (seen_by seat) c.state.result.now kept c.in-None.ensures.origin
+pub returns-in-Stream : goal.returns-in-Stream
+returns-in-Stream c =
+    let seen = seen_by (seat_in c.args.version.now) in
+    let after : Buffers = record { datagram = c.args.out.now.datagram; stream = c.look_within-in-Stream.new.out } in
+    subst (λ (carrier : Carrier). found carrier seen c.args.question.now c.args.now ≡ option_map (found_as (octets_in after carrier)) c.look_within-in-Stream.result) (sym c.in-Stream.is)
+    c.look_within-in-Stream.ensures

@@ -1,11 +1,11 @@
-use Rattle.std.proofs.Common.{◌∙◌, sym, ap}
+use Rattle.std.proofs.Common.{◌∙◌, ℕ, sym, ap}
+use Rattle.arrivals.specs.declared.came.Came.TheVariants as comes
 use Rattle.cache_versions.specs.Seats.{seen_by}
-use Rattle.forwarding.specs.declared.event.Came.TheVariants as comes
 use Rattle.forwarding.proofs.HoldingLemmas.{held_now, held_still}
 use Rattle.forwarding.proofs.worker.serve_event.Goals as goal
 
 pub serve_answer-requires-clause-answer : goal.serve_answer-requires-clause-answer
-serve_answer-requires-clause-answer g c = c.in-Answer.is ∙ ap comes.Answer (sym c.from-at.ensures)
+serve_answer-requires-clause-answer g c = c.in-Answer.is ∙ ap (λ (slot : ℕ). comes.Answer slot c.in-Answer.carrier) (sym c.from-at.ensures)
 
 pub show-requires : goal.show-requires
 show-requires g c = record {
