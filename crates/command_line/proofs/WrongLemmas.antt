@@ -11,10 +11,10 @@ use Rattle.std.proofs.lemmas.List.{get_or_append_left}
 use Rattle.std.proofs.lemmas.List.Elements.{All-contains, Contains-append_left, Contains-append_right}
 use Rattle.facts.proofs.Lists.{here}
 use Rattle.dname.specs.Name.{Label}
-use Rattle.command_line.specs.Words.{AreSet, AreSpelled, Choice, IsEvery, IsNameText, IsPathText, IsPlaceText, IsValue, Word, texts_of, workers_setting}
+use Rattle.command_line.specs.Words.{AreSet, AreSpelled, Choice, IsEvery, IsMapped, IsNameText, IsPathText, IsPlaceText, IsValue, Word, texts_of, workers_setting}
 use Rattle.command_line.specs.Faults.{AreOpposite, IsAmong, IsWrong, is_single, takes_place}
 use Rattle.command_line.specs.declared.cause.Cause.{Cause}
-use Rattle.command_line.specs.declared.cause.Cause.TheVariants.{NoAddress, EveryAddress, NoPort, ListenedTwice, UpstreamListened, TooManyListens, GivenTwice, NoWorkers, NoName, TooManyPasses, NoPath}
+use Rattle.command_line.specs.declared.cause.Cause.TheVariants.{NoAddress, EveryAddress, MappedAddress, NoPort, ListenedTwice, UpstreamListened, TooManyListens, GivenTwice, NoWorkers, NoName, TooManyPasses, NoPath}
 use Rattle.command_line.specs.declared.flag.Flag.{Flag}
 use Rattle.command_line.specs.declared.flag.Flag.TheVariants.{Listen, Upstream, Workers, Pass, Status}
 use Rattle.command_line.proofs.SpelledLemmas.{spelled_length, spelled_split, texts_append, value_of_text}
@@ -83,6 +83,11 @@ module _ (before after : List Choice) (text : Word) (places servers : List Socke
   every_address flag set (takes, (place, written, every)) =
       let p = placed_at flag takes set in
       p.1.single (subst IsEvery (IsSocketText_unique text place p.0 written p.1.written) every)
+
+  mapped_address : (flag : Flag) → Sets flag → IsWrong before (flag, text) MappedAddress → ⊥
+  mapped_address flag set (takes, (place, written, mapped)) =
+      let p = placed_at flag takes set in
+      p.1.unmapped (subst IsMapped (IsSocketText_unique text place p.0 written p.1.written) mapped)
 
   no_port : (flag : Flag) → Sets flag → IsWrong before (flag, text) NoPort → ⊥
   no_port flag set (takes, (place, written, none)) =
@@ -180,6 +185,7 @@ module _ (before after : List Choice) (text : Word) (places servers : List Socke
   pub wrong_refutes : (flag : Flag) (cause : Cause) → Sets flag → IsWrong before (flag, text) cause → ⊥
   wrong_refutes flag NoAddress set wrong = no_address flag set wrong
   wrong_refutes flag EveryAddress set wrong = every_address flag set wrong
+  wrong_refutes flag MappedAddress set wrong = mapped_address flag set wrong
   wrong_refutes flag NoPort set wrong = no_port flag set wrong
   wrong_refutes flag ListenedTwice set wrong = listened_twice flag set wrong
   wrong_refutes flag UpstreamListened set wrong = upstream_listened flag set wrong

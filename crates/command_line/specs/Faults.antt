@@ -7,12 +7,12 @@ use Rattle.std.specs.declared.alloc.Global.{Global}
 use Rattle.std.specs.declared.net.socket_addr.SocketAddr.{SocketAddr}
 use Rattle.dname.specs.Name.{Label}
 use Rattle.command_line.specs.declared.cause.Cause.{Cause}
-use Rattle.command_line.specs.declared.cause.Cause.TheVariants.{NoAddress, EveryAddress, NoPort, ListenedTwice, UpstreamListened, TooManyListens, GivenTwice, NoWorkers, NoName, TooManyPasses, NoPath}
+use Rattle.command_line.specs.declared.cause.Cause.TheVariants.{NoAddress, EveryAddress, MappedAddress, NoPort, ListenedTwice, UpstreamListened, TooManyListens, GivenTwice, NoWorkers, NoName, TooManyPasses, NoPath}
 use Rattle.command_line.specs.declared.fault.Fault.{Fault}
 use Rattle.command_line.specs.declared.fault.Fault.TheVariants.{Stray, Valueless, Wrong, Missing}
 use Rattle.command_line.specs.declared.flag.Flag.{Flag}
 use Rattle.command_line.specs.declared.flag.Flag.TheVariants.{Listen, Upstream, Workers, Pass, Status}
-use Rattle.command_line.specs.Words.{Word, Choice, IsValue, IsEvery, IsNameText, AreOptions, AreSet, begins_with_hyphen, flag_name, texts, texts_of, workers_setting}
+use Rattle.command_line.specs.Words.{Word, Choice, IsValue, IsEvery, IsMapped, IsNameText, AreOptions, AreSet, begins_with_hyphen, flag_name, texts, texts_of, workers_setting}
 
 -- the option's value is an address with a port
 abbrev pub takes_place : Flag → Bool
@@ -50,6 +50,7 @@ IsAmong choices flag place = (text : Word) × Contains (texts_of flag choices) t
 abbrev pub IsWrong : List Choice → Choice → Cause → Type 0
 IsWrong before (flag, text) NoAddress = IsTrue (takes_place flag) × ((place : SocketAddr) → IsSocketText text place → ⊥)
 IsWrong before (flag, text) EveryAddress = IsTrue (takes_place flag) × ((place : SocketAddr) × IsSocketText text place × IsEvery place)
+IsWrong before (flag, text) MappedAddress = IsTrue (takes_place flag) × ((place : SocketAddr) × IsSocketText text place × IsMapped place)
 IsWrong before (flag, text) NoPort = IsTrue (takes_place flag) × ((place : SocketAddr) × IsSocketText text place × (socket_port place ≡ 0))
 IsWrong before (flag, text) ListenedTwice = (flag ≡ Listen) × ((place : SocketAddr) × IsSocketText text place × IsAmong before Listen place)
 IsWrong before (flag, text) UpstreamListened =

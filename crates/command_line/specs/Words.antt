@@ -5,7 +5,7 @@ use Rattle.std.specs.Option.{option_to_list}
 use Rattle.std.specs.Char.{is_ascii_alphanumeric}
 use Rattle.std.specs.Str.{bytes_eq}
 use Rattle.std.specs.Str.Parse.{IsNumeral, digits_value}
-use Rattle.std.specs.Net.Addr.{IsUnspecifiedV4, IsUnspecifiedV6, MatchIp}
+use Rattle.std.specs.Net.Addr.{IsIpv4Mapped, IsUnspecifiedV4, IsUnspecifiedV6, MatchIp, ipv6_segments}
 use Rattle.std.specs.Net.Grammar.{IsSocketText}
 use Rattle.std.specs.Net.Socket.{socket_ip, socket_port}
 use Rattle.std.specs.declared.alloc.Global.{Global}
@@ -130,10 +130,15 @@ AreSpelled Spells (text ∷ more) (value ∷ values) =
 abbrev pub IsEvery : SocketAddr → Type 0
 IsEvery place = MatchIp (socket_ip place) IsUnspecifiedV4 IsUnspecifiedV6
 
+-- it is an IPv4-mapped IPv6 address: its first ten octets are 0, and the next two 255 (RFC 4291, section 2.5.5.2)
+abbrev pub IsMapped : SocketAddr → Type 0
+IsMapped place = MatchIp (socket_ip place) (λ _. ⊥) (λ ip. IsIpv4Mapped (ipv6_segments ip))
+
 -- the text writes an address and a port at which one may listen, or which one may ask
 pub record IsPlaceText (text : Word) (place : SocketAddr) : Type 0 where
   pub written : IsSocketText text place
   pub single : IsEvery place → ⊥
+  pub unmapped : IsMapped place → ⊥
   pub port : 1 ≤ socket_port place
 
 -- the text without a dot (46) at its end

@@ -14,6 +14,8 @@ pub enum Cause {
     NoAddress,
     /// The address is 0.0.0.0 or ::, which stand for every address of the machine.
     EveryAddress,
+    /// The address is an IPv4-mapped IPv6 address, as ::ffff:192.0.2.1, which stands for an IPv4 address.
+    MappedAddress,
     /// The port is 0.
     NoPort,
     /// The address and port are listened at already.
@@ -36,6 +38,7 @@ impl fmt::Display for Cause {
             Cause::TooManyPasses => "is a seventeenth name",
             Cause::NoAddress => "is no address with a port",
             Cause::EveryAddress => "stands for every address of the machine",
+            Cause::MappedAddress => "is an IPv4 address written as an IPv6 one",
             Cause::NoPort => "has port 0",
             Cause::ListenedTwice => "is listened at already",
             Cause::UpstreamListened => "is both listened at and upstream",

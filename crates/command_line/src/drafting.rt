@@ -1,6 +1,6 @@
 //! The settings of `forward`, taken from its options one after the other.
 ghost use Rattle.std.specs.Prelude.{◌≡◌, ◌↔◌, [], map, Contains, IfErr, IfOk, IsTrue, Some};
-ghost use Rattle.command_line.specs.Words.{AsksForward, IsPlaceText, texts};
+ghost use Rattle.command_line.specs.Words.{AsksForward, IsMapped, IsPlaceText, texts};
 ghost use Rattle.command_line.specs.Options.{IsDraft, IsDrawn, IsToldFault, IsToldWrong, IsUnplaced, Lacks, Takes, choice_of};
 
 use crate::OutOfMemory;
@@ -15,7 +15,7 @@ use crate::refusal::Refusal;
 use crate::setting::{Setting, WORKERS};
 use dname::{ItemList, Name};
 use std::alloc::Global;
-use std::net::SocketAddr;
+use std::net::{IpAddr, SocketAddr};
 
 /// The most addresses at which `forward` listens.
 const MAX_LISTENS: usize = 8;
@@ -203,10 +203,22 @@ fn place_in(text: &str) -> Result<SocketAddr, Cause>
     if place.ip().is_unspecified() {
         return Err(Cause::EveryAddress);
     }
+    if is_mapped(place) {
+        return Err(Cause::MappedAddress);
+    }
     if place.port() == 0 {
         return Err(Cause::NoPort);
     }
     Ok(place)
+}
+
+fn is_mapped(place: SocketAddr) -> bool
+    ensures { IsTrue result ↔ IsMapped place }
+{
+    match place.ip() {
+        IpAddr::V4(_) => false,
+        IpAddr::V6(ip) => ip.to_ipv4_mapped().is_some(),
+    }
 }
 
 fn has_place(places: &ItemList<SocketAddr>, place: SocketAddr) -> bool

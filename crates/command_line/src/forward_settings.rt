@@ -5,10 +5,10 @@ use std::net::SocketAddr;
 /// What `forward` is asked for.
 #[derive(Debug, Drop)]
 pub struct ForwardSettings {
-    /// Where it listens, in the order of the words: at one to eight places, no two the same. None has port 0 or stands for every
-    /// address of the machine.
+    /// Where it listens, in the order of the words: at one to eight places, no two the same. None has port 0, stands for every
+    /// address of the machine, or has an IPv4-mapped IPv6 address.
     pub listens: ItemList<SocketAddr>,
-    /// The server that is asked. It is none of them, and has an address and port of its own too.
+    /// The server that is asked. It is none of them, and what is said of their addresses and ports holds of its own too.
     pub upstream: SocketAddr,
     /// How many workers there are, 1 to 32.
     pub workers: u8,

@@ -96,6 +96,102 @@ const ADDRESSES: [Row; 14] = [
     ),
 ];
 
+const MAPPED: [Row; 8] = [
+    (
+        "--listen|[::ffff:127.0.0.1]:53",
+        "--listen [::ffff:127.0.0.1]:53 is an IPv4 address written as an IPv6 one",
+    ),
+    (
+        "--upstream=[::ffff:127.0.0.1]:53",
+        "--upstream [::ffff:127.0.0.1]:53 is an IPv4 address written as an IPv6 one",
+    ),
+    (
+        "--listen|[::ffff:0.0.0.0]:53",
+        "--listen [::ffff:0.0.0.0]:53 is an IPv4 address written as an IPv6 one",
+    ),
+    (
+        "--upstream|[::ffff:0.0.0.0]:53",
+        "--upstream [::ffff:0.0.0.0]:53 is an IPv4 address written as an IPv6 one",
+    ),
+    (
+        "--upstream|[::ffff:255.255.255.255]:53",
+        "--upstream [::ffff:255.255.255.255]:53 is an IPv4 address written as an IPv6 one",
+    ),
+    // 127.0.0.1 and 192.0.2.1 in hexadecimal digits.
+    (
+        "--upstream|[::FFFF:7f00:1]:53",
+        "--upstream [::FFFF:7f00:1]:53 is an IPv4 address written as an IPv6 one",
+    ),
+    (
+        "--listen|[0:0:0:0:0:ffff:c000:201]:53",
+        "--listen [0:0:0:0:0:ffff:c000:201]:53 is an IPv4 address written as an IPv6 one",
+    ),
+    // With a scope it is one too.
+    (
+        "--upstream|[::ffff:192.0.2.1%3]:54",
+        "--upstream [::ffff:192.0.2.1%3]:54 is an IPv4 address written as an IPv6 one",
+    ),
+];
+
+// Each differs from an IPv4-mapped address in an octet at least.
+const UNMAPPED: [&str; 9] = [
+    // IPv4-compatible (RFC 4291, section 2.5.5.1).
+    "[::127.0.0.1]",
+    "[::fffe:127.0.0.1]",
+    "[::ff:127.0.0.1]",
+    "[::ff00:127.0.0.1]",
+    "[::ffff:0:127.0.0.1]",
+    "[::1:ffff:127.0.0.1]",
+    "[100::ffff:127.0.0.1]",
+    "[2001:db8::ffff:127.0.0.1]",
+    // IPv4-embedded (RFC 6052, section 2.1).
+    "[64:ff9b::127.0.0.1]",
+];
+
+// Two things are wrong with each.
+const DOUBLY: [Row; 11] = [
+    (
+        "--listen|[::]:0",
+        "--listen [::]:0 stands for every address of the machine",
+    ),
+    (
+        "--upstream|0.0.0.0:0",
+        "--upstream 0.0.0.0:0 stands for every address of the machine",
+    ),
+    (
+        "--listen|[::ffff:192.0.2.1]:0",
+        "--listen [::ffff:192.0.2.1]:0 is an IPv4 address written as an IPv6 one",
+    ),
+    (
+        "--upstream|[::ffff:0.0.0.0]:0",
+        "--upstream [::ffff:0.0.0.0]:0 is an IPv4 address written as an IPv6 one",
+    ),
+    // The address that it stands for is listened at in FORWARD.
+    (
+        "--upstream|[::ffff:192.0.2.1]:53",
+        "--upstream [::ffff:192.0.2.1]:53 is an IPv4 address written as an IPv6 one",
+    ),
+    ("--workers|0", "--workers 0 is given twice"),
+    (
+        "--upstream|[::1]:53|--upstream|192.0.2.1:53",
+        "--upstream 192.0.2.1:53 is given twice",
+    ),
+    (
+        "--upstream|[::1]:53|--upstream=",
+        "--upstream  is given twice",
+    ),
+    ("--status|a|--status=", "--status  is given twice"),
+    // The first of two options that are wrong is told.
+    (
+        "--upstream|::1|--listen|[::]:53",
+        "--upstream ::1 is no address with a port",
+    ),
+    (
+        "--listen|[::]:53|--upstream|::1",
+        "--listen [::]:53 stands for every address of the machine",
+    ),
+];
+
 const VALUES: [Row; 12] = [
     ("--workers|2", "--workers 2 is given twice"),
     ("--status|a|--status|b", "--status b is given twice"),
@@ -164,7 +260,37 @@ fn values_that_are_wrong_are_told(rt: HostRuntime) -> Result<(), Fail> {
     let before = format!(in rt.alloc(); "{FORWARD}|")?;
     let wrong = told_otherwise(rt.alloc(), before.as_str(), &ADDRESSES)?;
     assert!(rt; wrong.is_none(), "{wrong:?}");
+    let wrong = told_otherwise(rt.alloc(), before.as_str(), &MAPPED)?;
+    assert!(rt; wrong.is_none(), "{wrong:?}");
     let wrong = told_otherwise(rt.alloc(), before.as_str(), &VALUES)?;
+    assert!(rt; wrong.is_none(), "{wrong:?}");
+    Ok(())
+}
+
+#[test]
+fn the_first_cause_is_told(rt: HostRuntime) -> Result<(), Fail> {
+    let before = format!(in rt.alloc(); "{FORWARD}|")?;
+    let wrong = told_otherwise(rt.alloc(), before.as_str(), &DOUBLY)?;
+    assert!(rt; wrong.is_none(), "{wrong:?}");
+    Ok(())
+}
+
+// The first of the addresses at which one may not listen, or which may not be asked.
+fn refused(alloc: Global, addresses: &[&'static str]) -> Result<Option<&'static str>, OutOfMemory> {
+    for address in addresses {
+        let listens = format!(in alloc; "{FORWARD}{UPSTREAM}|--listen|{address}:53")?;
+        let asks = format!(in alloc; "{FORWARD}|--upstream|{address}:53")?;
+        let is_listened = command_in(alloc, listens.as_str())?.is_some();
+        if !is_listened || command_in(alloc, asks.as_str())?.is_none() {
+            return Ok(Some(*address));
+        }
+    }
+    Ok(None)
+}
+
+#[test]
+fn other_addresses_are_not_mapped(rt: HostRuntime) -> Result<(), Fail> {
+    let wrong = refused(rt.alloc(), &UNMAPPED)?;
     assert!(rt; wrong.is_none(), "{wrong:?}");
     Ok(())
 }
@@ -190,6 +316,19 @@ fn one_more_than_the_most_is_told(rt: HostRuntime) -> Result<(), Fail> {
     assert!(rt; command_in(rt.alloc(), sixteen.as_str())?.is_some());
     let told = "--pass n16.example is a seventeenth name";
     assert!(rt; is_told(rt.alloc(), seventeen.as_str(), told)?);
+    Ok(())
+}
+
+#[test]
+fn one_more_is_told_before_its_own_fault(rt: HostRuntime) -> Result<(), Fail> {
+    let mut ninth = with_more(rt.alloc(), "--listen|[2001:db8::", 7, "]:53")?;
+    ninth.push_str("|--listen|[::]:53")?;
+    let mut seventeenth = with_more(rt.alloc(), "--pass|n", 16, ".example")?;
+    seventeenth.push_str("|--pass|.")?;
+    let told = "--listen [::]:53 is a ninth address";
+    assert!(rt; is_told(rt.alloc(), ninth.as_str(), told)?);
+    let told = "--pass . is a seventeenth name";
+    assert!(rt; is_told(rt.alloc(), seventeenth.as_str(), told)?);
     Ok(())
 }
 
