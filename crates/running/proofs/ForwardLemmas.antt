@@ -1,8 +1,11 @@
 -- What the words of `forward` ask for, and how it ends.
-use Rattle.std.proofs.Common.{◌≡◌, ◌≤◌, ℕ, Bool, true, false, true≢false, List, [], ◌∷◌, length, inl, inr, zero, refl, sym, arith}
-use Rattle.std.specs.Prelude.{MatchBool}
+use Rattle.std.proofs.Common.{◌≡◌, ◌≤◌, ◌∙◌, ℕ, Bool, true, false, true≢false, List, [], ◌∷◌, length, Option, None, Some, inl, inr, zero, refl, sym, arith}
+use Rattle.std.specs.Prelude.{IfSome, MatchBool, String}
+use Rattle.std.specs.declared.alloc.Global.{Global}
+use Rattle.std.proofs.lemmas.Option.{same_Some}
 use Rattle.outside_core.specs.Fault.{Rose}
-use Rattle.command_line.specs.Words.{Word, IsValue, Means, texts_of, workers_setting}
+use Rattle.command_line.specs.Words.{Word, AreWordsOf, IsValue, Means, texts_of, workers_setting}
+use Rattle.command_line.specs.declared.command.Command.{Command}
 use Rattle.command_line.specs.declared.command.Command.TheVariants.{Forward}
 use Rattle.command_line.specs.declared.flag.Flag.TheVariants.{Workers}
 use Rattle.command_line.specs.declared.forward_settings.ForwardSettings.{ForwardSettings}
@@ -20,6 +23,12 @@ pub forwarders_in_range : (words : List Word) (settings : ForwardSettings) → M
 forwarders_in_range words settings (options, is, asks) =
     let found = text_of_value (IsValue workers_setting) (texts_of Workers asks.choices) (settings.workers ∷ []) settings.workers asks.set.workers (zero, omega arith, refl) in
     (found.2.least, found.2.most)
+
+-- the command for which the outlets are is the one that was found
+pub asked_is_found : (words : List (String Global)) (found : Option Command) (command own : Command) (asked : Option Command) → found ≡ Some command → command ≡ own
+    → ((command : Command) → AreWordsOf words command → found ≡ Some command) → IfSome asked (AreWordsOf words) → IfSome asked (λ command. command ≡ own)
+asked_is_found words found command own None is same every are = tt
+asked_is_found words found command own (Some one) is same every are = sym (same_Some command one (sym is ∙ every one are)) ∙ same
 
 -- a refusal has made the count rise
 pub rose_of : (want : Bool) (before after : ℕ) → MatchBool want (after ≡ before) (Rose before after) → want ≡ false → Rose before after

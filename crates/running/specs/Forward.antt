@@ -21,7 +21,7 @@ IsOfForward status = IsWant status ⊎ (status ≡ ListenFault)
 abbrev pub is_want : OutletFault → Bool
 is_want (faults.Ids cause) = false
 is_want (faults.Poll cause) = false
-is_want (faults.Address address cause) = false
+is_want (faults.Address address carrier cause) = false
 is_want faults.OutOfMemory = true
 
 -- a refusal has made the count of faults rise, and want of memory has left it as it was

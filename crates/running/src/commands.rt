@@ -67,7 +67,10 @@ pub fn run<
     gateway: &mut W,
     outlets: &mut O,
 ) -> Status
-    requires { W.Gateway.listens gateway.old ≡ None }
+    requires shut { W.Gateway.listens gateway.old ≡ None }
+
+    // Outlets that tell for which command they are have the one that the words are.
+    requires asked { IfSome (O.Outlets.asked outlets.old) (AreWordsOf words.now) }
 
     // Want of memory, status 6, may take the place of any status, as it may of any answer: a call
     // for memory was refused, or a count of a list's entries or of a zone's sets would have passed

@@ -1,5 +1,6 @@
 //! The command `forward`.
-ghost use Rattle.std.specs.Prelude.{◌≡◌, ◌≤◌, ◌++◌, false, true, All, length, map, IfOk, OnOk};
+ghost use Rattle.std.specs.Prelude.{◌≡◌, ◌≤◌, ◌++◌, false, true, All, length, map, IfOk, IfSome, OnOk};
+ghost use Rattle.command_line.specs.declared.command.Command.TheVariants.{Forward};
 ghost use Rattle.outside_core.specs.Fault.{Rose};
 ghost use Rattle.resolver.specs.Caches.{IsSeatOf};
 ghost use Rattle.forwarding.specs.Lawful.{IsNew};
@@ -12,11 +13,11 @@ mod outlets;
 mod reporter;
 mod row;
 mod shown;
+mod socket_outlet;
+mod socket_outlets;
 mod start;
 mod status_file;
 mod system_ids;
-mod udp_outlet;
-mod udp_outlets;
 mod worker;
 
 use crate::forward::reporter::Reporter;
@@ -32,11 +33,11 @@ pub use outlet_fault::OutletFault;
 pub use outlets::Outlets;
 use resolver::{CacheSeat, SharedCache};
 pub use shown::Shown;
+pub(crate) use socket_outlets::SocketOutlets;
 use std::alloc::Global;
 use std::sync::Wait;
 use std::thread;
 use std::thread::Threads;
-pub(crate) use udp_outlets::UdpOutlets;
 
 /// Opens the outlets, and serves over them without end, each worker on a thread of its own and all over one new cache. It returns
 /// only where that can't begin. What stood in the way is told to the operator, unless it was want of memory.
@@ -46,6 +47,8 @@ pub(crate) fn run_forward<R: Threads + Wait + Sync, O: Outlets>(
     settings: &ForwardSettings,
     outlets: &mut O,
 ) -> Status
+    requires asked { IfSome (O.Outlets.asked outlets.old) (λ command.
+        command ≡ Forward settings.now) }
     requires few { length settings.now.listens ≤ 8 }
     requires workers { (1 ≤ settings.now.workers) × (settings.now.workers ≤ 32) }
     ensures ends { IsOfForward result }
@@ -56,9 +59,11 @@ pub(crate) fn run_forward<R: Threads + Wait + Sync, O: Outlets>(
     ensures no_fault { IsWant result
         → O.Outlets.faults outlets.new ≡ O.Outlets.faults outlets.old }
 {
-    let listens = settings.listens.as_slice();
-    match outlets.open(alloc, listens, settings.upstream, settings.workers) {
-        Ok(opened) => serve_over(rt, alloc, settings, opened, outlets),
+    let Ok(passed) = passed_names(alloc, settings) else {
+        return Status::OutOfMemory;
+    };
+    match outlets.open(alloc, settings, &passed) {
+        Ok(opened) => serve_over(rt, alloc, settings, &passed, opened, outlets),
         Err(fault) => unopened(outlets, fault),
     }
 }
@@ -81,17 +86,15 @@ fn serve_over<R: Threads + Wait + Sync, U: Outlet + Send + Drop, O: Outlets>(
     rt: &R,
     alloc: Global,
     settings: &ForwardSettings,
+    passed: &PassedNames,
     opened: Vec<U>,
     outlets: &O,
 ) -> Status
     requires workers { (1 ≤ settings.now.workers) × (settings.now.workers ≤ 32) }
     requires all { length opened.items ≡ settings.now.workers }
-    requires new { All (λ outlet. IsNew (U.Outlet.told outlet)) opened.items }
+    requires new { All (λ outlet. IsNew passed.now (U.Outlet.told outlet)) opened.items }
     ensures { IsWant result }
 {
-    let Ok(passed) = passed_names(alloc, settings) else {
-        return Status::OutOfMemory;
-    };
     let Ok(reporter) = Reporter::of(alloc, settings, outlets) else {
         return Status::OutOfMemory;
     };
@@ -99,7 +102,7 @@ fn serve_over<R: Threads + Wait + Sync, U: Outlet + Send + Drop, O: Outlets>(
         return Status::OutOfMemory;
     };
     let ended = match workers_of(alloc, seats, opened) {
-        Ok(workers) => serve_all(rt, alloc, &cache, &passed, workers, outlets, reporter),
+        Ok(workers) => serve_all(rt, alloc, &cache, passed, workers, outlets, reporter),
         Err(_) => Status::OutOfMemory,
     };
     cache.give_up(rt);
@@ -158,7 +161,8 @@ fn serve_all<R: Threads + Wait + Sync, U: Outlet + Send + Drop, O: Outlets>(
     reporter: Reporter<'_>,
 ) -> Status
     requires object { All (λ worker. IsSeatOf cache.now worker.seat) workers.items }
-    requires new { All (λ worker. IsNew (U.Outlet.told worker.outlet)) workers.items }
+    requires new { All (λ worker. IsNew passed.now (U.Outlet.told worker.outlet))
+        workers.items }
     ensures { result ≡ Status.ThreadFault }
 {
     let start = &Start::new();
@@ -168,13 +172,13 @@ fn serve_all<R: Threads + Wait + Sync, U: Outlet + Send + Drop, O: Outlets>(
         rt,
         move |scope| -> Status
             requires { All (λ worker. IsSeatOf cache.now worker.seat) workers.items
-                × All (λ worker. IsNew (U.Outlet.told worker.outlet)) workers.items }
+                × All (λ worker. IsNew passed.now (U.Outlet.told worker.outlet)) workers.items }
             ensures { result ≡ Status.ThreadFault }
         {
             for worker in workers {
                 let work = move ||
                     requires { IsSeatOf cache.now worker.seat
-                        × IsNew (U.Outlet.told worker.outlet) }
+                        × IsNew passed.now (U.Outlet.told worker.outlet) }
                 { worker.serve_from(rt, alloc, cache, passed, ids, start) };
                 if scope.spawn(work).is_err() {
                     start.leave(rt);

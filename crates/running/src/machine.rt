@@ -16,7 +16,7 @@ ghost use Rattle.run_audit.specs.Line.{finding_line};
 ghost use Rattle.running.specs.Audit.{AreUpheld, HasAudited, HasAuditedInPart, IsAuditStatusOf, IsOfAudit, IsTooLong, IsUnaudited};
 
 use crate::commands::run;
-use crate::forward::{Board, UdpOutlets};
+use crate::forward::{Board, SocketOutlets};
 use crate::status::Status;
 use gateway::TcpGateway;
 use outside_core::{OpenGate, Sink, Source, SystemClock, UdpHarbor};
@@ -179,7 +179,7 @@ pub fn run_here<
     let mut harbor = UdpHarbor::over(net);
     let mut gateway = TcpGateway::over(net);
     let board = Board::new();
-    let mut outlets = UdpOutlets::over(net, &clock, machine, &board);
+    let mut outlets = SocketOutlets::over(net, &clock, machine, &board);
     let clock = SystemClock::over(&clock);
     run(
         rt,

@@ -1,7 +1,8 @@
 //! How `forward` ends where it can't begin, and what is told by `--help` and `--version`.
 
-use super::replays::{Ended, source_of, words_of};
+use super::replays::{source_of, words_of};
 use super::shut_outlets::{Hindrance, ShutOutlets};
+use arrivals::Carrier;
 use dname::OutOfMemory;
 use gateway::MemoryGateway;
 use outside_core::{FixedClock, MemoryHarbor, MemorySink, OpenGate};
@@ -18,15 +19,18 @@ use std::{io, str, time};
 
 const FORWARD: &str = "forward --listen 127.0.0.1:53 --upstream 127.0.0.1:5353 --workers 32";
 
-// How the words end over the outlets, and what they write, where those writes fail.
+// How the words end over outlets that are for them, what they write, where those writes fail, and how often outlets couldn't be
+// opened.
 fn told<R: Threads + Wait + Sync>(
     rt: &R,
     alloc: Global,
     words: &str,
-    outlets: &mut ShutOutlets,
+    hindrance: Hindrance,
     failing: &[u32],
-) -> Result<Ended, OutOfMemory> {
+) -> Result<(Status, Vec<u8>, u64), OutOfMemory> {
     let words = words_of(alloc, words)?;
+    let words = words.as_slice();
+    let mut outlets = ShutOutlets::for_words(alloc, hindrance, words)?;
     let mut source = source_of(alloc, b"")?;
     let mut sink = MemorySink::with_room(alloc, 4096, Vec::from_slice(alloc, failing)?)?;
     let mut harbor = MemoryHarbor::with_links(alloc, Vec::new(alloc), Vec::new(alloc))?;
@@ -35,16 +39,20 @@ fn told<R: Threads + Wait + Sync>(
     let status = run(
         rt,
         alloc,
-        &words,
+        words,
         &mut source,
         &mut sink,
         &OpenGate,
         &mut harbor,
         &clock,
         &mut gateway,
-        outlets,
+        &mut outlets,
     );
-    Ok((status, Vec::from_slice(alloc, sink.written())?))
+    Ok((
+        status,
+        Vec::from_slice(alloc, sink.written())?,
+        outlets.faults(),
+    ))
 }
 
 // A hindrance, the status with which the program ends, and how often outlets couldn't be opened.
@@ -59,11 +67,10 @@ fn hindered_otherwise<R: Threads + Wait + Sync>(
     alloc: Global,
 ) -> Result<Option<(Hindrance, Status, u64, usize)>, OutOfMemory> {
     for (hindrance, expected, code, faults) in HINDRANCES {
-        let mut outlets = ShutOutlets::by(hindrance);
-        let (status, written) = told(rt, alloc, FORWARD, &mut outlets, &[])?;
+        let (status, written, found) = told(rt, alloc, FORWARD, hindrance, &[])?;
         let right = status == expected && status.exit_code() == ExitCode::from(code);
-        if !right || outlets.faults() != faults || !written.is_empty() {
-            return Ok(Some((hindrance, status, outlets.faults(), written.len())));
+        if !right || found != faults || !written.is_empty() {
+            return Ok(Some((hindrance, status, found, written.len())));
         }
     }
     Ok(None)
@@ -81,13 +88,29 @@ fn line(alloc: Global, fault: OutletFault) -> Result<String, OutOfMemory> {
     format!(in alloc; "{fault}")
 }
 
+// What is said where a socket is denied at 127.0.0.1:53.
+fn line_on_denial(alloc: Global, carrier: Carrier) -> Result<String, OutOfMemory> {
+    let fault = OutletFault::Address {
+        address: SocketAddr::V4(SocketAddrV4::new(Ipv4Addr::LOCALHOST, 53)),
+        carrier,
+        cause: io::Error::from_raw_os_error(13),
+    };
+    line(alloc, fault)
+}
+
 #[test]
 fn a_fault_names_its_address_and_its_cause(rt: HostRuntime) -> Result<(), Fail> {
-    let address = SocketAddr::V4(SocketAddrV4::new(Ipv4Addr::LOCALHOST, 53));
-    let cause = io::Error::from_raw_os_error(13);
-    let found = line(rt.alloc(), OutletFault::Address { address, cause })?;
-    let expected = "no socket at 127.0.0.1:53: Permission denied (os error 13)";
+    let found = line_on_denial(rt.alloc(), Carrier::Datagram)?;
+    let expected = "no UDP socket at 127.0.0.1:53: Permission denied (os error 13)";
     assert!(rt; found.as_str() == expected, "{found}");
+    let found = line_on_denial(rt.alloc(), Carrier::Stream)?;
+    let expected = "no TCP socket at 127.0.0.1:53: Permission denied (os error 13)";
+    assert!(rt; found.as_str() == expected, "{found}");
+    Ok(())
+}
+
+#[test]
+fn a_fault_before_any_address_names_its_cause(rt: HostRuntime) -> Result<(), Fail> {
     let found = line(
         rt.alloc(),
         OutletFault::Poll(io::Error::from_raw_os_error(24)),
@@ -156,10 +179,9 @@ fn told_otherwise<R: Threads + Wait + Sync>(
     rt: &R,
     alloc: Global,
 ) -> Result<Option<(&'static str, Status, Status)>, OutOfMemory> {
-    let mut outlets = ShutOutlets::by(Hindrance::Address);
     for (words, part) in TEXTS {
-        let (status, written) = told(rt, alloc, words, &mut outlets, &[])?;
-        let (cut, nothing) = told(rt, alloc, words, &mut outlets, &[1])?;
+        let (status, written, _) = told(rt, alloc, words, Hindrance::Address, &[])?;
+        let (cut, nothing, _) = told(rt, alloc, words, Hindrance::Address, &[1])?;
         let right = status == Status::Good && has(&written, part);
         if !right || cut != Status::WriteFault || !nothing.is_empty() {
             return Ok(Some((words, status, cut)));

@@ -7,7 +7,7 @@ ghost use Rattle.forwarding.specs.Holding.{holding_of};
 ghost use Rattle.forwarding.specs.Lawful.{MaySend, MayShow, more_received, more_sent};
 
 use counters::Counts;
-use forwarding::{Event, Holding, Outlet, PassedNames};
+use forwarding::{Carrier, Event, Holding, Outlet, PassedNames};
 use resolver::{CacheSeat, SharedCache};
 use std::sync::Wait;
 
@@ -37,6 +37,7 @@ impl Outlet for NoOutlet {
         _seat: &CacheSeat,
         _passed: &PassedNames,
         _slot: usize,
+        _carrier: Carrier,
         _octets: &[u8],
     ) {}
 

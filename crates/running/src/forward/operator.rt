@@ -12,6 +12,6 @@ pub trait Operator {
     fn tell<D: fmt::Display + Drop>(&self, text: D);
 
     /// Puts the text into the file `beside`, and then that file in the place of the file at the path, so that whoever reads there
-    /// finds a whole text.
+    /// finds a whole text. What stands there and is no file stays, and is an error.
     fn put(&self, path: &str, beside: &str, text: &str) -> io::Result<()>;
 }

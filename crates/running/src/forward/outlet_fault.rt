@@ -1,6 +1,7 @@
 ghost use Rattle.std.specs.Prelude.{◌≡◌};
 ghost use Rattle.running.specs.Forward.{is_want};
 
+use arrivals::Carrier;
 use std::net::SocketAddr;
 use std::{fmt, io};
 
@@ -11,9 +12,10 @@ pub enum OutletFault {
     Ids(io::Error),
     /// It has no means to wait for many sockets at once.
     Poll(io::Error),
-    /// No socket can be had at an address.
+    /// No socket can be had at an address, for datagrams or for streams.
     Address {
         address: SocketAddr,
+        carrier: Carrier,
         cause: io::Error,
     },
     OutOfMemory,
@@ -29,6 +31,7 @@ impl OutletFault {
             OutletFault::Poll(_) => false,
             OutletFault::Address {
                 address: _,
+                carrier: _,
                 cause: _,
             } => false,
             OutletFault::OutOfMemory => true,
@@ -41,7 +44,16 @@ impl fmt::Display for OutletFault {
         match self {
             OutletFault::Ids(cause) => write!(f, "no random octets: {cause}"),
             OutletFault::Poll(cause) => write!(f, "no way to wait for sockets: {cause}"),
-            OutletFault::Address { address, cause } => write!(f, "no socket at {address}: {cause}"),
+            OutletFault::Address {
+                address,
+                carrier: Carrier::Datagram,
+                cause,
+            } => write!(f, "no UDP socket at {address}: {cause}"),
+            OutletFault::Address {
+                address,
+                carrier: Carrier::Stream,
+                cause,
+            } => write!(f, "no TCP socket at {address}: {cause}"),
             OutletFault::OutOfMemory => f.write_str("out of memory"),
         }
     }

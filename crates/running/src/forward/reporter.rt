@@ -1,6 +1,4 @@
 //! What a forwarder says while it serves.
-ghost use Rattle.std.specs.Prelude.{◌≤◌};
-
 use crate::forward::status_file::StatusFile;
 use crate::forward::{Operator, Outlets};
 use command_line::{ForwardSettings, VERSION};
@@ -102,12 +100,22 @@ fn tell<O: Outlets>(alloc: Global, outlets: &O, notice: Notice) -> Result<(), Ou
 }
 
 fn cause_of<O: Outlets>(alloc: Global, outlets: &O, what: What) -> Result<String, OutOfMemory> {
-    let cause = match what {
-        What::Failed(call) => outlets.cause(call),
-        What::Silent | What::Back => None,
+    let What::Failed(call) = what else {
+        return Ok(String::new(alloc));
     };
-    match cause {
+    match outlets.cause(call) {
         Some(error) => error.to_string(alloc),
-        None => String::from_str(alloc, "a cause that isn't known"),
+        None => String::from_str(alloc, own_cause(call)),
+    }
+}
+
+// Why a call fails without an error of the system.
+fn own_cause(call: Call) -> &'static str {
+    match call {
+        Call::Reply => "no client waits for it",
+        Call::Accept => "32 connections are open",
+        Call::ReadStream =>
+            "it ended early, has 33 queries without a reply, or tells too small a length",
+        _ => "a cause that isn't known",
     }
 }

@@ -83,5 +83,9 @@ pub(crate) fn fault_of(faults: &Faults, call: Call) -> &Fault {
         Call::Connect => &faults.connect,
         Call::Watch => &faults.watch,
         Call::Send => &faults.send,
+        Call::Accept => &faults.accept,
+        Call::ConnectStream => &faults.stream_connect,
+        Call::ReadStream => &faults.stream_read,
+        Call::WriteStream => &faults.stream_write,
     }
 }

@@ -1,19 +1,25 @@
 //! What a worker of a forwarder has at hand.
-ghost use Rattle.std.specs.Prelude.{◌≡◌, [], All, IfOk, length};
+ghost use Rattle.std.specs.Prelude.{◌≡◌, IfOk};
 ghost use Rattle.counters.specs.Counts.{no_counts};
 ghost use Rattle.resolver.specs.Caches.{IsSeatOf};
 ghost use Rattle.waiting_table.specs.Waiting.{empty_table};
 ghost use Rattle.forwarding.specs.Lawful.{IsNew};
 
 use crate::forward::start::Start;
+use arrivals::{Came, Event, MessageOctets, Moment};
 use counters::Counts;
 use dname::OutOfMemory;
-use forwarding::{Came, Dice, Event, Moment, Outlet, PassedNames, serve_on};
-use outside_core::DatagramOctets;
+use forwarding::{Dice, Outlet, PassedNames, serve_on};
 use resolver::{CacheSeat, SharedCache};
 use std::alloc::Global;
 use std::sync::Wait;
 use waiting_table::WaitingTable;
+
+/// What a place for events shows before the first has come.
+const START: Moment = Moment {
+    seconds: 0,
+    millis: 0,
+};
 
 /// A worker that has not begun.
 #[derive(Drop)]
@@ -22,13 +28,12 @@ pub(crate) struct ForwardWorker<O: Outlet> {
     pub(crate) outlet: O,
     table: WaitingTable,
     counts: Counts,
-    event: Event,
     ghost waits: { table ≡ empty_table },
     ghost uncounted: { counts ≡ no_counts },
 }
 
 impl<O: Outlet + Drop> ForwardWorker<O> {
-    /// The worker of the seat and the outlet. All memory that it will need but for the cache's is taken here.
+    /// The worker of the seat and the outlet. The memory for its waiting questions is taken here.
     pub(crate) fn new(
         alloc: Global,
         seat: CacheSeat,
@@ -42,14 +47,6 @@ impl<O: Outlet + Drop> ForwardWorker<O> {
             outlet,
             table: WaitingTable::new(alloc)?,
             counts: Counts::new(),
-            event: Event {
-                moment: Moment {
-                    seconds: 0,
-                    millis: 0,
-                },
-                came: Came::Tick,
-                octets: DatagramOctets::of(&[]),
-            },
         })
     }
 
@@ -64,7 +61,7 @@ impl<O: Outlet + Drop> ForwardWorker<O> {
         start: &Start,
     )
         requires object { IsSeatOf cache.now self.seat }
-        requires new { IsNew (O.Outlet.told self.outlet) }
+        requires new { IsNew passed.now (O.Outlet.told self.outlet) }
     {
         if start.is_given(rt) {
             self.serve(rt, alloc, cache, passed, ids);
@@ -81,7 +78,7 @@ impl<O: Outlet + Drop> ForwardWorker<O> {
         ids: &D,
     )
         requires object { IsSeatOf cache.now self.seat }
-        requires new { IsNew (O.Outlet.told self.outlet) }
+        requires new { IsNew passed.now (O.Outlet.told self.outlet) }
         ensures { ⊥ }
     {
         let ForwardWorker {
@@ -89,8 +86,12 @@ impl<O: Outlet + Drop> ForwardWorker<O> {
             mut outlet,
             mut table,
             mut counts,
-            mut event,
         } = self;
+        let mut event = Event {
+            moment: START,
+            came: Came::Tick,
+            octets: MessageOctets::new(),
+        };
         serve_on(
             rt,
             alloc,

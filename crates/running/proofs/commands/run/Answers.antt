@@ -7,7 +7,7 @@ use Rattle.serving.specs.Back.{CameBack, AllServedWhole}
 use Rattle.running.specs.Help.{IsTextCut, IsTextWritten}
 use Rattle.running.specs.Serve.{EndedInWant, ServedInPart}
 use Rattle.running.proofs.AskLemmas.{asks_replay, none_asked}
-use Rattle.running.proofs.ForwardLemmas.{few_listens, forwarders_in_range}
+use Rattle.running.proofs.ForwardLemmas.{asked_is_found, few_listens, forwarders_in_range}
 use Rattle.running.proofs.HelpLemmas.{asks_help, asks_no_text, asks_version, none_told, tells_alone, tells_no_replay}
 use Rattle.running.proofs.ServeLemmas.{found_means, none_found, few_datagrams, same_service, same_tcp, workers_in_range}
 use Rattle.running.proofs.commands.run.Goals as goal
@@ -153,6 +153,10 @@ returns-in-Tcp-clause-listens g c = λ l n means.
 pub returns-in-Tcp-clause-unopened : goal.returns-in-Tcp-clause-unopened
 returns-in-Tcp-clause-unopened g c = λ none. absurd (none c.in-Tcp.listen c.in-Tcp.connections
     (found_means c.args.words.now c.in-Ok-Some.field-0 c.in-Ok-Some.command (Tcp c.in-Tcp.listen c.in-Tcp.connections) c.in-Ok-Some.field-0-is c.in-Tcp.is c.in-Ok-Some.ensures.read))
+
+pub run_forward-status-requires-clause-asked : goal.run_forward-status-requires-clause-asked
+run_forward-status-requires-clause-asked g c = λ κs outlives.
+    asked_is_found c.args.words.now c.in-Ok-Some.field-0 c.in-Ok-Some.command (Forward c.in-Forward.settings) (g.O.Outlets.asked c.args.outlets.now) c.in-Ok-Some.field-0-is c.in-Forward.is c.in-Ok-Some.ensures.every c.requires.asked
 
 pub run_forward-status-requires-clause-few : goal.run_forward-status-requires-clause-few
 run_forward-status-requires-clause-few g c = λ κs outlives.

@@ -10,4 +10,4 @@ serve_all-ended-requires-clause-object g c = λ κs outlives.
 
 pub serve_all-ended-requires-clause-new : goal.serve_all-ended-requires-clause-new
 serve_all-ended-requires-clause-new g c = λ κs outlives.
-    all_of_map (λ outlet. IsNew (g.U.Outlet.told outlet)) (λ worker. worker.outlet) c.in-Ok-workers_of.workers.items c.args.opened.items c.in-Ok-workers_of.ensures.outlets c.requires.new
+    all_of_map (λ outlet. IsNew c.args.passed.now (g.U.Outlet.told outlet)) (λ worker. worker.outlet) c.in-Ok-workers_of.workers.items c.args.opened.items c.in-Ok-workers_of.ensures.outlets c.requires.new

@@ -1,19 +1,21 @@
 //! The outside of a forwarder on the machine.
-ghost use Rattle.std.specs.Prelude.{◌≡◌, ◌≤◌, true, length, IfErr, IfOk, OnOk};
+ghost use Rattle.std.specs.Prelude.{◌≡◌, ◌≤◌, true, length, IfErr, IfOk, None, OnOk};
 ghost use Rattle.outside_core.specs.Fault.{Rose};
 ghost use Rattle.running.specs.Forward.{CountsFault};
 
 use crate::forward::board::Board;
+use crate::forward::socket_outlet::SocketOutlet;
 use crate::forward::system_ids::SystemIds;
-use crate::forward::udp_outlet::UdpOutlet;
 use crate::forward::{Operator, OutletFault, Outlets, Shown};
+use command_line::ForwardSettings;
 use forward_report::Call;
 use forward_sockets as sockets;
 use forward_sockets::Sockets;
+use forwarding::PassedNames;
 use std::alloc::Global;
 use std::fs::Files;
 use std::io::Write;
-use std::net::{Net, SocketAddr};
+use std::net::Net;
 use std::random::RandomSource;
 use std::time::Duration;
 use std::{fmt, fs, io, thread, time};
@@ -23,7 +25,7 @@ const PAUSE: u64 = 250;
 
 /// The network, the clock, and the files and the standard error of the machine, with what workers show.
 #[derive(Drop)]
-pub struct UdpOutlets<'a, N, T, M> {
+pub struct SocketOutlets<'a, N, T, M> {
     net: &'a N,
     clock: &'a T,
     machine: &'a M,
@@ -33,9 +35,9 @@ pub struct UdpOutlets<'a, N, T, M> {
     faults: u64,
 }
 
-impl<'a, N: Net, T, M: RandomSource> UdpOutlets<'a, N, T, M> {
+impl<'a, N: Net, T, M: RandomSource> SocketOutlets<'a, N, T, M> {
     pub fn over(net: &'a N, clock: &'a T, machine: &'a M, board: &'a Board) -> Self {
-        UdpOutlets {
+        SocketOutlets {
             net,
             clock,
             machine,
@@ -50,21 +52,19 @@ impl<'a, N: Net, T, M: RandomSource> UdpOutlets<'a, N, T, M> {
     fn open_all(
         &self,
         alloc: Global,
-        listens: &[SocketAddr],
-        upstream: SocketAddr,
-        workers: u8,
-    ) -> Result<Vec<UdpOutlet<'a, T>>, OutletFault>
-        requires few { length listens.now ≤ 8 }
-        ensures { IfOk result (λ opened. length opened.items ≡ workers) }
+        settings: &ForwardSettings,
+    ) -> Result<Vec<SocketOutlet<'a, T>>, OutletFault>
+        requires few { length settings.now.listens ≤ 8 }
+        ensures { IfOk result (λ opened. length opened.items ≡ settings.now.workers) }
     {
         if let Err(cause) = self.ids.check() {
             return Err(OutletFault::Ids(cause));
         }
-        let Ok(mut opened) = Vec::with_capacity(alloc, usize::from(workers)) else {
+        let Ok(mut opened) = Vec::with_capacity(alloc, usize::from(settings.workers)) else {
             return Err(OutletFault::OutOfMemory);
         };
-        for worker in 0..workers {
-            opened.push_reserved(self.open_one(alloc, listens, upstream, worker)?);
+        for worker in 0..settings.workers {
+            opened.push_reserved(self.open_one(alloc, settings, worker)?);
         }
         Ok(opened)
     }
@@ -72,29 +72,37 @@ impl<'a, N: Net, T, M: RandomSource> UdpOutlets<'a, N, T, M> {
     fn open_one(
         &self,
         alloc: Global,
-        listens: &[SocketAddr],
-        upstream: SocketAddr,
+        settings: &ForwardSettings,
         worker: u8,
-    ) -> Result<UdpOutlet<'a, T>, OutletFault>
-        requires few { length listens.now ≤ 8 }
+    ) -> Result<SocketOutlet<'a, T>, OutletFault>
+        requires few { length settings.now.listens ≤ 8 }
     {
-        match Sockets::bind(self.net, alloc, listens, upstream) {
-            Ok(sockets) => Ok(UdpOutlet {
+        let listens = settings.listens.as_slice();
+        match Sockets::bind(self.net, alloc, listens, settings.upstream) {
+            Ok(sockets) => Ok(SocketOutlet {
                 sockets,
                 clock: self.clock,
                 board: self.board,
                 worker,
             }),
             Err(sockets::OpenFault::Poll(cause)) => Err(OutletFault::Poll(cause)),
-            Err(sockets::OpenFault::Address { address, cause }) => {
-                Err(OutletFault::Address { address, cause })
-            }
+            Err(
+                sockets::OpenFault::Address {
+                    address,
+                    carrier,
+                    cause,
+                },
+            ) => Err(OutletFault::Address {
+                address,
+                carrier,
+                cause,
+            }),
             Err(sockets::OpenFault::OutOfMemory) => Err(OutletFault::OutOfMemory),
         }
     }
 
     // Notes whether outlets were opened, or counts the fault.
-    fn note(&mut self, opened: &Result<Vec<UdpOutlet<'a, T>>, OutletFault>)
+    fn note(&mut self, opened: &Result<Vec<SocketOutlet<'a, T>>, OutletFault>)
         ensures ok { OnOk opened.now
             ((self.new.handed_out ≡ true) × (self.new.faults ≡ self.old.faults)) }
         ensures err { IfErr opened.now (λ fault. (self.new.handed_out ≡ self.old.handed_out)
@@ -119,10 +127,12 @@ fn count(faults: &mut u64)
 }
 
 impl<'a, N: Net, T: time::Clock + Sync, M: Eprint + Files + RandomSource + Sync> Outlets
-    for UdpOutlets<'a, N, T, M> {
-    type Outlet = UdpOutlet<'a, T>;
+    for SocketOutlets<'a, N, T, M> {
+    type Outlet = SocketOutlet<'a, T>;
 
     type Ids = SystemIds<&'a M>;
+
+    ghost asked = { λ _. None };
 
     ghost is_open = { λ o. o.handed_out };
 
@@ -131,11 +141,10 @@ impl<'a, N: Net, T: time::Clock + Sync, M: Eprint + Files + RandomSource + Sync>
     fn open(
         &mut self,
         alloc: Global,
-        listens: &[SocketAddr],
-        upstream: SocketAddr,
-        workers: u8,
-    ) -> Result<Vec<UdpOutlet<'a, T>>, OutletFault> {
-        let opened = self.open_all(alloc, listens, upstream, workers);
+        settings: &ForwardSettings,
+        _passed: &PassedNames,
+    ) -> Result<Vec<SocketOutlet<'a, T>>, OutletFault> {
+        let opened = self.open_all(alloc, settings);
         self.note(&opened);
         opened
     }
@@ -154,7 +163,7 @@ impl<'a, N: Net, T: time::Clock + Sync, M: Eprint + Files + RandomSource + Sync>
 }
 
 impl<'a, N: Net, T: time::Clock + Sync, M: Eprint + Files + RandomSource + Sync> Operator
-    for UdpOutlets<'a, N, T, M> {
+    for SocketOutlets<'a, N, T, M> {
     fn millis(&self) -> u64 {
         match self.clock.monotonic() {
             Ok(since) => u64::try_from(since.as_millis()).unwrap_or(u64::MAX),
@@ -171,6 +180,9 @@ impl<'a, N: Net, T: time::Clock + Sync, M: Eprint + Files + RandomSource + Sync>
     }
 
     fn put(&self, path: &str, beside: &str, text: &str) -> io::Result<()> {
+        if fs::metadata(self.machine, path).is_ok_and(|there| !there.is_file()) {
+            return Err(io::Error::other("it is no file"));
+        }
         let mut file = fs::File::create(self.machine, beside)?;
         file.write_all(text.as_bytes())?;
         drop(file);

@@ -1,6 +1,6 @@
 use Rattle.std.proofs.Common.{◌≡◌, length}
 use Rattle.std.specs.Prelude.{vec_capacity}
-use Rattle.running.proofs.forward.udp_outlets.UdpOutlets.open_all.Given as goal
+use Rattle.running.proofs.forward.socket_outlets.SocketOutlets.open_all.Given as goal
 
 abbrev pub invariant-loop-worker : goal.invariant-loop-worker
 invariant-loop-worker g l = record {
