@@ -19,7 +19,7 @@ def query(name, rtype, how=""):
     """A query by words: `do`, `ad`, `cd`, `nsid`, and `plain` for one without EDNS."""
     import dns.edns, dns.flags, dns.message
     options = [dns.edns.GenericOption(dns.edns.NSID, b"")] if "nsid" in how else None
-    edns = None if "plain" in how else 0
+    edns = False if "plain" in how else 0
     made = dns.message.make_query(name, rtype, want_dnssec="do" in how, use_edns=edns, payload=1232, options=options)
     made.flags |= dns.flags.AD if "ad" in how else 0
     made.flags |= dns.flags.CD if "cd" in how else 0

@@ -40,8 +40,8 @@ def source(moment):
 
 class Client:
     """A connection that sends queries behind their lengths."""
-    def __init__(self, port):
-        self.socket = socket.create_connection((runs.LOOPBACK, port), SILENCE.stop)
+    def __init__(self, port, address=runs.LOOPBACK):
+        self.socket = socket.create_connection((address, port), SILENCE.stop)
         self.socket.setsockopt(socket.IPPROTO_TCP, socket.TCP_NODELAY, 1)
 
     def __enter__(self): return self

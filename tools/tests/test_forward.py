@@ -1,9 +1,11 @@
 """What try_forward makes of a status, of samples and of replies, and the datagrams that it sends."""
-import contextlib, io, unittest
+import contextlib, io, struct, unittest
 
 from dnsreplay_tools import wire
 from dnsreplay_tools.asking import Reply
-from dnsreplay_tools.try_forward import clients, faults, memory, spoofed, status, tally, upstreams
+from dnsreplay_tools.try_forward import (
+    clients, faults, memory, sockets, spoofed, status, stream_clients, stream_upstreams, tally, upstreams,
+)  # fmt: skip
 
 try:
     import dns
@@ -49,6 +51,12 @@ PAIRS = (
     (reply(), None, False),
     (None, reply(), False),
 )
+# a connection, as Linux's proc_net_tcp.rst has one, and a socket that listens
+SOCKETS = """\
+  sl  local_address rem_address   st tx_queue rx_queue tr tm->when retrnsmt   uid  timeout inode
+  46: 010310AC:9C4C 030310AC:1770 01 00000150:00000000 01:00000019 00000000  1000        0 54165785 4 cd1e6040 25 4 27 3 -1
+   0: 0100007F:0035 00000000:0000 0A 00000000:00000000 00:00000000 00000000     0        0 588 1 00000000e4f0513f 100 0 0 10 0
+"""
 ASKED = wire.query(wire.name(b"Identity-1", b"spoofed"), wire.A)
 
 class Statuses(unittest.TestCase):
@@ -61,6 +69,40 @@ class Statuses(unittest.TestCase):
     def test_odd_ones(self):
         for text in ODD:
             with self.subTest(text[-60:]), self.assertRaises(wire.Fault): status.read(text)
+
+class Sockets(unittest.TestCase):
+    def test_of_a_table(self):
+        every = sockets.read(SOCKETS)
+        self.assertEqual(every, [(40_012, 6_000, 1, 336, 54_165_785), (53, 0, sockets.LISTEN, 0, 588)])
+
+class Streams(unittest.TestCase):
+    def test_a_message_stands_behind_its_length(self):
+        """RFC 1035, section 4.2.2."""
+        self.assertEqual(stream_clients.framed(b"abc").hex(), "0003616263")
+
+    @unittest.skipUnless(dns, "it needs python3-dnspython")
+    def test_questions_have_their_places_as_ids(self):
+        """The query for . NS by RFC 1035, section 4.1, with RD alone."""
+        root = "0100" "0001000000000000" "00" "0002" "0001"
+        asked = [clients.Question(".", "NS", "plain")] * 2
+        self.assertEqual(stream_clients.stream_of(asked).hex(), "0011" "0000" + root + "0011" "0001" + root)
+
+    def test_answers_that_are_cut(self):
+        """QR, TC, RD and RA, and no records (RFC 1035, section 4.1.1)."""
+        octets = stream_upstreams.cut(ASKED)
+        self.assertEqual(octets[:12].hex(), "1234" "8380" "0001000000000000")
+        self.assertEqual(octets[12:], upstreams.question_in(ASKED))
+
+    def test_the_longest_answer_is_a_message(self):
+        octets = stream_upstreams.longest(ASKED)
+        self.assertEqual(struct.unpack_from(">4H", octets), (0x1234, 0x81A0, 1, stream_upstreams.TEXTS))
+        self.assertTrue(50_000 < len(octets) < 1 << 16)
+
+    def test_what_streams_answer(self):
+        """Each that is right is the answer behind its length, and no other is."""
+        whole = stream_clients.framed(spoofed.true(ASKED))
+        right = {label for label, kind in stream_upstreams.KINDS.items() if kind.octets(ASKED) == whole}
+        self.assertEqual(right, {label for label, kind in stream_upstreams.KINDS.items() if kind.is_right})
 
 class Replies(unittest.TestCase):
     @unittest.skipUnless(dns, "it needs python3-dnspython")

@@ -13,7 +13,15 @@ status 1 where one failed. The checks by their groups:
     silence     a resolver that stops for a while
     private     names that the resolver alone knows, after their neighbours were denied, with --pass
     dnsperf     figures of one worker and of four
-    faults      clients from port 0, and a status file whose folder vanishes
+    faults      clients from port 0, and a status file whose folder vanishes, or whose path is no file's
+    files       few files that may be open at once, while the upstream is silent
+    tcp         dig over TCP, several questions over one connection, in any pieces
+    large       a denial that is short without its proof; answers that no datagram holds
+    narrow      a resolver behind it that gives 512 octets by UDP at most, and takes few connections
+    cut_answers an upstream that cuts its answers by UDP, and whose streams are refused, silent, cut or wrong
+    odd_clients clients by TCP that are slow, don't read, are too many or break off: UDP is answered meanwhile
+    turned_away connections closed for too many questions, or as too many, and replies to none: counted, and told
+    dnsperf_tcp figures by TCP, with fewer connections than there is room for, and with more
     memory      resident memory over many names, only where it is asked for: it takes long
 
 `getent` and the clients from port 0 take root. It needs Debian's packages: apt-get install knot unbound bind9
@@ -23,7 +31,10 @@ import os, shutil, tempfile
 from pathlib import Path
 from .. import run as runs
 from ..asking import need_dnspython
-from . import behind, digs, faults, getent, load, memory, private, silence, spoofed, told
+from . import (
+    behind, by_tcp, cut_answers, digs, faults, files, getent, large, load, load_tcp, memory, narrow, odd_clients,
+    private, silence, spoofed, told, turned_away,
+)  # fmt: skip
 from .lab import Lab
 from .tally import Tally
 
@@ -33,7 +44,9 @@ OF_THE_SYSTEM = "ip", "unshare", "nsenter", "setpriv", "getent"
 CHECKS = {
     "resolvers": behind.resolvers_behind, "dig": digs.run, "validator": behind.in_front, "getent": getent.run,
     "told": told.run, "spoofed": spoofed.run, "silence": silence.run, "private": private.run, "dnsperf": load.run,
-    "faults": faults.run, "memory": memory.run,
+    "faults": faults.run, "files": files.run, "tcp": by_tcp.run, "large": large.run, "narrow": narrow.run,
+    "cut_answers": cut_answers.run, "odd_clients": odd_clients.run, "turned_away": turned_away.run,
+    "dnsperf_tcp": load_tcp.run, "memory": memory.run,
 }  # fmt: skip
 USUAL = [each for each in CHECKS if each != "memory"]
 

@@ -2,12 +2,11 @@
 from ..wire import check
 from . import resolvers
 from .clients import (
-    ask_all, differing, drawn, is_synthesized, none_of, octets_of, questions, rcode_text, unlike, windows,
+    LATEST, ask_all, differing, drawn, is_synthesized, none_of, octets_of, questions, rcode_text, unlike, windows,
 )  # fmt: skip
 from .upstreams import Proxy, key_of
 
 LOSSY, AT_ONCE = 300, 100  # questions through each proxy, and how many of them are asked at once
-LATEST = 5.0  # seconds, by which a stub resolver has its reply
 TIMES = 3  # that a question is asked
 TOGETHER = 40  # questions of the long comparison that are asked at once
 

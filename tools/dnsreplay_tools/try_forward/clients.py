@@ -10,6 +10,7 @@ LETTERS = "abcdefghijklmnopqrstuvwxyz0123456789"
 HOWS = "do", "do ad", "ad", "", "plain"
 OTHER_TYPES = "AAAA", "TXT", "MX"  # that the hosts don't have
 PATIENCE = 8  # seconds, by far more than a reply may take
+LATEST = 5.0  # seconds, by which a stub resolver has its reply
 
 Question = namedtuple("Question", "name rtype how", defaults=("do",))
 Came = namedtuple("Came", "reply seconds")  # a reply, and after how many seconds it came; or none
@@ -55,6 +56,14 @@ def ask_all(asked, port, address=V4, seconds=PATIENCE):
     return came
 
 def ask(question, port, address=V4, seconds=PATIENCE): return ask_all([question], port, address, seconds)[0].reply
+
+def datagram(port, octets, seconds=1):
+    """What comes to a datagram; none where nothing comes in time."""
+    with socket.socket(socket.AF_INET, socket.SOCK_DGRAM) as one, contextlib.suppress(TimeoutError):
+        one.settimeout(seconds)
+        one.sendto(octets, (V4, port))
+        return one.recv(65_535)
+    return None
 
 def rcode_text(reply):
     import dns.rcode

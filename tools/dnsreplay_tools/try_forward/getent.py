@@ -2,8 +2,9 @@
 import re, subprocess
 from ..wire import check
 from . import resolvers
-from .lab import V4, V6
+from .lab import ADDRESSES, V4, V6
 
+MANY = {each for at in range(1, ADDRESSES + 1) for each in (f"198.51.100.{at}", f"2001:db8::{at:x}")}
 SETTINGS = "", "options edns0", "options edns0 trust-ad", "options single-request"
 # each name with its addresses; none for a name that isn't, or has none
 HOSTS = {
@@ -12,7 +13,11 @@ HOSTS = {
     "both.hashed": {"192.0.2.12", "2001:db8::12"},
     "alias.plain": {"10.0.0.1"},
     "n000005.open": {"10.0.0.5"},
+    "n000006.rsa": {"10.0.0.6"},
+    "many.plain": MANY,
+    "many.rsa": MANY,
     "nobody.plain": set(),
+    "nobody.rsa": set(),
     "nobody.hashed": set(),
     "a.w.plain": set(),
 }

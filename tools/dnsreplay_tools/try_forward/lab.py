@@ -4,17 +4,24 @@ from pathlib import Path
 from .. import run as runs
 from ..library import done
 from ..try_serve import dig
-from ..signed_zones import ORIGINS, tree, write_zone
+from ..signed_zones import ORIGINS, RSA, rsa_zone, tree, write_zone
 from ..wire import Fault, check
-from . import status
+from . import sockets, status
 
 V4, V6 = "127.0.0.1", "::1"
-PORTS = 45  # that a try takes at most
+PORTS = 60  # that a try takes at most
 LINE = 15  # seconds in which a line comes
 KILLED_WITH_US = ("setpriv", "--pdeathsig", "KILL")
 TEXT = " ".join(f'"{letter * 200}"' for letter in "abc")
-# A set of 600 octets, hosts of both families, and aliases into a zone that the resolver alone has.
-MORE = f"mid TXT {TEXT}", "both A 192.0.2.12", "both AAAA 2001:db8::12", "toprivate CNAME h1.private."
+# Sets that are large when their names aren't compressed, or at all: the exchanges of a mail farm, and addresses.
+EXCHANGES, ADDRESSES, TEXTS = 14, 60, 25
+LARGE = [f"farm MX {at} mx{at:02d}.customers.mail-farm.example." for at in range(EXCHANGES)]
+LARGE += [f"many A 198.51.100.{at}" for at in range(1, ADDRESSES + 1)]
+LARGE += [f"many AAAA 2001:db8::{at:x}" for at in range(1, ADDRESSES + 1)]
+LARGE += [f'large TXT "{at:03d}{"t" * 200}"' for at in range(TEXTS)]  # more than 5,000 octets
+# These, a set of 600 octets, hosts of both families, and aliases into a zone that the resolver alone has.
+HOST = "both A 192.0.2.12", "both AAAA 2001:db8::12"
+MORE = f"mid TXT {TEXT}", *HOST, "toprivate CNAME h1.private.", *LARGE
 PRIVATE = "private."
 
 KNOT = """\
@@ -35,7 +42,7 @@ class Forward:
     def __init__(self, servers, upstream, workers=1, passes=(), port=None, name="forward", host=V4):
         self.servers, self.name, self.port, self.workers = servers, name, port or servers.lab.port(), workers
         self.status = servers.folder / name / "status"
-        self.status.parent.mkdir()
+        self.status.parent.mkdir(exist_ok=True)
         options = [("--listen", f"{host}:{self.port}") for host in (V4, f"[{V6}]")]
         options += [("--upstream", f"{host}:{upstream}"), ("--workers", workers), ("--status", self.status)]
         options += [("--pass", each) for each in passes]
@@ -43,10 +50,24 @@ class Forward:
         servers.up(name, self.process, self.is_bound)
 
     def is_bound(self):
-        """Whether each worker's sockets are bound."""
-        tables = [Path(f"/proc/{self.process.pid}/net/{each}") for each in ("udp", "udp6")]
-        form = re.compile(rf"^ *\d+: \w+:{self.port:04X} ", re.M)
-        return all(len(form.findall(each.read_text(encoding="ascii"))) == self.workers for each in tables)
+        """Whether each worker's sockets are bound, for datagrams and for streams."""
+        udp, tcp = (self.sockets(each, f"{each}6") for each in ("udp", "tcp"))
+        listening = [each for each in tcp if each.state == sockets.LISTEN]
+        return all(sum(each.local == self.port for each in some) == 2 * self.workers for some in (udp, listening))
+
+    def sockets(self, *tables):
+        """All sockets of its network that these tables have."""
+        network = Path(f"/proc/{self.process.pid}/net")
+        return [each for table in tables for each in sockets.read((network / table).read_text(encoding="ascii"))]
+
+    def connections(self):
+        """The clients' connections over IPv4 that it holds."""
+        ours = (each for each in self.sockets("tcp") if each.local == self.port and each.inode)
+        return [each for each in ours if each.state != sockets.LISTEN]
+
+    def streams(self, upstream):
+        """The streams over IPv4 to the upstream's port that it holds."""
+        return [each for each in self.sockets("tcp") if each.remote == upstream and each.inode]
 
     def lines(self): return self.servers.lines(self.name)
 
@@ -132,7 +153,7 @@ class Servers(contextlib.ExitStack):
         """The authoritative server of all zones, at a port."""
         folder = self.folder / "knot"
         folder.mkdir()
-        zones = (".", *ORIGINS, PRIVATE)
+        zones = (".", *ORIGINS, RSA, PRIVATE)
         text = "".join(f'  - domain: "{zone}"\n    file: "{self.lab.folder}/{zone}zone"\n' for zone in zones)
         (folder / "knot.conf").write_text(KNOT.format(folder=folder, port=port) + text)
         return self.start("knot", "knotd", "-c", folder / "knot.conf")
@@ -143,10 +164,10 @@ class Lab:
     """What all checks have in common: the words, a folder, signed zones, and who serves them."""
     def __init__(self, args, folder):
         self.args, self.program, self.folder = args, args.program, folder
-        self.first = runs.free_ports(PORTS)
-        self.ports = iter(range(self.first, self.first + PORTS))
-        self.anchor = tree(folder, *MORE)
+        self.anchor = tree(folder, *MORE, below=rsa_zone(folder, *MORE))
         write_zone(folder, PRIVATE, ["h1 A 192.0.2.1"])
+        first = runs.free_ports(PORTS)
+        self.ports = iter(range(first, first + PORTS))
         self.authority = self.port()
 
     def port(self): return next(self.ports)

@@ -7,9 +7,9 @@ from .clients import drawn, questions
 CLIENTS, WORKERS = 64, (1, 4)
 NAMES = 20_000
 
-def dnsperf(servers, port, path, *words):
+def dnsperf(servers, port, path, *words, clients=CLIENTS):
     """What dnsperf says: queries a second, how many were sent and lost, and the text."""
-    text = servers.done("dnsperf", "-s", "127.0.0.1", "-p", port, "-d", path, "-c", CLIENTS, "-D", *words)
+    text = servers.done("dnsperf", "-s", "127.0.0.1", "-p", port, "-d", path, "-c", clients, "-D", *words)
     figures = [re.search(rf"Queries {what}: +([\d.]+)", text) for what in ("per second", "sent", "lost")]
     check(all(figures), text[-1_000:])
     return float(figures[0][1]), int(figures[1][1]), int(figures[2][1]), text

@@ -1,7 +1,10 @@
 """Validating resolvers by one trust anchor, on a port each; none denies anything from its own cache."""
-from ..signed_zones import ORIGINS
+import re, time
+from ..signed_zones import ORIGINS, RSA
 
-ZONES = ".", *ORIGINS
+ZONES = ".", *ORIGINS, RSA
+LOGGED = "    log-queries: yes"
+LOG = 0.05  # seconds, in which a line of the log comes
 
 UNBOUND = """\
 server:
@@ -76,6 +79,11 @@ def unbound(servers, name="unbound", more="", further=(), zones=None):
     (folder / "conf").write_text(text)
     process = servers.start(name, "unbound", "-d", "-c", folder / "conf")
     return up(servers, name, process, port)
+
+def askings(servers):
+    """How many queries an unbound that logs them has had."""
+    time.sleep(LOG)
+    return sum(bool(re.search(r"info: 127\.0\.0\.1 ", line)) for line in servers.lines("unbound"))
 
 def in_front(servers, port):
     """An unbound that validates what the forwarder at a port says."""

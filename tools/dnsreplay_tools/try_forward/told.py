@@ -1,10 +1,10 @@
 """What an operator reads: lines at the start, and the status file, whose counts are those of what was asked."""
-import contextlib, re, signal, socket, struct, time
+import re, signal, socket, struct, time
 from .. import wire
 from ..asking import read
 from ..wire import OPT, A, check
 from . import resolvers, status
-from .clients import Question, ask, ask_all
+from .clients import Question, ask, ask_all, datagram
 from .lab import V4, V6
 from .upstreams import bound
 
@@ -12,11 +12,12 @@ LISTENS, WARNS = re.compile("listens at"), re.compile("loopback")
 ELSEWHERE = "192.0.2.1"  # of nobody (RFC 5737)
 HOSTS, MISSING = 30, 20
 UNBOUND = 8  # the status
+OTHERS = {"UDP": bound, "TCP": lambda: socket.create_server((V4, 0))}
 EVERY, OFF = 10, 2.5  # seconds from one status to the next, and how much that may be off on a busy machine
 NOTIFY, LATER_VERSION = 4 << 11, struct.pack(">BHHIH", 0, OPT, 1_232, 1 << 16, 0)
 NAME = wire.name(b"n000001", b"plain")
 
-# Datagrams that get an error or nothing: the RCODE (RFC 1035, section 4.1.1; RFC 6891, section 6.1.3), how it is counted
+# Messages that get an error or nothing: the RCODE (RFC 1035, section 4.1.1; RFC 6891, section 6.1.3), how it is counted
 ODD = (
     (b"12345", None, "dropped", {}),
     (wire.message(0x8180, wire.question(NAME, A)), None, "dropped", {}),
@@ -43,17 +44,18 @@ def run(lab, tally):
         with tally.check("a signal ends it"):
             forward.process.terminate()
             check(forward.process.wait(5) == -signal.SIGTERM, f"status {forward.process.returncode}")
-        with tally.check(f"an address that another program has: status {UNBOUND}, and a line names it") as tell:
-            tell(taken(servers, resolver))
+        for carrier, other in OTHERS.items():
+            what = f"an address that another program has by {carrier}: status {UNBOUND}, and a line names it"
+            with tally.check(what) as tell: tell(taken(servers, resolver, carrier, other))
 
-def taken(servers, resolver):
+def taken(servers, resolver, carrier, other):
     """A start at an address that is taken, behind one that isn't."""
-    with bound() as one:
+    with other() as one:
         places = [f"{V4}:{port}" for port in (servers.lab.port(), one.getsockname()[1], resolver)]
         words = "--listen", places[0], "--listen", places[1], "--upstream", places[2], "--workers", 1
-        process = servers.start("taken", servers.lab.program, "forward", *words)
+        process = servers.start(carrier, servers.lab.program, "forward", *words)
         check(process.wait(5) == UNBOUND, f"status {process.returncode}")
-    lines = servers.lines("taken")
+    lines = servers.lines(carrier)
     check(len(lines) == 1 and places[1] in lines[0], f"{lines}")
     return lines[0]
 
@@ -85,11 +87,8 @@ def odd_ones(forward):
 def rcode_of(forward, octets):
     """What comes to a datagram; none within a second."""
     import dns.message
-    with socket.socket(socket.AF_INET, socket.SOCK_DGRAM) as one, contextlib.suppress(TimeoutError):
-        one.settimeout(1)
-        one.sendto(octets, (V4, forward.port))
-        return int(read(dns.message.from_wire(one.recv(512))).rcode)
-    return None
+    came = datagram(forward.port, octets)
+    return None if came is None else int(read(dns.message.from_wire(came)).rcode)
 
 def renewed(forward):
     """The seconds from one status to the next."""
