@@ -6,6 +6,7 @@ ghost use Rattle.stream_front.specs.Split.{too_small_in};
 use crate::Faults;
 use crate::heard::{Heard, put};
 use crate::opening::connect_to;
+use crate::pace::Pace;
 use crate::streaming::{read_now, write_now};
 use arrivals::MessageOctets;
 use mio::net::TcpStream;
@@ -26,6 +27,7 @@ pub(crate) struct AskedStream {
     written: usize,
     // What came of an answer that isn't whole yet.
     front: Front,
+    pace: Pace,
     // A message has come with the question's ID.
     has_answered: bool,
     ghost within: { written ≤ vec_len question },
@@ -46,6 +48,7 @@ impl AskedStream {
             stream: connect_to(upstream)?,
             written: 0,
             front: Front::fresh(alloc),
+            pace: Pace::NEW,
             has_answered: false,
         })
     }
@@ -75,6 +78,17 @@ impl AskedStream {
             Some(heard) => heard,
             None => Heard::End,
         }
+    }
+
+    /// Nothing has come: whether the poll tells by the token of what will.
+    pub(crate) fn settle(&mut self, poll: &Poll, token: Token, faults: &mut Faults) {
+        self.pace
+            .settle(poll, token, &mut self.stream, &mut faults.watch);
+    }
+
+    /// Whether it is read at ticks alone.
+    pub(crate) fn rests(&self) -> bool {
+        self.pace.rests()
     }
 
     // Why it couldn't be connected, where that is known.
@@ -110,6 +124,7 @@ impl AskedStream {
             return Err(io::Error::from(ErrorKind::UnexpectedEof));
         }
         self.front.add(&buffer[..count])?;
+        self.pace.add(count);
         if self.take_message(into)? {
             Ok(Heard::Message)
         } else {
@@ -128,6 +143,7 @@ impl AskedStream {
             Ahead::TooSmall { length: _ } => return Err(io::Error::from(ErrorKind::InvalidData)),
         };
         self.front.keep(count);
+        self.pace.begin();
         // The question stands behind its length, and an ID stands first (RFC 1035, section 4.1.1).
         self.has_answered = into.as_slice().get(..2) == self.question.get(2..4);
         Ok(true)

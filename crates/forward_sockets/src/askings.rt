@@ -57,6 +57,7 @@ impl Askings {
     /// The next answer, if the slot whose turn it is has one. Its octets are put into `into`. A slot that may have more has a further turn.
     pub(crate) fn receive(
         &mut self,
+        poll: &Poll,
         buffer: &mut [u8; MAX_DATAGRAM],
         into: &mut MessageOctets,
         faults: &mut Faults,
@@ -69,7 +70,13 @@ impl Askings {
             AskedSocket::Datagram(socket) => {
                 (hear(socket, buffer, into, faults), Carrier::Datagram)
             }
-            AskedSocket::Stream(stream) => (stream.hear(buffer, into, faults), Carrier::Stream),
+            AskedSocket::Stream(stream) => {
+                let heard = stream.hear(buffer, into, faults);
+                if heard == Heard::Nothing {
+                    stream.settle(poll, token_of(slot), faults);
+                }
+                (heard, Carrier::Stream)
+            }
         };
         match heard {
             Heard::Message => {
@@ -121,8 +128,7 @@ impl Askings {
     {
         let begun = AskedStream::begin(self.alloc, self.upstream, octets);
         let mut stream = faults.stream_connect.note(begun)?;
-        let token = Token(usize::from(slot));
-        faults.watch.note(stream.watch(poll, token))?;
+        faults.watch.note(stream.watch(poll, token_of(slot)))?;
         Some(AskedSocket::Stream(stream))
     }
 
@@ -133,19 +139,38 @@ impl Askings {
         }
     }
 
-    /// Closes the sockets that have been open for so long that nobody waits for their answers.
+    /// Closes the sockets that have been open for so long that nobody waits for their answers, and gives streams that rest their turns.
     pub(crate) fn tick(&mut self, now: u64) {
-        for place in &mut self.slots {
+        for slot in 0..=255 {
+            let Some(place) = self.slots.get_mut(usize::from(slot)) else {
+                break;
+            };
             if is_over(place, now) {
                 *place = None;
+            } else if rests(place) {
+                self.ready.add(slot);
             }
         }
     }
 }
 
+fn token_of(slot: u8) -> Token {
+    Token(usize::from(slot))
+}
+
 fn is_over(place: &Option<Asking>, now: u64) -> bool {
     match place {
         Some(asking) => now.saturating_sub(asking.since) >= PATIENCE,
+        None => false,
+    }
+}
+
+fn rests(place: &Option<Asking>) -> bool {
+    match place {
+        Some(asking) => match &asking.socket {
+            AskedSocket::Datagram(_) => false,
+            AskedSocket::Stream(stream) => stream.rests(),
+        },
         None => false,
     }
 }
@@ -161,10 +186,9 @@ fn ask_by_datagram(
     let mut socket = faults.socket.note(open_like(upstream))?;
     faults.bind.note(bind_like(&socket, upstream))?;
     faults.connect.note(socket.connect(upstream))?;
-    let token = Token(usize::from(slot));
     let watched = poll
         .registry()
-        .register(&mut socket, token, Interest::READABLE);
+        .register(&mut socket, token_of(slot), Interest::READABLE);
     faults.watch.note(watched)?;
     faults.send.note(sent(|| socket.send(octets)))?;
     Some(AskedSocket::Datagram(socket))

@@ -114,6 +114,8 @@ impl ClientRing {
         }
         let client = self.places[at].client;
         self.places[at].client = None;
+        // It is in the processor's cache now.
+        self.next = at;
         client
     }
 }

@@ -4,10 +4,12 @@ ghost use Rattle.arrivals.specs.declared.event.TheConstants.{MAX_MESSAGE};
 
 use crate::Faults;
 use crate::heard::{Heard, put};
+use crate::pace::Pace;
 use crate::queries::{NOBODY, has_reply};
 use crate::streaming::{look_now, read_now, write_now};
 use arrivals::MessageOctets;
 use mio::net::TcpStream;
+use mio::{Poll, Token};
 use std::io;
 use std::io::ErrorKind;
 use stream_clients::{ClientNumber, Next, ReplyFault, StreamClients};
@@ -25,6 +27,7 @@ pub(crate) fn number_of(client: ClientNumber) -> u64 {
 pub(crate) struct Connection {
     client: ClientNumber,
     stream: TcpStream,
+    pace: Pace,
     // The client sends no more.
     has_ended: bool,
     // How many messages have no reply yet.
@@ -36,6 +39,7 @@ impl Connection {
         Connection {
             client,
             stream,
+            pace: Pace::NEW,
             has_ended: false,
             unanswered: 0,
         }
@@ -84,6 +88,7 @@ impl Connection {
         }
         put(into, clients.message(self.client));
         clients.pass(self.client);
+        self.pace.begin();
         if has_reply(into) {
             self.unanswered = self.unanswered.saturating_add(1);
             Some(number_of(self.client))
@@ -121,10 +126,22 @@ impl Connection {
         let Ok(taken) = clients.take(self.client, &buffer[..count]) else {
             return Err(io::Error::from(ErrorKind::OutOfMemory));
         };
+        self.pace.add(taken);
         match read_now(&mut self.stream, &mut buffer[..taken])? {
             Some(read) if read == taken => Ok(Heard::Other),
             _ => Err(io::Error::from(ErrorKind::UnexpectedEof)),
         }
+    }
+
+    /// Nothing has come: whether the poll tells by the token of what will.
+    pub(crate) fn settle(&mut self, poll: &Poll, token: Token, faults: &mut Faults) {
+        self.pace
+            .settle(poll, token, &mut self.stream, &mut faults.watch);
+    }
+
+    /// Whether it is read at ticks alone.
+    pub(crate) fn rests(&self) -> bool {
+        self.pace.rests()
     }
 
     /// Puts a reply behind those that wait, and writes what the stream takes.

@@ -13,6 +13,7 @@ mod listeners;
 mod moments;
 mod open_fault;
 mod opening;
+mod pace;
 mod queries;
 mod random_ids;
 mod ready;
@@ -20,6 +21,7 @@ mod sending;
 mod sockets;
 mod streaming;
 mod streams;
+mod watch;
 
 pub use faults::{Fault, Faults};
 pub use listeners::MAX_LISTENERS;

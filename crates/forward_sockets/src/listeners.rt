@@ -1,5 +1,5 @@
 //! The sockets at which clients ask.
-ghost use Rattle.std.specs.Prelude.{◌<◌, ◌≤◌, length, IfErr};
+ghost use Rattle.std.specs.Prelude.{◌≤◌, length, IfErr};
 ghost use Rattle.forward_sockets.specs.OpenFault.{IsFaultOf};
 
 use crate::client_ring::{ClientAddress, ClientRing};
@@ -8,20 +8,17 @@ use crate::opening::open_shared;
 use crate::queries::{NOBODY, has_reply};
 use crate::ready::Ready;
 use crate::sending::sent;
+use crate::watch::Watch;
 use crate::{Faults, OpenFault};
 use arrivals::{Carrier, MessageOctets};
 use mio::net::UdpSocket;
-use mio::{Interest, Poll, Token};
 use outside_core::MAX_DATAGRAM;
 use std::alloc::Global;
-use std::io;
 use std::net::SocketAddr;
+use std::os::fd::AsRawFd;
 
 #[cfg(test)]
 mod tests;
-
-/// The token of the first listener. The slots' sockets have those before it.
-pub(crate) const FIRST_LISTENER: usize = 256;
 
 /// At how many addresses a worker can listen.
 pub const MAX_LISTENERS: usize = 8;
@@ -35,10 +32,10 @@ pub(crate) struct Listeners {
 }
 
 impl Listeners {
-    /// One at each address, of which the poll tells by its token.
+    /// One at each address, which the watch asks by its number.
     pub(crate) fn bind(
         alloc: Global,
-        poll: &Poll,
+        watch: &mut Watch,
         addresses: &[SocketAddr],
     ) -> Result<Listeners, OpenFault>
         requires { length addresses.now ≤ MAX_LISTENERS }
@@ -47,8 +44,11 @@ impl Listeners {
         let mut sockets = Vec::with_capacity(alloc, addresses.len())?;
         for number in 0..addresses.len() {
             let address = addresses[number];
-            match open_watched(poll, number, address) {
-                Ok(socket) => sockets.push(socket)?,
+            match open_shared(address) {
+                Ok(socket) => {
+                    watch.add_listener(socket.as_raw_fd())?;
+                    sockets.push(socket)?;
+                }
                 Err(cause) => {
                     let carrier = Carrier::Datagram;
                     return Err(OpenFault::Address {
@@ -64,6 +64,15 @@ impl Listeners {
             ready: Ready::none(),
             clients: ClientRing::new(alloc)?,
         })
+    }
+
+    /// Each listener has a turn.
+    pub(crate) fn add_turns(&mut self) {
+        for listener in 0..MAX_LISTENERS as u8 {
+            if usize::from(listener) < self.sockets.len() {
+                self.ready.add(listener);
+            }
+        }
     }
 
     /// What the listener whose turn it is has, where that is a query: the number of its client. Its octets are put into `into`. A
@@ -113,14 +122,4 @@ impl Listeners {
                 .note(sent(|| socket.send_to(octets, client.address)));
         }
     }
-}
-
-fn open_watched(poll: &Poll, number: usize, address: SocketAddr) -> io::Result<UdpSocket>
-    requires { number < MAX_LISTENERS }
-{
-    let mut socket = open_shared(address)?;
-    let token = Token(FIRST_LISTENER + number);
-    poll.registry()
-        .register(&mut socket, token, Interest::READABLE)?;
-    Ok(socket)
 }

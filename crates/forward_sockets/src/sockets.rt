@@ -5,12 +5,13 @@ ghost use Rattle.forward_sockets.specs.OpenFault.{IsFaultOf};
 
 use crate::askings::Askings;
 use crate::connection::STREAM;
-use crate::listeners::{FIRST_LISTENER, Listeners};
+use crate::listeners::Listeners;
 use crate::moments::{START, go_on};
 use crate::streams::{FIRST_STREAM, Streams};
+use crate::watch::Watch;
 use crate::{Faults, MAX_LISTENERS, OpenFault};
 use arrivals::{Came, Carrier, Event, MessageOctets, Moment};
-use mio::{Events, Poll};
+use mio::Poll;
 use outside_core::MAX_DATAGRAM;
 use std::alloc::Global;
 use std::net::{Net, SocketAddr};
@@ -35,8 +36,7 @@ const TRIES: u32 = 1024;
 /// after `bind`, at most 140,000 octets for each, and want of it closes that stream.
 #[derive(Drop)]
 pub struct Sockets {
-    poll: Poll,
-    events: Events,
+    watch: Watch,
     listeners: Listeners,
     streams: Streams,
     askings: Askings,
@@ -66,12 +66,11 @@ impl Sockets {
         ensures { IfErr result (IsFaultOf addresses.now) }
     {
         let poll = Poll::new(net).map_err(OpenFault::Poll)?;
-        let listeners = Listeners::bind(alloc, &poll, addresses)?;
-        let streams = Streams::bind(alloc, &poll, addresses)?;
-        let sources = FIRST_STREAM + MAX_LISTENERS + PLACES;
+        let mut watch = Watch::over(alloc, poll, FIRST_STREAM + MAX_LISTENERS + PLACES)?;
+        let listeners = Listeners::bind(alloc, &mut watch, addresses)?;
+        let streams = Streams::bind(alloc, watch.poll(), addresses)?;
         Ok(Sockets {
-            poll,
-            events: Events::with_capacity(alloc, sources)?,
+            watch,
             listeners,
             streams,
             askings: Askings::new(alloc, upstream)?,
@@ -121,9 +120,12 @@ impl Sockets {
     fn try_once<C: Clock>(&mut self, clock: &C, into: &mut MessageOctets) -> Option<Came> {
         if self.answers > 0 && !self.askings.ready.is_empty() {
             self.answers -= 1;
-            return self
-                .askings
-                .receive(&mut self.buffer, into, &mut self.faults);
+            return self.askings.receive(
+                self.watch.poll(),
+                &mut self.buffer,
+                into,
+                &mut self.faults,
+            );
         }
         if self.tick_is_due {
             return Some(Came::Tick);
@@ -141,14 +143,25 @@ impl Sockets {
     fn look_around<C: Clock>(&mut self, clock: &C) {
         self.answers = ANSWERS;
         self.queries = QUERIES;
-        let is_idle = self.askings.ready.is_empty() && !self.may_have_queries();
-        let patience = self.next_tick.saturating_sub(self.moment.millis);
-        let is_in_vain = is_idle && !self.look(clock, patience);
+        let was_idle = self.is_idle();
+        if was_idle {
+            self.wait(clock, self.next_tick.saturating_sub(self.moment.millis));
+        } else {
+            // To ask them all costs more than some receipts in vain.
+            self.listeners.add_turns();
+        }
+        let is_in_vain = self.is_idle();
         go_on(&mut self.moment, clock);
         self.tick_is_due = is_in_vain || self.moment.millis >= self.next_tick;
-        if self.tick_is_due || !is_idle {
-            let _told = self.look(clock, 0);
+        if self.tick_is_due || !was_idle {
+            let looked = self.watch.look();
+            self.faults.wait.note(looked);
+            self.mark_ready();
         }
+    }
+
+    fn is_idle(&self) -> bool {
+        self.askings.ready.is_empty() && !self.may_have_queries()
     }
 
     fn may_have_queries(&self) -> bool {
@@ -177,32 +190,36 @@ impl Sockets {
 
     fn try_stream(&mut self, into: &mut MessageOctets) -> Option<Came> {
         let now = self.moment.millis;
-        let client = self
-            .streams
-            .receive(&self.poll, &mut self.buffer, into, now, &mut self.faults)?;
+        let client = self.streams.receive(
+            self.watch.poll(),
+            &mut self.buffer,
+            into,
+            now,
+            &mut self.faults,
+        )?;
         let carrier = Carrier::Stream;
         Some(Came::Query { client, carrier })
     }
 
-    // Asks the system which sockets have something. Where none has, or the call fails, it waits for so many milliseconds. Whether
-    // one has something.
-    fn look<C: Clock>(&mut self, clock: &C, patience: u64) -> bool {
-        let patience = Duration::from_millis(patience);
-        let looked = self.poll.poll(&mut self.events, Some(patience));
-        if self.faults.wait.note(looked).is_none() {
-            thread::sleep(clock, patience);
+    // Waits until a socket has something, for so many milliseconds at most, also where the call fails.
+    fn wait<C: Clock>(&mut self, clock: &C, patience: u64) {
+        let waited = self.watch.wait(patience);
+        if self.faults.wait.note(waited).is_none() {
+            thread::sleep(clock, Duration::from_millis(patience));
+        }
+        for listener in 0..MAX_LISTENERS as u8 {
+            if self.watch.has_datagram(listener) {
+                self.listeners.ready.add(listener);
+            }
         }
         self.mark_ready();
-        !self.events.is_empty()
     }
 
     fn mark_ready(&mut self) {
-        for event in self.events.iter() {
+        for event in self.watch.events() {
             let token = event.token().0;
-            if token < FIRST_LISTENER {
+            if token < FIRST_STREAM {
                 self.askings.ready.add(token as u8);
-            } else if token < FIRST_STREAM {
-                self.listeners.ready.add((token - FIRST_LISTENER) as u8);
             } else if token < FIRST_STREAM + 256 {
                 self.streams.ready.add((token - FIRST_STREAM) as u8);
             }
@@ -229,8 +246,14 @@ impl Sockets {
         requires { length octets.now ≤ MAX_MESSAGE }
     {
         let now = self.moment.millis;
-        self.askings
-            .ask(&self.poll, slot, carrier, octets, now, &mut self.faults);
+        self.askings.ask(
+            self.watch.poll(),
+            slot,
+            carrier,
+            octets,
+            now,
+            &mut self.faults,
+        );
     }
 
     /// The calls that failed so far.

@@ -5,7 +5,7 @@ ghost use Rattle.forward_sockets.specs.OpenFault.{IsFaultOf};
 
 use crate::connection::{Connection, number_of};
 use crate::heard::Heard;
-use crate::listeners::{FIRST_LISTENER, MAX_LISTENERS};
+use crate::listeners::MAX_LISTENERS;
 use crate::opening::listen_shared;
 use crate::ready::Ready;
 use crate::{Faults, OpenFault};
@@ -17,8 +17,8 @@ use std::io;
 use std::net::SocketAddr;
 use stream_clients::{ClientNumber, PLACES, StreamClients};
 
-/// The token of the first listener for streams. The other listeners have those before it, and connections those behind the last one.
-pub(crate) const FIRST_STREAM: usize = FIRST_LISTENER + MAX_LISTENERS;
+/// The token of the first listener. The slots' sockets have those before it, and connections those behind the last listener's.
+pub(crate) const FIRST_STREAM: usize = 256;
 
 /// The listeners for streams, and the connections. A turn is a listener's by its number, or a connection's by its place behind these.
 #[derive(Drop)]
@@ -86,7 +86,7 @@ impl Streams {
             return None;
         }
         let place = number - MAX_LISTENERS;
-        let query = self.hear(turn, place, buffer, into, now, faults);
+        let query = self.hear(poll, turn, place, buffer, into, now, faults);
         self.let_go(place);
         query
     }
@@ -94,6 +94,7 @@ impl Streams {
     // What the connection at a place has, where that is a query.
     fn hear(
         &mut self,
+        poll: &Poll,
         turn: u8,
         place: usize,
         buffer: &mut [u8],
@@ -115,7 +116,11 @@ impl Streams {
                 self.ready.add(turn);
                 connection.take_message(&mut self.clients, into, now, faults)
             }
-            Heard::Message | Heard::Nothing | Heard::End => None,
+            Heard::Nothing => {
+                connection.settle(poll, token_at(turn), faults);
+                None
+            }
+            Heard::Message | Heard::End => None,
         }
     }
 
@@ -186,7 +191,7 @@ impl Streams {
         }
     }
 
-    /// Closes the connections that have waited too long, and gives listeners that failed their turns.
+    /// Closes the connections that have waited too long, and gives those that rest, and listeners that failed, their turns.
     pub(crate) fn tick(&mut self, now: u64) {
         for _ in 0..PLACES {
             let Some(client) = self.clients.next_idle(0, now) else {
@@ -194,6 +199,13 @@ impl Streams {
             };
             self.clients.close(client);
             self.let_go(place_of(client));
+        }
+        for place in 0..PLACES {
+            if let Some(Some(connection)) = self.connections.get(place) {
+                if connection.rests() {
+                    self.ready.add(turn_of(place));
+                }
+            }
         }
         for _ in 0..MAX_LISTENERS {
             let Some(turn) = self.later.take() else {
@@ -217,11 +229,23 @@ fn place_in(number: u64) -> usize
     (number % PLACES as u64) as usize
 }
 
+// The turn of a place's connection.
+fn turn_of(place: usize) -> u8
+    requires { place < 32 }
+{
+    (MAX_LISTENERS + place) as u8
+}
+
+// The token of what has the turn.
+fn token_at(turn: u8) -> Token {
+    Token(FIRST_STREAM + usize::from(turn))
+}
+
 fn listen_watched(poll: &Poll, number: usize, address: SocketAddr) -> io::Result<TcpListener>
     requires { number < MAX_LISTENERS }
 {
     let mut listener = listen_shared(address)?;
-    let token = Token(FIRST_STREAM + number);
+    let token = token_at(number as u8);
     poll.registry()
         .register(&mut listener, token, Interest::READABLE)?;
     Ok(listener)
@@ -232,7 +256,7 @@ fn watch(poll: &Poll, place: usize, stream: &mut TcpStream) -> io::Result<()>
     requires { place < 32 }
 {
     stream.set_nodelay(true)?;
-    let token = Token(FIRST_STREAM + MAX_LISTENERS + place);
+    let token = token_at(turn_of(place));
     let interest = Interest::READABLE | Interest::WRITABLE;
     poll.registry().register(stream, token, interest)
 }

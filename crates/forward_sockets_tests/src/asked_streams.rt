@@ -3,7 +3,8 @@ use crate::scene::{
     end, free_port, is_silent, next_slot, no_event, once, open, query, sender_of, sends, v4, v6,
 };
 use crate::stream_scene::{
-    accepted, ahead, framed, is_closed, is_quiet, next_answered, reads, writes,
+    Stopped, accepted, ahead, all_take_turns, framed, is_closed, is_quiet, next_answered, reads,
+    trickles, writes,
 };
 use arrivals::Carrier;
 use forward_sockets::Sockets;
@@ -56,6 +57,24 @@ fn an_answer_comes_in_pieces(rt: HostRuntime) -> Result<(), Fail> {
         assert!(rt; writes(&mut stream, third));
         assert!(rt; next_answered(&mut sockets, &rt, &query(6)) == Some(255));
     }
+    Ok(())
+}
+
+// Behind 17 small pieces an answer is read at ticks alone.
+#[test]
+fn an_answer_comes_octet_by_octet(rt: HostRuntime) -> Result<(), Fail> {
+    let address = v4(free_port(&rt)?);
+    let upstream = rt.bind(v4(0))?;
+    let mut sockets = open(&rt, rt.alloc(), &[address], upstream.local_addr()?)?;
+    let mut stream = asked(&upstream, rt.alloc(), 3, &mut sockets, &rt)?;
+    let datagrams = end(&rt, address)?;
+    let answer = [7; 60];
+    let octets = framed(rt.alloc(), &answer)?;
+    let (front, rest) = cut(&octets, 18);
+    assert!(rt; trickles(&mut stream, front, &mut sockets));
+    assert!(rt; all_take_turns(&datagrams, address, &mut sockets));
+    assert!(rt; writes(&mut stream, rest) && is_quiet(&mut sockets, &Stopped, 1));
+    assert!(rt; next_answered(&mut sockets, &Stopped, &answer) == Some(3));
     Ok(())
 }
 

@@ -49,6 +49,18 @@ fn answers_come_before_queries(rt: HostRuntime) -> Result<(), Fail> {
     Ok(())
 }
 
+// How many queries come before the one with this ID, of 60 events.
+fn queries_before<C: Clock>(sockets: &mut Sockets, clock: &C, id: u16) -> Option<u32> {
+    let mut into = no_event();
+    for count in 0..60u32 {
+        let comes = next(sockets, clock, &mut into).is_some();
+        if comes && into.octets.as_slice() == &query(id)[..] {
+            return Some(count);
+        }
+    }
+    None
+}
+
 // One address with many queries doesn't keep the other's waiting.
 #[test]
 fn listeners_have_their_turns(rt: HostRuntime) -> Result<(), Fail> {
@@ -56,16 +68,14 @@ fn listeners_have_their_turns(rt: HostRuntime) -> Result<(), Fail> {
     let addresses = [v4(free_port(&rt)?), v4(free_port(&rt)?)];
     let mut sockets = open(&rt, rt.alloc(), &addresses, v4(9))?;
     assert!(rt; asks_often(&busy, addresses[0], 60) && sends(&quiet, addresses[1], &query(1000)));
-    let mut into = no_event();
-    let mut before = None;
-    for count in 0..60u32 {
-        if next(&mut sockets, &rt, &mut into).is_some()
-            && into.octets.as_slice() == &query(1000)[..]
-        {
-            before = Some(count);
-            break;
-        }
-    }
+    let before = queries_before(&mut sockets, &rt, 1000);
     assert!(rt; before.is_some_and(|count| count <= 2), "{before:?}");
+    // One that comes between the queries waits for 16 of them at most.
+    for _ in 0..3 {
+        assert!(rt; next(&mut sockets, &rt, &mut no_event()).is_some());
+    }
+    assert!(rt; sends(&quiet, addresses[1], &query(1001)));
+    let before = queries_before(&mut sockets, &rt, 1001);
+    assert!(rt; before.is_some_and(|count| count <= 16), "{before:?}");
     Ok(())
 }

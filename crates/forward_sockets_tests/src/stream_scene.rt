@@ -1,13 +1,13 @@
 //! Clients with streams, and an upstream that is asked by streams.
 ghost use Rattle.std.specs.Prelude.{◌<◌, ◌^◌, length};
 
-use crate::scene::{next, no_event};
+use crate::scene::{next, next_client, no_event, query, sends};
 use arrivals::{Came, Carrier};
 use forward_sockets::Sockets;
 use std::alloc::{AllocError, Global};
 use std::io;
 use std::io::{ErrorKind, Read, Write};
-use std::net::{Net, OpenListener, OpenStream, SocketAddr};
+use std::net::{Net, OpenListener, OpenStream, SocketAddr, UdpSocket};
 use std::time::{Clock, Duration};
 
 // A stream to the address, whose reads wait for five seconds at most.
@@ -105,6 +105,25 @@ pub(crate) fn is_quiet<C: Clock>(sockets: &mut Sockets, clock: &C, ticks: u32) -
     true
 }
 
+// Writes the octets one by one, with a tick behind each, while the clock stands still.
+pub(crate) fn trickles<S: Write>(stream: &mut S, octets: &[u8], sockets: &mut Sockets) -> bool {
+    for octet in octets {
+        if !writes(stream, &[*octet]) || !is_quiet(sockets, &Stopped, 1) {
+            return false;
+        }
+    }
+    true
+}
+
+// Lets each stream that has a turn take it: a query by a datagram comes behind them.
+pub(crate) fn all_take_turns(
+    client: &UdpSocket,
+    address: SocketAddr,
+    sockets: &mut Sockets,
+) -> bool {
+    sends(client, address, &query(1)) && next_client(sockets, &Stopped, &query(1)).is_some()
+}
+
 // A clock that is ahead of another.
 #[derive(Drop)]
 pub(crate) struct Later<'a, C> {
@@ -126,5 +145,19 @@ impl<'a, C: Clock> Clock for Later<'a, C> {
 
     fn since_1970(&self) -> io::Result<Duration> {
         self.clock.since_1970()
+    }
+}
+
+// A clock that stands still: a tick is due only where nothing comes.
+#[derive(Drop)]
+pub(crate) struct Stopped;
+
+impl Clock for Stopped {
+    fn monotonic(&self) -> io::Result<Duration> {
+        Ok(Duration::ZERO)
+    }
+
+    fn since_1970(&self) -> io::Result<Duration> {
+        Ok(Duration::ZERO)
     }
 }

@@ -1,8 +1,10 @@
 //! Clients that ask by streams.
 use crate::scene::{end, free_port, next, no_event, once, open, query, sends, v4, v6};
 use crate::stream_scene::{
-    ahead, connected, framed, is_closed, is_quiet, next_asker, reads, writes,
+    Stopped, ahead, all_take_turns, connected, framed, is_closed, is_quiet, next_asker, reads,
+    trickles, writes,
 };
+use arrivals::Came;
 use forward_sockets::Sockets;
 use std::alloc::Global;
 use std::io::{Read, Write};
@@ -43,31 +45,25 @@ fn two_queries_of_one_segment_have_their_replies(rt: HostRuntime) -> Result<(), 
     Ok(())
 }
 
-// Writes the octets one by one, with a tick behind each.
-fn trickles<S: Write, C: Clock>(
-    client: &mut S,
-    octets: &[u8],
-    sockets: &mut Sockets,
-    clock: &C,
-) -> bool {
-    for octet in octets {
-        if !writes(client, &[*octet]) || !is_quiet(sockets, clock, 1) {
-            return false;
-        }
-    }
-    true
-}
-
+// Behind 17 small pieces a message is read at ticks alone, and the next one as it comes.
 #[test]
 fn a_query_comes_octet_by_octet(rt: HostRuntime) -> Result<(), Fail> {
     let address = v4(free_port(&rt)?);
     let mut sockets = open(&rt, rt.alloc(), &[address], v4(9))?;
-    let mut client = connected(&rt, address)?;
-    let octets = framed(rt.alloc(), &query(7))?;
-    let (last, front) = octets.split_last().unwrap_or((&0, b""));
-    assert!(rt; trickles(&mut client, front, &mut sockets, &rt));
-    assert!(rt; writes(&mut client, &[*last]));
-    assert!(rt; next_asker(&mut sockets, &rt, &query(7)).is_some());
+    let (mut client, datagrams) = (connected(&rt, address)?, end(&rt, address)?);
+    let message = [7; 60];
+    let octets = framed(rt.alloc(), &message)?;
+    let (front, rest) = octets.split_at(18.min(octets.len()));
+    assert!(rt; trickles(&mut client, front, &mut sockets));
+    assert!(rt; all_take_turns(&datagrams, address, &mut sockets));
+    assert!(rt; writes(&mut client, rest) && is_quiet(&mut sockets, &Stopped, 1));
+    assert!(rt; next_asker(&mut sockets, &Stopped, &message).is_some());
+    // The next one is told of again.
+    assert!(rt; all_take_turns(&datagrams, address, &mut sockets));
+    assert!(rt; writes(&mut client, &framed(rt.alloc(), &query(3))?));
+    let mut into = no_event();
+    sockets.receive(&Stopped, &mut into);
+    assert!(rt; into.came != Came::Tick && into.octets.as_slice() == &query(3)[..]);
     Ok(())
 }
 

@@ -2,6 +2,7 @@
 use super::Listeners;
 use crate::client_ring::ClientAddress;
 use crate::faults::{Fault, Faults};
+use crate::watch::Watch;
 use mio::Poll;
 use std::net::{Ipv4Addr, Net, SocketAddr, SocketAddrV4};
 use std::test::Fail;
@@ -13,8 +14,8 @@ fn on_loopback(port: u16) -> SocketAddr {
 
 #[test]
 fn a_reply_to_port_0_ends_nothing(rt: HostRuntime) -> Result<(), Fail> {
-    let poll = Poll::new(&rt)?;
-    let Ok(mut listeners) = Listeners::bind(rt.alloc(), &poll, &[on_loopback(0)]) else {
+    let mut watch = Watch::over(rt.alloc(), Poll::new(&rt)?, 1)?;
+    let Ok(mut listeners) = Listeners::bind(rt.alloc(), &mut watch, &[on_loopback(0)]) else {
         return Err(Fail::from("no listener"));
     };
     let client = rt.bind_udp(on_loopback(0))?;
