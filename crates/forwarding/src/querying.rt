@@ -332,6 +332,8 @@ fn look_at(
     }
 }
 
+// For a stream it takes 132 KiB of the stack, whose pages a query by a datagram shouldn't touch.
+#[inline(never)]
 fn look_within<const N: usize>(
     version: &VersionRef<'_, Store>,
     limit: usize,
