@@ -3,16 +3,17 @@ ghost use Rattle.std.specs.Prelude.{◌≤◌, length, IfErr};
 ghost use Rattle.forward_sockets.specs.OpenFault.{IsFaultOf};
 
 use crate::client_ring::{ClientAddress, ClientRing};
+use crate::datagrams::{Datagrams, TOGETHER};
 use crate::heard::put;
 use crate::opening::open_shared;
 use crate::queries::{NOBODY, has_reply};
 use crate::ready::Ready;
+use crate::replies::Replies;
 use crate::sending::sent;
 use crate::watch::Watch;
 use crate::{Faults, OpenFault};
 use arrivals::{Carrier, MessageOctets};
 use mio::net::UdpSocket;
-use outside_core::MAX_DATAGRAM;
 use std::alloc::Global;
 use std::net::SocketAddr;
 use std::os::fd::AsRawFd;
@@ -23,11 +24,14 @@ mod tests;
 /// At how many addresses a worker can listen.
 pub const MAX_LISTENERS: usize = 8;
 
-/// The listeners, with the clients that have no reply yet.
+/// The listeners, with the clients that have no reply yet. Datagrams that lie there together are received together, and their replies go out
+/// together.
 #[derive(Drop)]
 pub(crate) struct Listeners {
     sockets: Vec<UdpSocket>,
     pub(crate) ready: Ready,
+    datagrams: Datagrams,
+    replies: Replies,
     clients: ClientRing,
 }
 
@@ -62,6 +66,8 @@ impl Listeners {
         Ok(Listeners {
             sockets,
             ready: Ready::none(),
+            datagrams: Datagrams::none(alloc)?,
+            replies: Replies::none(alloc)?,
             clients: ClientRing::new(alloc)?,
         })
     }
@@ -75,28 +81,40 @@ impl Listeners {
         }
     }
 
-    /// What the listener whose turn it is has, where that is a query: the number of its client. Its octets are put into `into`. A
-    /// listener that may have more has a further turn.
-    pub(crate) fn receive(
-        &mut self,
-        buffer: &mut [u8; MAX_DATAGRAM],
-        into: &mut MessageOctets,
-        faults: &mut Faults,
-    ) -> Option<u64> {
-        let listener = self.ready.take()?;
-        let socket = self.sockets.get(usize::from(listener))?;
-        match socket.recv_from(buffer) {
-            Ok((count, address)) => {
-                self.ready.add(listener);
-                put(into, &buffer[..count]);
-                let client = ClientAddress { listener, address };
-                Some(self.number_of(client, &buffer[..count]))
+    /// Whether some may have come.
+    pub(crate) fn may_have_some(&self) -> bool {
+        !self.datagrams.is_empty() || !self.ready.is_empty()
+    }
+
+    /// The next datagram, where one has come: the number of its client. Its octets are put into `into`.
+    pub(crate) fn receive(&mut self, into: &mut MessageOctets, faults: &mut Faults) -> Option<u64> {
+        if self.datagrams.is_empty() {
+            self.receive_all(faults);
+        }
+        let datagram = self.datagrams.hand_out()?;
+        let client = datagram.client;
+        put(into, datagram.octets());
+        Some(self.number_of(client, into))
+    }
+
+    // Receives what the listeners have in turn, as many as go together. One that may have more has a further turn.
+    fn receive_all(&mut self, faults: &mut Faults) {
+        self.datagrams.begin();
+        for _ in 0..TOGETHER + MAX_LISTENERS {
+            if self.datagrams.is_full() {
+                return;
             }
-            Err(cause) => {
-                if faults.query.note_receipt(cause) {
+            let Some(listener) = self.ready.take() else {
+                return;
+            };
+            if let Some(socket) = self.sockets.get(usize::from(listener)) {
+                let may_have_more = match self.datagrams.receive(socket, listener) {
+                    Ok(()) => true,
+                    Err(cause) => faults.query.note_receipt(cause),
+                };
+                if may_have_more {
                     self.ready.add(listener);
                 }
-                None
             }
         }
     }
@@ -110,16 +128,32 @@ impl Listeners {
         }
     }
 
-    /// Sends the client its reply, from the socket at which it asked. It has no other from then on.
+    /// Sends the client its reply, from the socket at which it asked, once all that came with its query were handed out. It has no other
+    /// from then on.
     pub(crate) fn reply(&mut self, client: u64, octets: &[u8], faults: &mut Faults) {
         let Some(client) = self.clients.leave(client) else {
             faults.reply.add_own();
             return;
         };
-        if let Some(socket) = self.sockets.get(usize::from(client.listener)) {
-            let _sent = faults
-                .reply
-                .note(sent(|| socket.send_to(octets, client.address)));
+        if self.datagrams.is_empty() || !self.replies.put(client, octets) {
+            self.send_all(faults);
+            send(&self.sockets, client, octets, faults);
         }
+    }
+
+    /// Sends the replies that wait.
+    pub(crate) fn send_all(&mut self, faults: &mut Faults) {
+        for reply in self.replies.waiting() {
+            send(&self.sockets, reply.client, &reply.octets, faults);
+        }
+        self.replies.clear();
+    }
+}
+
+fn send(sockets: &[UdpSocket], client: ClientAddress, octets: &[u8], faults: &mut Faults) {
+    if let Some(socket) = sockets.get(usize::from(client.listener)) {
+        let _sent = faults
+            .reply
+            .note(sent(|| socket.send_to(octets, client.address)));
     }
 }

@@ -88,8 +88,8 @@ impl Sockets {
     /// Waits for what comes next, and puts it into `into`. A tick is due the first time, where a quarter of a second has gone by since
     /// the last one, and after a signal. Answers that lie at the slots' sockets come before it, 256 at most once it is due, and queries
     /// after it. Else answers come before queries too: at most 16 queries come between two looks at the slots' sockets, and in between what
-    /// these are told to have. Datagrams and streams have their turns among the queries, and so have connections. Of a datagram of more than
-    /// 4,096 octets the rest is lost.
+    /// these are told to have. Datagrams and streams have their turns among the queries, and so have connections. Datagrams that lie at the
+    /// listeners together are received together, 16 at most. Of a datagram of more than 4,096 octets the rest is lost.
     ///
     /// The moment of what comes is that of the last look at all sockets. A failed call is counted as a fault, and ends nothing but the
     /// stream where it failed. A clock that fails stands still.
@@ -120,6 +120,7 @@ impl Sockets {
     fn try_once<C: Clock>(&mut self, clock: &C, into: &mut MessageOctets) -> Option<Came> {
         if self.answers > 0 && !self.askings.ready.is_empty() {
             self.answers -= 1;
+            self.listeners.send_all(&mut self.faults);
             return self.askings.receive(
                 self.watch.poll(),
                 &mut self.buffer,
@@ -141,6 +142,7 @@ impl Sockets {
     // Looks at all sockets, and at the clocks. Where none has something, it waits until one has or a tick is due. It is due too where the
     // clock stood still, or a signal came. The thread may have been held up, so a tick that is due wants a look behind the clocks'.
     fn look_around<C: Clock>(&mut self, clock: &C) {
+        self.listeners.send_all(&mut self.faults);
         self.answers = ANSWERS;
         self.queries = QUERIES;
         let was_idle = self.is_idle();
@@ -165,12 +167,12 @@ impl Sockets {
     }
 
     fn may_have_queries(&self) -> bool {
-        !self.listeners.ready.is_empty() || !self.streams.ready.is_empty()
+        self.listeners.may_have_some() || !self.streams.ready.is_empty()
     }
 
     // Datagrams and streams have their turns, where both have one.
     fn try_query(&mut self, into: &mut MessageOctets) -> Option<Came> {
-        let by_stream = self.stream_is_next || self.listeners.ready.is_empty();
+        let by_stream = self.stream_is_next || !self.listeners.may_have_some();
         if by_stream && !self.streams.ready.is_empty() {
             self.stream_is_next = false;
             self.try_stream(into)
@@ -181,9 +183,7 @@ impl Sockets {
     }
 
     fn try_datagram(&mut self, into: &mut MessageOctets) -> Option<Came> {
-        let client = self
-            .listeners
-            .receive(&mut self.buffer, into, &mut self.faults)?;
+        let client = self.listeners.receive(into, &mut self.faults)?;
         let carrier = Carrier::Datagram;
         Some(Came::Query { client, carrier })
     }
@@ -226,7 +226,8 @@ impl Sockets {
         }
     }
 
-    /// Sends a client its reply, from the address at which it asked or over its connection. The number of a client that asked by a
+    /// Sends a client its reply, from the address at which it asked or over its connection; by a datagram once `receive` has given all that
+    /// was received together with its query, or an answer is next, or it looks at all sockets. The number of a client that asked by a
     /// datagram names nobody from then on. A reply to a number that names nobody, or that can't be sent, is dropped, and counted as a fault.
     pub fn reply(&mut self, client: u64, octets: &[u8])
         requires { length octets.now ≤ MAX_MESSAGE }

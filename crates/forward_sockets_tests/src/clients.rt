@@ -54,6 +54,26 @@ fn a_number_names_its_client_until_the_reply(rt: HostRuntime) -> Result<(), Fail
     Ok(())
 }
 
+// A reply waits until what was received together with its query has been given, whether that has a reply or not.
+#[test]
+fn replies_go_out_together(rt: HostRuntime) -> Result<(), Fail> {
+    let address = v4(free_port(&rt)?);
+    let mut sockets = open(&rt, rt.alloc(), &[address], v4(9))?;
+    let client = end(&rt, address)?;
+    assert!(rt; sends(&client, address, &query(1)) && sends(&client, address, &query(2)));
+    let Some(number) = next_client(&mut sockets, &rt, &query(1)) else {
+        return Err(Fail::from("no query"));
+    };
+    sockets.reply(number, b"first");
+    client.set_nonblocking(true)?;
+    assert!(rt; client.recv(&mut [0; 16]).is_err());
+    client.set_nonblocking(false)?;
+    assert!(rt; next_client(&mut sockets, &rt, &query(2)).is_some());
+    assert!(rt; is_silent(&mut sockets, &rt, &mut no_event()));
+    assert!(rt; gets(&client, address, b"first"));
+    Ok(())
+}
+
 // Each client has the reply to its own query, whatever the order.
 #[test]
 fn many_clients_wait_at_once(rt: HostRuntime) -> Result<(), Fail> {
