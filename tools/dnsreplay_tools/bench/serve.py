@@ -4,13 +4,18 @@ It needs Debian's package dnsperf. Zone and questions are those of `bench calls`
 it is asked what no cache may answer, and its answers to that bring the zone's records, as many as fit into 4,096
 octets. A worker of `serve` ends after 5,000 datagrams, so 32 workers share the cache: one to three are filled through,
 and of the others each is measured once, alone or with three more. `forward` has one worker, which takes turns with each
-that is alone: both are asked the same 490 questions, and then the next ones, so that a busy machine hits both alike.
+that is alone: both are asked the same questions, now one first and now the other.
+
+For these turns both programs, dnsperf and this script share one processor, and the latter two never interrupt a program
+(SCHED_BATCH): to wake a client up on another processor can cost more than the query, and how often one sleeps or
+interrupts is up to the client.
+
 Processor time is the whole program's, user and system, by the kernel's clock of the process. A figure is the least of
 several, from so many runs in one round or more, each with programs of its own. The last two set `forward` beside one
 worker of `serve`, and are the medians of all turns, the first with its quartiles. From the cache 1.2 times as much and
 0.5 µs more are the bounds. A question that `forward` asks upstream may cost 40 µs.
 """
-import contextlib, re, statistics, struct, subprocess, tempfile, time
+import contextlib, os, re, statistics, struct, subprocess, tempfile, time
 from pathlib import Path
 from .. import run as runs, wire
 from ..run import LOOPBACK
@@ -23,7 +28,6 @@ TOGETHER = 4  # workers that are measured at once
 WINDOW = 16  # messages of the filling on the way at once, so that they fit into a socket's buffer
 OUTSTANDING = 50  # queries of a dnsperf, for the same reason
 LOOKS, QUERIES = 20, 4_900  # of a measured worker: those by which it is looked at before, and those that are measured
-TURN = 490  # of these
 TYPES = {1: "A", 15: "MX", 16: "TXT", 28: "AAAA", 29: "LOC", 33: "SRV", 52: "TLSA", 65: "HTTPS", 257: "CAA"}
 RCODES = {0: "NOERROR", 3: "NXDOMAIN"}
 FIRST_TYPE = 200  # of a window's questions, which differ, since equal ones join; no cache answers these types
@@ -150,19 +154,15 @@ def cells_of(args, zone, kind):
     """The figures of one worker of `serve`, of some together and of `forward`, and what the last costs by the first."""
     filling = list(zone.filling(18 if zone.chain.hashed else 24))  # what fits into a datagram
     every = [run for _ in range(args.rounds) for run in one_round(args, zone, kind, filling)]
-    turns = [turn for some, _ in every for turn in some]
-    by_one, by_forward = zip(*turns)
-    return [*map(best, (by_one, [together for _, together in every], by_forward)), *beside(turns)]
-
-def best(figures):
-    """The least cost, and the greatest rate."""
-    costs, rates = zip(*figures)
-    return f"{min(costs):.2f} | {max(rates):,.0f}"
+    turns, together = zip(*every)
+    costs, rates = zip(*together)
+    leasts = [f"{min(figures):.2f}" for figures in (*zip(*turns), costs)]
+    return [*leasts, f"{max(rates):,.0f}", *beside(turns)]
 
 def beside(turns):
     """How many times as much `forward` costs as `serve`, and how much more."""
-    low, middle, high = statistics.quantiles((forward / serve for (serve, _), (forward, _) in turns), n=4)
-    more = statistics.median(forward - serve for (serve, _), (forward, _) in turns)
+    low, middle, high = statistics.quantiles((forward / serve for serve, forward in turns), n=4)
+    more = statistics.median(forward - serve for serve, forward in turns)
     return f"{middle:.2f} ({low:.2f} to {high:.2f})", f"{more:+.2f}"
 
 def one_round(args, zone, kind, filling):
@@ -174,18 +174,34 @@ def one_round(args, zone, kind, filling):
         free = WORKERS - server.fill(filling)
         is_enough = args.runs * (1 + TOGETHER) <= free
         check(is_enough, f"{free} workers are free after the filling, too few for {args.runs} runs")
-        return [one_run(server, forwarder, zone, kind, (1 + TOGETHER) * each) for each in range(args.runs)]
+        return [one_run(server, forwarder, zone, kind, each) for each in range(args.runs)]
 
-def one_run(server, forwarder, zone, kind, first):
-    """The figures of the turns of a worker and of `forward`, and those of the following workers together."""
-    workers, count = range(first, first + 1 + TOGETHER), LOOKS + min(QUERIES, kind.most)
+def one_run(server, forwarder, zone, kind, number):
+    """What a query costs by a worker and by `forward`, in turn, and the figures of the following workers together."""
+    first, count = (1 + TOGETHER) * number, LOOKS + min(QUERIES, kind.most)
+    workers = range(first, first + 1 + TOGETHER)
     some = [[kind.call(zone, at * DATAGRAMS + each) for each in range(count)] for at in workers]
     for worker, calls in zip(workers, some): server.look(worker, calls[:LOOKS])
     forwarder.look(0, some[0][:LOOKS])
     alone, *others = [calls[LOOKS:] for calls in some]
-    parts = [alone[at : at + TURN] for at in range(0, len(alone), TURN)]
-    turns = [(server.measure([first], [part]), forwarder.measure([0], [part])) for part in parts]
-    return turns, server.measure(workers[1:], others)
+    pair = [(server, first), (forwarder, 0)]
+    with one_processor(server, forwarder):
+        costs = {who: who.measure([worker], [alone])[0] for who, worker in (pair[::-1] if number % 2 else pair)}
+    return (costs[server], costs[forwarder]), server.measure(workers[1:], others)
+
+@contextlib.contextmanager
+def one_processor(*servers):
+    """Meanwhile these, this script and what it starts share one processor, and the latter two interrupt nobody."""
+    every = os.sched_getaffinity(0)
+    confine(servers, {max(every)}, os.SCHED_BATCH)
+    try: yield
+    finally: confine(servers, every, os.SCHED_OTHER)
+
+def confine(servers, processors, policy):
+    os.sched_setscheduler(0, policy, os.sched_param(0))
+    os.sched_setaffinity(0, processors)
+    for server in servers:
+        for task in os.listdir(f"/proc/{server.process.pid}/task"): os.sched_setaffinity(int(task), processors)
 
 def line(*cells):
     print("| " + " | ".join(cells) + " |", flush=True)
@@ -198,10 +214,10 @@ def words(parser):
 
 def run(args):
     runs.need("dnsperf", "dnsperf")
-    ways = "`serve`, 1 worker", f"`serve`, {TOGETHER} workers", "`forward`"
-    heads = [head for way in ways for head in (f"{way}: µs a query", "queries a second")]
-    line("held", "query", *heads, "times as much", "µs more")
-    line("---:", "---", *["---:"] * 8)
+    ways = "`serve`, 1 worker", "`forward`", f"`serve`, {TOGETHER} workers"
+    heads = [f"{way}: µs a query" for way in ways]
+    line("held", "query", *heads, "queries a second", "times as much", "µs more")
+    line("---:", "---", *["---:"] * 6)
     for chain in map(CHAINS.get, args.chains):
         for size in args.sizes:
             zone = Zone(chain, size)
