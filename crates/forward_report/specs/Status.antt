@@ -220,7 +220,7 @@ held_text cache =
 abbrev pub cache_text : CacheReport → List ℕ
 cache_text cache =
     held_text cache
-    ++ single (codes "dnsreplay_cache_version") (codes "Answers placed in the cache.") Counts cache.version
+    ++ single (codes "dnsreplay_batches_total") (codes "Batches that made the cache.") Counts cache.version
 
 unfoldable pub status_text_of : List WorkerReport → CacheReport → List ℕ
 status_text_of workers cache =

@@ -161,8 +161,8 @@ fn put_cache(text: &mut String, cache: CacheReport) -> Result<(), AllocError>
     put_held(text, cache)?;
     put_single(
         text,
-        "dnsreplay_cache_version",
-        "Answers placed in the cache.",
+        "dnsreplay_batches_total",
+        "Batches that made the cache.",
         Kind::Counts,
         cache.version,
     )?;

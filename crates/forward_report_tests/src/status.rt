@@ -136,9 +136,9 @@ dnsreplay_held_zones 4021\n\
 # HELP dnsreplay_held_chains NSEC and NSEC3 chains of which the cache holds a record.\n\
 # TYPE dnsreplay_held_chains gauge\n\
 dnsreplay_held_chains 5310\n\
-# HELP dnsreplay_cache_version Answers placed in the cache.\n\
-# TYPE dnsreplay_cache_version counter\n\
-dnsreplay_cache_version 18446744073709551615\n";
+# HELP dnsreplay_batches_total Batches that made the cache.\n\
+# TYPE dnsreplay_batches_total counter\n\
+dnsreplay_batches_total 18446744073709551615\n";
 
 // What has neither labels nor workers.
 const END: &str = "\
@@ -151,9 +151,9 @@ dnsreplay_held_zones 4021\n\
 # HELP dnsreplay_held_chains NSEC and NSEC3 chains of which the cache holds a record.\n\
 # TYPE dnsreplay_held_chains gauge\n\
 dnsreplay_held_chains 5310\n\
-# HELP dnsreplay_cache_version Answers placed in the cache.\n\
-# TYPE dnsreplay_cache_version counter\n\
-dnsreplay_cache_version 18446744073709551615\n";
+# HELP dnsreplay_batches_total Batches that made the cache.\n\
+# TYPE dnsreplay_batches_total counter\n\
+dnsreplay_batches_total 18446744073709551615\n";
 
 fn worker(first: u64) -> WorkerReport {
     let mut counts = Counts::new();

@@ -7,5 +7,5 @@ use Rattle.forward_report.proofs.status.put_cache.Goals as goal
 pub returns : goal.returns
 returns c =
     two_put (held_text c.args.cache)
-    (single (codes "dnsreplay_cache_version") (codes "Answers placed in the cache.") Counts c.args.cache.version)
+    (single (codes "dnsreplay_batches_total") (codes "Batches that made the cache.") Counts c.args.cache.version)
     _ _ _ c.in_ok-put_held.ensures c.in_ok-put_single.ensures
