@@ -1,11 +1,11 @@
 """Makes, measures, attacks and compares what dnsreplay reads and writes; `COMMAND --help` tells more."""
 import argparse, os, signal, sys
-from . import audit_explain, audit_input, bench, differential, fits, frames, hostile, library
-from . import try_forward, try_kresd, try_library, try_serve, try_tcp, twice
+from . import audit_explain, audit_input, bench, demo, differential, fits, frames, hostile, library
+from . import packages, try_forward, try_kresd, try_library, try_packages, try_serve, try_tcp, twice
 from .wire import Fault, Unreadable
 
-TRIES = (try_forward, try_kresd, try_library, try_serve, try_tcp)
-MODULES = (bench, hostile, library, *TRIES, frames, fits, differential, twice)
+TRIES = (try_forward, try_kresd, try_library, try_packages, try_serve, try_tcp)
+MODULES = (demo, bench, hostile, library, packages, *TRIES, frames, fits, differential, twice)
 COMMANDS = {each.__name__.rpartition(".")[2]: each for each in MODULES}
 COMMANDS |= {"audit-input": audit_input, "audit-explain": audit_explain}
 
@@ -35,6 +35,8 @@ def main():
     except BrokenPipeError:  # as `| head` makes it
         os.dup2(os.open(os.devnull, os.O_WRONLY), 1)
         status = 141
+    except KeyboardInterrupt:
+        status = 130
     except (Fault, OSError) as why:
         sys.stdout.flush()
         print(f"{args.command}: {why}", file=sys.stderr)

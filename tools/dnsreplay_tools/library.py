@@ -16,6 +16,7 @@ Debian's gcc and binutils.
 import re, shutil, subprocess, tempfile
 from pathlib import Path
 from . import run as runs
+from .roff import filled
 from .wire import Fault, check
 
 CRATE = runs.ROOT / "crates" / "dnsreplay_c"
@@ -27,13 +28,16 @@ TAKEN = {"malloc", "realloc", "free", "memcpy", "memmove", "memset"}
 MOST_OCTETS = 600_000
 
 PKG_CONFIG = """\
-prefix=${{pcfiledir}}/../..
+prefix={prefix}
+libdir={libdir}
 Name: dnsreplay
 Description: The aggressive cache of a validating DNS resolver (RFC 8198), proved
 Version: {version}
 Cflags: -I${{prefix}}/include
-Libs: -L${{prefix}}/lib -ldnsreplay
+Libs: -L${{libdir}} -ldnsreplay
 """
+
+def pkg_config(version, prefix, libdir): return PKG_CONFIG.format(version=version, prefix=prefix, libdir=libdir)
 
 def words(parser):
     parser.add_argument("folder", metavar="FOLDER", type=Path, help="where it is put")
@@ -46,7 +50,7 @@ def done(*command, **how):
 
 def kit_archive():
     """What calls malloc, realloc and free for proved code: of the kit, beside the page that `rt doc` names."""
-    runs.need("(the kit)", "rt")
+    runs.need_kit()
     return Path(done("rt", "doc", cwd=CRATE).strip()).parent / "c" / "liblibc_c.a"
 
 def built_archive():
@@ -97,8 +101,7 @@ def roff(text):
     """Lines of a page: names of the calls in bold, what stands between backquotes in italics."""
     escaped = text.replace("\\", "\\e").replace("-", "\\-")
     escaped = re.sub(r"`([^`]+)`", r"\\fI\1\\fP", escaped)
-    escaped = re.sub(r"\b(dnsreplay_(?!counts)[a-z]+)(\(\))?(?!\()", r"\\fB\1\\fP()", escaped)
-    return "\n".join("\\&" + line if line[:1] in (".", "'") else line for line in escaped.splitlines())
+    return filled(re.sub(r"\b(dnsreplay_(?!counts)[a-z]+)(\(\))?(?!\()", r"\\fB\1\\fP()", escaped))
 
 def verbatim(text): return "\n".join((".PP", ".EX", text.replace("\\", "\\e").replace("-", "\\-"), ".EE"))
 
@@ -110,13 +113,13 @@ def codes(text):
     for said, code, number in re.findall(r"\t/\* ([^/]*) \*/\n\t(DNSREPLAY_\w+) = (-?\d+)", text):
         yield from (".TP", f".BR {code} \" ({roff(number)})\"", roff(said))
 
-def man_page(text):
+def man_page(text, date):
     """Sections by the words in capitals of the header's first comment; then calls and codes, each with its comment."""
     (first, _), *rest = comments(text)
     summary, *parts = first.split("\n\n")
     calls = [each for each in rest if re.match(r"[\w ]+\*?dnsreplay_\w+\(", each[1])]
     structs = re.findall(r"typedef struct.*?\n} \w+;", text.replace("\t", "    "), re.S)
-    page = [f'.TH dnsreplay 3 "" "dnsreplay {version_of(text)}" "Library Functions Manual"', ".SH NAME"]
+    page = [f'.TH DNSREPLAY 3 {date} "dnsreplay {version_of(text)}" "Library Functions Manual"', ".SH NAME"]
     page += [roff("dnsreplay - " + summary.partition(": ")[2].rstrip("."))]
     page += [".SH LIBRARY", roff("The library libdnsreplay, -ldnsreplay"), ".SH SYNOPSIS", *synopsis(calls, structs), ".SH DESCRIPTION"]
     example = []
@@ -129,7 +132,8 @@ def man_page(text):
     for said, after in calls: page += [".TP", f".BR {re.search(r'dnsreplay_[a-z]+', after)[0]} ()", roff(said)]
     said = next(said for said, after in rest if after.startswith("enum"))
     page += ['.SH "RETURN VALUE"', roff(said), *codes(text), ".SH EXAMPLES", verbatim("\n\n".join(example))]
-    return "\n".join([*page, ".SH SEE ALSO", '.BR pkg\\-config " (1), RFC 8198"']) + "\n"
+    page += [".SH SEE ALSO", '.BR pkg\\-config " (1), RFC 8198"', ""]
+    return re.sub(r"(\n\.SH [^\n]*)\n\.PP\b", r"\1", "\n".join(page))
 
 def version_of(text):
     found = re.search(r"#define DNSREPLAY_VERSION (\d+)", text)
@@ -152,8 +156,8 @@ def install(archive, folder):
         size = whole.stat().st_size
     shutil.copy(HEADER, include)
     shutil.copy(MODULE, modules)
-    (configs / "dnsreplay.pc").write_text(PKG_CONFIG.format(version=version))
-    (pages / "dnsreplay.3").write_text(man_page(text))
+    (configs / "dnsreplay.pc").write_text(pkg_config(version, "${pcfiledir}/../..", "${prefix}/lib"))
+    (pages / "dnsreplay.3").write_text(man_page(text, runs.date(runs.moment())))
     for call in CALLS: (pages / f"{call}.3").write_text(".so man3/dnsreplay.3\n")
     return size
 

@@ -39,6 +39,19 @@ def need(packages, *programs):
     missing = [each for each in programs if not shutil.which(each)]
     if missing: raise Fault(f"{', '.join(missing)} is missing: apt-get install {packages}")
 
+def need_kit():
+    if not shutil.which("rt"): raise Fault("rt is missing: put Rattle's kit on the path")
+
+def moment():
+    """The moment of what is made of these sources: SOURCE_DATE_EPOCH, or that of the commit, or now."""
+    if "SOURCE_DATE_EPOCH" in os.environ: return int(os.environ["SOURCE_DATE_EPOCH"])
+    asked = ["git", "-C", ROOT, "log", "-1", "--format=%ct"]
+    with contextlib.suppress(OSError, ValueError):
+        return int(subprocess.run(asked, capture_output=True, check=False).stdout)
+    return int(time.time())
+
+def date(seconds): return time.strftime("%Y-%m-%d", time.gmtime(seconds))
+
 @contextlib.contextmanager
 def given(octets):
     with tempfile.TemporaryFile() as file:

@@ -4,7 +4,7 @@ import contextlib, io, struct, unittest
 from dnsreplay_tools import wire
 from dnsreplay_tools.asking import Reply
 from dnsreplay_tools.try_forward import (
-    clients, faults, memory, sockets, spoofed, status, stream_clients, stream_upstreams, tally, upstreams,
+    clients, faults, memory, sockets, spoofed, spread, status, stream_clients, stream_upstreams, tally, upstreams,
 )  # fmt: skip
 
 try:
@@ -133,6 +133,14 @@ class Datagrams(unittest.TestCase):
         """The flags QR, RD, RA, AD and the RCODE, and the counts of records (RFC 1035, section 4.1.1)."""
         heads = [memory.answer(wire.query(wire.name(each, b"stored"), wire.A))[2:12] for each in (b"n1", b"c1")]
         self.assertEqual([each.hex() for each in heads], ["81a0" "0001000200000000", "81a3" "0001000000060000"])
+
+class Spreads(unittest.TestCase):
+    def test_the_configuration_is_that_of_the_docs(self):
+        """With its addresses in the place of those there, and a policy of dnsdist's own behind that by domain."""
+        by_domain, chashed = (spread.configuration(53, [1, 2], policy) for policy in (spread.BY_DOMAIN, spread.CHASHED))
+        self.assertIn("{'127.0.0.1:1', '127.0.0.1:2'}", by_domain)
+        self.assertNotIn("192.0.2.", by_domain)
+        self.assertEqual([text.rstrip().endswith("setServerPolicy(chashed)") for text in (by_domain, chashed)], [False, True])
 
 class Tallies(unittest.TestCase):
     def test_growth(self):

@@ -22,18 +22,21 @@ status 1 where one failed. The checks by their groups:
     odd_clients clients by TCP that are slow, don't read, are too many or break off: UDP is answered meanwhile
     turned_away connections closed for too many questions, or as too many, and replies to none: counted, and told
     dnsperf_tcp figures by TCP, with fewer connections than there is room for, and with more
+    dnsdist     dnsdist before one, two and four: what share their caches answer, and what is lost where one dies
+    board       the board and the rules of alerts in docs/, before a Prometheus that read a status file
     memory      resident memory over many names, only where it is asked for: it takes long
 
 `getent` and the clients from port 0 take root. It needs Debian's packages: apt-get install knot unbound bind9
-bind9-utils bind9-dnsutils knot-resolver pdns-recursor dnsperf iproute2 python3-dnspython.
+bind9-utils bind9-dnsutils knot-resolver pdns-recursor dnsperf iproute2 python3-dnspython; `board` takes prometheus
+and prometheus-node-exporter besides, and `dnsdist` dnsdist.
 """
 import os, shutil, tempfile
 from pathlib import Path
 from .. import run as runs
 from ..asking import need_dnspython
 from . import (
-    behind, by_tcp, cut_answers, digs, faults, files, getent, large, load, load_tcp, memory, narrow, odd_clients,
-    private, silence, spoofed, told, turned_away,
+    behind, boards, by_tcp, cut_answers, digs, faults, files, getent, large, load, load_tcp, memory, narrow, odd_clients,
+    private, silence, spoofed, spread, told, turned_away,
 )  # fmt: skip
 from .lab import Lab
 from .tally import Tally
@@ -46,7 +49,7 @@ CHECKS = {
     "told": told.run, "spoofed": spoofed.run, "silence": silence.run, "private": private.run, "dnsperf": load.run,
     "faults": faults.run, "files": files.run, "tcp": by_tcp.run, "large": large.run, "narrow": narrow.run,
     "cut_answers": cut_answers.run, "odd_clients": odd_clients.run, "turned_away": turned_away.run,
-    "dnsperf_tcp": load_tcp.run, "memory": memory.run,
+    "dnsperf_tcp": load_tcp.run, "dnsdist": spread.run, "board": boards.run, "memory": memory.run,
 }  # fmt: skip
 USUAL = [each for each in CHECKS if each != "memory"]
 

@@ -39,9 +39,9 @@ zone:
 
 class Forward:
     """The program as a forwarder on both loopback addresses, and what it tells."""
-    def __init__(self, servers, upstream, workers=1, passes=(), port=None, name="forward", host=V4):
+    def __init__(self, servers, upstream, workers=1, passes=(), port=None, name="forward", host=V4, status="status"):
         self.servers, self.name, self.port, self.workers = servers, name, port or servers.lab.port(), workers
-        self.status = servers.folder / name / "status"
+        self.status = servers.folder / name / status
         self.status.parent.mkdir(exist_ok=True)
         options = [("--listen", f"{host}:{self.port}") for host in (V4, f"[{V6}]")]
         options += [("--upstream", f"{host}:{upstream}"), ("--workers", workers), ("--status", self.status)]
@@ -149,11 +149,10 @@ class Servers(contextlib.ExitStack):
 
     def done(self, *command): return done(*self.within, *map(str, command))
 
-    def knot(self, port):
+    def knot(self, port, zones=(".", *ORIGINS, RSA, PRIVATE)):
         """The authoritative server of all zones, at a port."""
         folder = self.folder / "knot"
         folder.mkdir()
-        zones = (".", *ORIGINS, RSA, PRIVATE)
         text = "".join(f'  - domain: "{zone}"\n    file: "{self.lab.folder}/{zone}zone"\n' for zone in zones)
         (folder / "knot.conf").write_text(KNOT.format(folder=folder, port=port) + text)
         return self.start("knot", "knotd", "-c", folder / "knot.conf")

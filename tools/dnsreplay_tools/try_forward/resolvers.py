@@ -71,14 +71,14 @@ def place(servers, name):
     folder.mkdir()
     return folder
 
-def unbound(servers, name="unbound", more="", further=(), zones=None):
-    """It asks the authoritative server, or what `zones` say."""
+def unbound(servers, name="unbound", more="", further=(), zones=None, is_up=None):
+    """It asks the authoritative server, or what `zones` say; it is up where it validates the root's, or by `is_up`."""
     lab, folder, port = servers.lab, place(servers, name), servers.lab.port()
     stubs = "".join(STUB.format(zone=each, authority=lab.authority) for each in (*ZONES, *further))
     text = UNBOUND.format(port=port, folder=folder, anchor=lab.anchor, more=more, zones=zones or stubs)
     (folder / "conf").write_text(text)
     process = servers.start(name, "unbound", "-d", "-c", folder / "conf")
-    return up(servers, name, process, port)
+    return up(servers, name, process, port, is_up)
 
 def askings(servers):
     """How many queries an unbound that logs them has had."""
@@ -111,8 +111,8 @@ def recursor(servers):
     (folder / "recursor.conf").write_text(RECURSOR.format(folder=folder, port=port, zones=zones))
     return up(servers, "recursor", servers.start("recursor", "pdns_recursor", f"--config-dir={folder}"), port)
 
-def up(servers, name, process, port):
-    servers.up(name, process, lambda: servers.validates(port))
+def up(servers, name, process, port, is_up=None):
+    servers.up(name, process, lambda: (is_up or servers.validates)(port))
     return port
 
 RESOLVERS = {"unbound": unbound, "Knot Resolver": kresd, "BIND": named, "PowerDNS Recursor": recursor}
