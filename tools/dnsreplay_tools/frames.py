@@ -4,8 +4,10 @@ docs/FRAMES.md has the format. `query` and messages as text need Debian's python
 """
 import collections, struct, sys
 from pathlib import Path
+from .captures.files import Capture
+from .captures.messages import messages
 from .run import number
-from .wire import ERROR, INPUT_KINDS, OUTPUT_KINDS, QUERY, REFUSED, REPLY, STORED, UPSTREAM, Fault, check, frame
+from .wire import ERROR, INPUT_KINDS, OUTPUT_KINDS, QUERY, REFUSED, REPLY, STORED, UPSTREAM, Fault, frame
 from .wire import frames as frames_of
 
 try:
@@ -15,18 +17,11 @@ except ImportError:
 
 REFUSALS = {1: "malformed", 2: "not a response", 3: "truncated", 4: "not authentic", 5: "nothing to store", 7: "RCODE"}
 
-LINK_OCTETS = {0: 4, 1: 14, 101: 0, 113: 16}  # before the IP packet: loopback, Ethernet, raw IP, Linux's cooked
-WITH_TYPE = (1, 113)  # of which the last two are the packet's type
-VLAN_TAGS = (b"\x81\x00", b"\x88\xa8", b"\x91\x00")
-IP_TYPES = (b"\x08\x00", b"\x86\xdd")
-PASSED_EXTENSIONS = (0, 43, 60)  # of IPv6: hop-by-hop options, routing, destination options
-UDP, TCP, DNS_PORT = 17, 6, 53
+DNS_PORT = 53
 
 COLUMNS = (24, 32, 40, 48)  # where dig begins the TTL, the class, the type and the data of a record
 FLAGS = ("QR", "AA", "TC", "RD", "RA", "AD", "CD")
 SECTIONS = ("QUESTION", "ANSWER", "AUTHORITY", "ADDITIONAL")
-
-class Passed(Exception): """Why a packet is passed over, in words."""
 
 def tell(text):
     sys.stdout.flush()
@@ -55,67 +50,13 @@ def hex_lines(args):
             raise Fault(f"line {at}: not pairs of hex digits") from why
         sys.stdout.buffer.write(frame(kind, args.at, message, args.worker) if message else b"")
 
-def captured(octets):
-    """The link type of a pcap file, and then the second and the octets of each packet."""
-    magics = {struct.pack(order + "I", magic): order for order in "<>" for magic in (0xA1B2C3D4, 0xA1B23C4D)}
-    order = magics.get(octets[:4])
-    check(order, "not a classic pcap file")
-    check(len(octets) >= 24, f"the file's header ends early, at offset {len(octets)}")
-    yield struct.unpack_from(order + "H", octets, 20 if order == "<" else 22)[0]
-    at = 24
-    while at < len(octets):
-        start = at + 16
-        size = struct.unpack_from(order + "I", octets, at + 8)[0] if start <= len(octets) else 0
-        check(start + size <= len(octets), f"the packet at offset {at} ends early, at {len(octets)}")
-        yield struct.unpack_from(order + "I", octets, at)[0], octets[start : start + size]
-        at = start + size
-
-def ip_packet(link, octets):
-    at = LINK_OCTETS[link]
-    while link in WITH_TYPE and octets[at - 2 : at] in VLAN_TAGS: at += 4
-    if link in WITH_TYPE and octets[at - 2 : at] not in IP_TYPES: raise Passed("not IP")
-    return octets[at:]
-
-def udp_packet(packet):
-    """The UDP packet in an IP packet."""
-    version = packet[0] >> 4 if packet else 0
-    if version == 4 and len(packet) >= 20:
-        end, fragment = struct.unpack_from(">HxxH", packet, 2)
-        start, protocol = (packet[0] & 15) * 4, packet[9]
-        if fragment & 0x3FFF:  # more fragments, or an offset
-            raise Passed("a fragment")
-    elif version == 6 and len(packet) >= 40:
-        end = 40 + struct.unpack_from(">H", packet, 4)[0]
-        protocol, start = packet[6], 40
-        while protocol in PASSED_EXTENSIONS and start + 8 <= len(packet):
-            protocol, start = packet[start], start + 8 + 8 * packet[start + 1]
-    else: raise Passed("not IP")
-    if protocol != UDP:
-        raise Passed("TCP, whose streams aren't read" if protocol == TCP else "another protocol than UDP")
-    return packet[start:end]
-
-def dns_message(packet, port):
-    """The DNS message in a UDP packet from or to the port."""
-    source, target, size = struct.unpack_from(">HHH", packet) if len(packet) >= 8 else (0, 0, 0)
-    if size > len(packet) or len(packet) < 8: raise Passed("not wholly captured")
-    if port not in (source, target): raise Passed(f"another port than {port}")
-    if size < 8 + 12: raise Passed("shorter than a DNS header")
-    return packet[8:size]
-
 def pcap(args):
-    packets = captured(args.file.read_bytes())
-    link = next(packets)
-    check(link in LINK_OCTETS, f"link type {link} isn't read")
-    passed = collections.Counter()
-    for second, octets in packets:
-        try:
-            message = dns_message(udp_packet(ip_packet(link, octets)), args.port)
-        except Passed as why:
-            passed[str(why)] += 1
-        else:
-            kind = UPSTREAM if message[2] & 0x80 else QUERY
-            sys.stdout.buffer.write(frame(kind, second, message, args.worker))
+    passed, capture = collections.Counter(), Capture(args.file)
+    for message in messages(capture.packets(), passed, {args.port}):
+        kind = UPSTREAM if message.octets[2] & 0x80 else QUERY
+        sys.stdout.buffer.write(frame(kind, int(message.time), message.octets, args.worker))
     for why, count in sorted(passed.items()): tell(f"packets passed over: {count} ({why})")
+    if capture.broken: tell(capture.broken)
 
 def show(args):
     octets = sys.stdin.buffer.read()
@@ -212,7 +153,7 @@ def words(parser):
     asked.add_argument("--id", type=number(0, 0xFFFF), default=0, metavar="N", help="(default: 0)")
     lines = command(hex_lines, "hex", "reads messages in hex, one a line, and writes their frames", has_moment=True)
     lines.add_argument("kind", choices=("query", "upstream"))
-    file = command(pcap, "pcap", "writes the frames of a pcap file's DNS messages over UDP")
+    file = command(pcap, "pcap", "writes the frames of a capture's DNS messages")
     file.add_argument("file", metavar="FILE", type=Path)
     file.add_argument("--port", type=number(0, 0xFFFF), default=DNS_PORT, metavar="N", help="(default: 53)")
     sides = command(show, "show", "reads frames, and prints them as text").add_mutually_exclusive_group()

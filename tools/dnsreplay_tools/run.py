@@ -16,6 +16,13 @@ def program(word):
     if os.path.isfile(word) and os.access(word, os.X_OK): return os.path.abspath(word)
     raise argparse.ArgumentTypeError(f"{word} is no program")
 
+def built():
+    """What `rt run` leaves, where nothing else is named."""
+    try:
+        return program(str(BUILT))
+    except argparse.ArgumentTypeError as why:
+        raise Fault(str(why)) from why
+
 def takes_program(parser):
     text = "a built dnsreplay (default: crates/dnsreplay/out/dnsreplay, which `rt run` leaves)"
     parser.add_argument("program", metavar="PROGRAM", nargs="?", default=str(BUILT), type=program, help=text)

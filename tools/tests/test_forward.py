@@ -1,10 +1,10 @@
 """What try_forward makes of a status, of samples and of replies, and the datagrams that it sends."""
 import contextlib, io, struct, unittest
 
-from dnsreplay_tools import wire
+from dnsreplay_tools import tally, wire
 from dnsreplay_tools.asking import Reply
 from dnsreplay_tools.try_forward import (
-    clients, faults, memory, sockets, spoofed, spread, status, stream_clients, stream_upstreams, tally, upstreams,
+    clients, faults, memory, sockets, spoofed, spread, status, stream_clients, stream_upstreams, upstreams,
 )  # fmt: skip
 
 try:

@@ -39,7 +39,7 @@ from . import (
     private, silence, spoofed, spread, told, turned_away,
 )  # fmt: skip
 from .lab import Lab
-from .tally import Tally
+from ..tally import Tally
 
 PACKAGES = "knot unbound bind9 bind9-utils bind9-dnsutils knot-resolver pdns-recursor dnsperf iproute2"
 PROGRAMS = "knotd", "unbound", "named", "dig", "dnssec-signzone", "kresd", "pdns_recursor", "dnsperf"

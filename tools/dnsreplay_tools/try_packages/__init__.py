@@ -19,7 +19,7 @@ from pathlib import Path
 from .. import apart, run as runs
 from ..library import done
 from ..roff import examples
-from ..try_forward.tally import Tally
+from ..tally import Tally
 from ..wire import Fault, check
 from .machine import Machine
 
